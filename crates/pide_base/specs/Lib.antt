@@ -1,0 +1,5 @@
+pub mod Exit
+pub mod Faults
+pub mod Identifier
+pub mod Ids
+pub mod Moves
