@@ -1,0 +1,19 @@
+//! Sources, sinks and gates: exact ones over memory, and thin ones over the real streams.
+//!
+//! All of it is this project's own. It must not know what the bytes mean.
+#![tactic(auto)]
+
+mod mem_sink;
+mod mem_source;
+mod no_gate;
+mod std_sink;
+mod std_source;
+
+pub use mem_sink::MemSink;
+pub use mem_source::MemSource;
+pub use no_gate::NoGate;
+pub use std_sink::StdSink;
+pub use std_source::StdSource;
+
+#[cfg(test)]
+mod tests;
