@@ -1,0 +1,12 @@
+-- Both sides compute.
+use Rattle.std.proofs.Common.{refl}
+use Rattle.std.specs.Fmt.{digits}
+use Rattle.session_core.proofs.tests.the_history_calls_for_eight_replies.Goals as goal
+
+pub returns-clause-replies : goal.returns-clause-replies
+unfolding digits
+returns-clause-replies c = refl
+
+pub returns-clause-ended : goal.returns-clause-ended
+unfolding digits
+returns-clause-ended c = refl

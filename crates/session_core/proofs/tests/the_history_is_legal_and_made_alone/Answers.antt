@@ -1,0 +1,12 @@
+-- Each entry's conditions compute.
+use Rattle.std.proofs.Common.{refl}
+use Rattle.std.specs.Fmt.{digits}
+use Rattle.session_core.proofs.Worked.{legal-ended}
+use Rattle.session_core.proofs.tests.the_history_is_legal_and_made_alone.Goals as goal
+
+pub returns-clause-legal : goal.returns-clause-legal
+returns-clause-legal c = legal-ended
+
+pub returns-clause-alone : goal.returns-clause-alone
+unfolding digits
+returns-clause-alone c = (refl, refl, refl, refl, (refl, refl, refl, refl, (refl, refl, refl, refl, (refl, refl, refl, refl, (refl, refl, refl, refl, tt)))))

@@ -1,0 +1,8 @@
+-- Both sides compute.
+use Rattle.std.proofs.Common.{refl}
+use Rattle.std.specs.Fmt.{digits}
+use Rattle.session_core.proofs.tests.the_three_messages_are_spelled_as_sent.Goals as goal
+
+pub returns : goal.returns
+unfolding digits
+returns c = refl

@@ -1,0 +1,55 @@
+-- The commands of a text with what checking it from nothing reports.
+use Rattle.std.specs.Prelude.{ℕ, ◌+◌, ◌*◌, List, [], ◌∷◌, ◌++◌, Option, None, Some, length, codes}
+use Rattle.session_core.specs.declared.first_text.FirstText.{FirstText}
+use Rattle.session_core.specs.FirstText.{theory_source, lemma_source, by_source, formula}
+use Rattle.session_core.specs.Report.{Report}
+
+-- a command: its source, what its evaluation reports, and what its fork reports if it forks; ranges count from its start
+pub record Command : Type 0 where
+  pub source : List ℕ
+  pub eval : List Report
+  pub fork : Option (List Report)
+
+-- the command's name over its first token
+abbrev pub keyword_report : List ℕ → Report
+keyword_report name =
+    record { start = 0; stop = length name; kind = codes "command"; properties = (codes "name", name) ∷ []; text = [] }
+
+abbrev pub theory_command : FirstText → Command
+theory_command t =
+    record {
+      source = theory_source t;
+      eval = keyword_report (codes "theory")
+          ∷ record { start = 7; stop = 7 + length t.node; kind = codes "theory"; properties = (codes "name", t.node) ∷ []; text = [] } ∷ [];
+      fork = None;
+    }
+
+-- the goal is the formula between the quotes
+abbrev pub lemma_command : FirstText → Command
+lemma_command t =
+    let quote = 8 + length t.lemma in
+    record {
+      source = lemma_source t;
+      eval = keyword_report (codes "lemma")
+          ∷ record { start = 6; stop = 6 + length t.lemma; kind = codes "def"; properties = (codes "theory", t.node) ∷ (codes "name", t.lemma) ∷ []; text = [] }
+          ∷ record { start = quote; stop = quote + length (formula t) + 2; kind = codes "formula"; properties = []; text = formula t } ∷ [];
+      fork = None;
+    }
+
+-- `impI h h` proves P --> P: the assumption P, discharged (Gentzen 1935); its check is forked
+abbrev pub by_command : FirstText → Command
+by_command t =
+    let cited = 10 + length t.hypothesis in
+    record {
+      source = by_source t;
+      eval = keyword_report (codes "by") ∷ [];
+      fork = Some (record { start = 0; stop = length (by_source t); kind = codes "proved"; properties = []; text = [] }
+          ∷ record { start = cited; stop = cited + length t.hypothesis; kind = codes "ref"; properties = (codes "name", t.hypothesis) ∷ []; text = [] } ∷ []);
+    }
+
+abbrev pub end_command : Command
+end_command = record { source = codes "end"; eval = keyword_report (codes "end") ∷ []; fork = None }
+
+-- the commands in order of place; one space stands between each two
+abbrev pub commands_of : FirstText → List Command
+commands_of t = theory_command t ∷ lemma_command t ∷ by_command t ∷ end_command ∷ []

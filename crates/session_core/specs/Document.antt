@@ -1,0 +1,80 @@
+-- The document after messages, and which messages are refused.
+use Rattle.std.specs.Prelude.{ℕ, ◌+◌, Bool, true, false, ◌==◌, not, bytes_eq, if◌then◌else◌, List, [], ◌∷◌, ◌++◌, Option, None, Some, length, find}
+use Rattle.session_core.specs.declared.entry.Entry.{Entry}
+use Rattle.session_core.specs.declared.entry.Entry.TheVariants as entry
+use Rattle.session_core.specs.declared.editor_message.EditorMessage.{EditorMessage}
+use Rattle.session_core.specs.declared.editor_message.EditorMessage.TheVariants as asks
+use Rattle.session_core.specs.declared.first_text.FirstText.{FirstText}
+use Rattle.session_core.specs.Commands.{Command, commands_of}
+use Rattle.session_core.specs.Reading.{asked}
+
+-- a command of a version: its id, the execution that evaluates it, where it starts in the text, and what it is
+pub record Assigned : Type 0 where
+  pub command : ℕ
+  pub execution : ℕ
+  pub start : ℕ
+  pub content : Command
+
+-- a version: its id, its node's name and its node's commands in order of place
+pub record Version : Type 0 where
+  pub id : ℕ
+  pub node : List ℕ
+  pub commands : List Assigned
+
+-- the commands from this id and this place on, each with the execution of the same number; one space parts them
+abbrev pub assigned_from : ℕ → ℕ → List Command → List Assigned
+assigned_from id start [] = []
+assigned_from id start (c ∷ cs) =
+    record { command = id; execution = id; start = start; content = c } ∷ assigned_from (id + 1) (start + length c.source + 1) cs
+
+-- the first version: every command is new and wanted, and ids begin at 1
+abbrev pub first_version : ℕ → FirstText → Version
+first_version id text = record { id = id; node = text.node; commands = assigned_from 1 0 (commands_of text) }
+
+abbrev pub version_among : List Version → ℕ → Option Version
+version_among versions id = find (λ v. v.id == id) versions
+
+-- the commands of all versions
+abbrev pub all_assigned : List Version → List Assigned
+all_assigned [] = []
+all_assigned (v ∷ vs) = v.commands ++ all_assigned vs
+
+-- the command that the execution evaluates, if a version assigns it
+abbrev pub home : List Version → ℕ → Option Assigned
+home versions execution = find (λ a. a.execution == execution) (all_assigned versions)
+
+-- the number with which a message is refused, if it is: 5 another shape, 7 no live version, 10 no such node, 15 a limit
+abbrev pub refusal_among : List Version → Option EditorMessage → Option ℕ
+refusal_among versions None = Some 5
+refusal_among [] (Some (asks.Update id text)) = None
+refusal_among (v ∷ vs) (Some (asks.Update id text)) = Some 15
+refusal_among versions (Some (asks.Settle id)) = known (version_among versions id)
+  where
+    known : Option Version → Option ℕ
+    known None = Some 7
+    known (Some v) = None
+refusal_among versions (Some (asks.Snapshot id name)) = known (version_among versions id)
+  where
+    known : Option Version → Option ℕ
+    known None = Some 7
+    known (Some v) = if bytes_eq v.node name then None else Some 10
+
+-- the live versions after a message, the newest first
+abbrev pub versions_after : List Version → Option EditorMessage → List Version
+versions_after [] (Some (asks.Update id text)) = first_version id text ∷ []
+versions_after versions other = versions
+
+-- the live versions after a history, the newest first
+abbrev pub versions : List Entry → List Version
+versions [] = []
+versions (entry.Call message ∷ h) = versions_after (versions h) (asked message)
+versions (entry.Claimed who part ∷ h) = versions h
+versions (entry.Finished who part ∷ h) = versions h
+versions (entry.Dropped who part ∷ h) = versions h
+versions (entry.Ended ∷ h) = versions h
+
+abbrev pub version_of : List Entry → ℕ → Option Version
+version_of h id = version_among (versions h) id
+
+abbrev pub refusal : List Entry → List (List ℕ) → Option ℕ
+refusal h message = refusal_among (versions h) (asked message)

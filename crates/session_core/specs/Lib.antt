@@ -1,0 +1,13 @@
+pub mod Alone
+pub mod Commands
+pub mod Document
+pub mod Example
+pub mod FirstText
+pub mod Legal
+pub mod Parts
+pub mod Reading
+pub mod Replies
+pub mod Report
+pub mod Shown
+pub mod Stream
+pub mod Yxml

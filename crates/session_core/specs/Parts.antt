@@ -1,0 +1,113 @@
+-- The parts of executions: which are finished, held, ready, and which of these is worked on first.
+use Rattle.std.specs.Prelude.{ℕ, Bool, true, false, ◌&&◌, ◌||◌, ◌==◌, not, nat_lt, nat_le, if◌then◌else◌, List, [], ◌∷◌, ◌++◌, Option, None, Some, is_some, filter}
+use Rattle.std.specs.List.{list_all}
+use Rattle.pide_base.specs.declared.part.Part.{Part}
+use Rattle.pide_base.specs.declared.part.PartKind.{PartKind}
+use Rattle.pide_base.specs.declared.part.PartKind.TheVariants as kind
+use Rattle.session_core.specs.declared.entry.Entry.{Entry}
+use Rattle.session_core.specs.declared.entry.Entry.TheVariants as entry
+use Rattle.session_core.specs.Commands.{Command}
+use Rattle.session_core.specs.Document.{Assigned, Version, versions, home}
+
+-- a part to be worked on, with the parts that must be finished before it and its priority
+-- (2 an evaluation, 0 a fork; Wenzel's task queue)
+pub record Task : Type 0 where
+  pub part : Part
+  pub inputs : List Part
+  pub priority : ℕ
+
+abbrev pub evaluation : ℕ → Part
+evaluation execution = record { exec = execution; kind = kind.Eval }
+
+abbrev pub fork : ℕ → Part
+fork execution = record { exec = execution; kind = kind.Fork }
+
+-- the fork's task, where the command forks: it needs the command's own evaluation
+abbrev pub fork_tasks : Assigned → List Task
+fork_tasks a = forks a.content.fork
+  where
+    forks : {A : Type 0} → Option A → List Task
+    forks None = []
+    forks (Some reports) = record { part = fork a.execution; inputs = evaluation a.execution ∷ []; priority = 0 } ∷ []
+
+-- the tasks of commands in order of place, behind these parts: an evaluation needs the one before it
+abbrev pub tasks_after : List Part → List Assigned → List Task
+tasks_after before [] = []
+tasks_after before (a ∷ rest) =
+    record { part = evaluation a.execution; inputs = before; priority = 2 } ∷ (fork_tasks a ++ tasks_after (evaluation a.execution ∷ []) rest)
+
+abbrev pub tasks_of : Version → List Task
+tasks_of v = tasks_after [] v.commands
+
+abbrev pub all_tasks : List Version → List Task
+all_tasks [] = []
+all_tasks (v ∷ vs) = tasks_of v ++ all_tasks vs
+
+abbrev pub is_same_kind : PartKind → PartKind → Bool
+is_same_kind kind.Eval kind.Eval = true
+is_same_kind kind.Fork kind.Fork = true
+is_same_kind kind.Print kind.Print = true
+is_same_kind _ _ = false
+
+abbrev pub is_same_part : Part → Part → Bool
+is_same_part p q = p.exec == q.exec && is_same_kind p.kind q.kind
+
+-- the part has its Finished
+abbrev pub is_finished : List Entry → Part → Bool
+is_finished [] p = false
+is_finished (entry.Call message ∷ h) p = is_finished h p
+is_finished (entry.Claimed who q ∷ h) p = is_finished h p
+is_finished (entry.Finished who q ∷ h) p = is_same_part q p || is_finished h p
+is_finished (entry.Dropped who q ∷ h) p = is_finished h p
+is_finished (entry.Ended ∷ h) p = is_finished h p
+
+-- the part that the worker holds: its newest entry is a Claimed
+abbrev pub held_by : List Entry → ℕ → Option Part
+held_by [] w = None
+held_by (entry.Call message ∷ h) w = held_by h w
+held_by (entry.Claimed who p ∷ h) w = if who == w then Some p else held_by h w
+held_by (entry.Finished who p ∷ h) w = if who == w then None else held_by h w
+held_by (entry.Dropped who p ∷ h) w = if who == w then None else held_by h w
+held_by (entry.Ended ∷ h) w = held_by h w
+
+-- some worker holds the part: its newest entry is a Claimed
+abbrev pub is_held : List Entry → Part → Bool
+is_held [] p = false
+is_held (entry.Call message ∷ h) p = is_held h p
+is_held (entry.Claimed who q ∷ h) p = is_same_part q p || is_held h p
+is_held (entry.Finished who q ∷ h) p = not (is_same_part q p) && is_held h p
+is_held (entry.Dropped who q ∷ h) p = not (is_same_part q p) && is_held h p
+is_held (entry.Ended ∷ h) p = is_held h p
+
+-- its inputs are finished, and it is neither finished nor held
+abbrev pub is_ready : List Entry → Task → Bool
+is_ready h t = list_all (is_finished h) t.inputs && not (is_finished h t.part) && not (is_held h t.part)
+
+-- the one goes before the other: the higher priority first, ties to the lower execution
+abbrev pub goes_before : Task → Task → Bool
+goes_before t u = nat_lt u.priority t.priority || (t.priority == u.priority && nat_le t.part.exec u.part.exec)
+
+-- the task that goes before all others
+abbrev pub first_of : List Task → Option Task
+first_of [] = None
+first_of (t ∷ ts) = Some (earlier (first_of ts))
+  where
+    earlier : Option Task → Task
+    earlier None = t
+    earlier (Some u) = if goes_before t u then t else u
+
+-- the first ready part of the live versions
+abbrev pub first_ready : List Entry → Option Part
+first_ready h = part_of (first_of (filter (is_ready h) (all_tasks (versions h))))
+  where
+    part_of : Option Task → Option Part
+    part_of None = None
+    part_of (Some t) = Some t.part
+
+-- each part that the version assigns is finished
+abbrev pub is_settled : List Entry → Version → Bool
+is_settled h v = list_all (λ t. is_finished h t.part) (tasks_of v)
+
+-- no live version assigns the execution, so that its parts never finish
+abbrev pub is_gone : List Entry → ℕ → Bool
+is_gone h execution = not (is_some (home (versions h) execution))

@@ -1,0 +1,63 @@
+-- What the editor's messages ask.
+use Rattle.std.specs.Prelude.{◌≡◌, ℕ, zero, suc, ◌-◌, Bool, true, false, ◌&&◌, ◌==◌, not, nat_le, nat_lt, bytes_eq, if◌then◌else◌, List, [], ◌∷◌, ◌++◌, Option, None, Some, length, take, drop, take_while, codes}
+use Rattle.std.specs.Fmt.{decimal}
+use Rattle.std.specs.Cmp.Lexicographic.{pointwise}
+use Rattle.std.specs.Str.Parse.{digits_value}
+use Rattle.pide_base.specs.Identifier.{is_node_name}
+use Rattle.session_core.specs.declared.editor_message.EditorMessage.{EditorMessage}
+use Rattle.session_core.specs.declared.editor_message.EditorMessage.TheVariants as asks
+use Rattle.session_core.specs.declared.first_text.FirstText.{FirstText}
+use Rattle.session_core.specs.FirstText.{is_first_text, text_of}
+use Rattle.session_core.specs.Yxml.{node, pair, list, option, variant, truth}
+
+-- one item: the node; its text inserted at 0; a perspective that is required and has no ranges
+abbrev pub update_body : FirstText → List ℕ
+update_body t =
+    let insert = variant 0 (decimal 0 ∷ []) (text_of t) in
+    let perspective = pair (truth true) (list []) in
+    list (pair t.node (variant 0 [] (pair (list (insert ∷ [])) (option (Some perspective)))) ∷ [])
+
+-- the chunks of a message: the function's name, then its arguments
+abbrev pub chunks_of : EditorMessage → List (List ℕ)
+chunks_of (asks.Update version text) = codes "Session.update" ∷ decimal version ∷ update_body text ∷ []
+chunks_of (asks.Settle version) = codes "Session.settle" ∷ decimal version ∷ []
+chunks_of (asks.Snapshot version name) = codes "Session.snapshot" ∷ decimal version ∷ name ∷ list [] ∷ []
+
+-- what a message may name: a version's id, a first text, a node's name
+abbrev pub is_id : ℕ → Bool
+is_id n = nat_le 1 n && nat_lt n 1000000000000000000
+
+abbrev pub is_fit : EditorMessage → Bool
+is_fit (asks.Update version text) = is_id version && is_first_text text
+is_fit (asks.Settle version) = is_id version
+is_fit (asks.Snapshot version name) = is_id version && is_node_name name
+
+-- the words that single spaces part, counted from 0
+abbrev pub word : ℕ → List ℕ → List ℕ
+word zero bytes = take_while (λ b. not (b == 32)) bytes
+word (suc n) bytes = word n (drop 1 (drop (length (take_while (λ b. not (b == 32)) bytes)) bytes))
+
+-- where the names of a first text stand among the words of an update's body
+abbrev pub text_within : List ℕ → FirstText
+text_within body =
+    record { node = word 1 body; lemma = but_last (word 4 body); atom = drop 1 (word 5 body); hypothesis = word 10 body }
+  where
+    but_last : List ℕ → List ℕ
+    but_last bytes = take (length bytes - 1) bytes
+
+-- the one message that these chunks can be
+abbrev pub candidate : List (List ℕ) → Option EditorMessage
+candidate [] = None
+candidate (name ∷ []) = None
+candidate (name ∷ version ∷ []) = Some (asks.Settle (digits_value 10 version))
+candidate (name ∷ version ∷ body ∷ []) = Some (asks.Update (digits_value 10 version) (text_within body))
+candidate (name ∷ version ∷ node ∷ edits ∷ []) = Some (asks.Snapshot (digits_value 10 version) node)
+candidate (name ∷ version ∷ node ∷ edits ∷ more ∷ others) = None
+
+-- what these chunks ask, if they are the chunks of a fit message
+abbrev pub asked : List (List ℕ) → Option EditorMessage
+asked chunks = fitting (candidate chunks)
+  where
+    fitting : Option EditorMessage → Option EditorMessage
+    fitting None = None
+    fitting (Some m) = if is_fit m && pointwise bytes_eq (chunks_of m) chunks then Some m else None

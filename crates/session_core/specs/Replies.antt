@@ -1,0 +1,98 @@
+-- The replies that a history calls for, as bytes.
+use Rattle.std.specs.Prelude.{ℕ, Bool, ◌==◌, if◌then◌else◌, List, [], ◌∷◌, ◌++◌, Option, None, Some, map, find, codes}
+use Rattle.std.specs.Fmt.{decimal}
+use Rattle.pide_base.specs.declared.part.Part.{Part}
+use Rattle.pide_base.specs.declared.part.PartKind.{PartKind}
+use Rattle.pide_base.specs.declared.part.PartKind.TheVariants as kind
+use Rattle.session_core.specs.declared.entry.Entry.{Entry}
+use Rattle.session_core.specs.declared.entry.Entry.TheVariants as entry
+use Rattle.session_core.specs.declared.editor_message.EditorMessage.{EditorMessage}
+use Rattle.session_core.specs.declared.editor_message.EditorMessage.TheVariants as asks
+use Rattle.session_core.specs.Commands.{Command}
+use Rattle.session_core.specs.Document.{Assigned, Version, versions, versions_after, version_of, home, refusal}
+use Rattle.session_core.specs.Reading.{asked}
+use Rattle.session_core.specs.Report.{Report, reports_body}
+use Rattle.session_core.specs.Shown.{shown, pending, fork_reports}
+use Rattle.session_core.specs.Stream.{spelling}
+use Rattle.session_core.specs.Yxml.{pair, list}
+
+-- a reply is a message; its chunks may have any length
+abbrev pub refused : ℕ → List (List ℕ)
+refused number = codes "refused" ∷ decimal number ∷ []
+
+-- a command with its executions
+abbrev pub assignment_row : Assigned → List ℕ
+assignment_row a = pair (decimal a.command) (list (decimal a.execution ∷ []))
+
+-- each node with its commands
+abbrev pub assign : Version → List (List ℕ)
+assign v = codes "assign" ∷ decimal v.id ∷ list (pair v.node (list (map assignment_row v.commands)) ∷ []) ∷ []
+
+abbrev pub settled : Version → List (List ℕ)
+settled v = codes "settled" ∷ decimal v.id ∷ list [] ∷ []
+
+-- the reports, the pending executions, and 0: not outdated
+abbrev pub markup : List Entry → Version → List (List ℕ)
+markup h v =
+    codes "markup" ∷ decimal v.id ∷ v.node ∷ reports_body (shown h v) ∷ list (map decimal (pending h v)) ∷ codes "0" ∷ []
+
+-- the reply to a message that is not refused; the versions are those after it
+abbrev pub answer : List Entry → List Version → Option EditorMessage → List ℕ
+answer h (v ∷ vs) (Some (asks.Update id text)) = spelling (assign v)
+answer h vs (Some (asks.Settle id)) = of (version_of h id)
+  where
+    of : Option Version → List ℕ
+    of None = []
+    of (Some v) = spelling (settled v)
+answer h vs (Some (asks.Snapshot id name)) = of (version_of h id)
+  where
+    of : Option Version → List ℕ
+    of None = []
+    of (Some v) = spelling (markup h v)
+answer h vs other = []
+
+-- the reply to a message after this history
+abbrev pub reply_to : List Entry → List (List ℕ) → List ℕ
+reply_to h message = told (refusal h message)
+  where
+    told : Option ℕ → List ℕ
+    told (Some number) = spelling (refused number)
+    told None = answer h (versions_after (versions h) (asked message)) (asked message)
+
+abbrev pub kind_name : PartKind → List ℕ
+kind_name kind.Eval = codes "eval"
+kind_name kind.Fork = codes "fork"
+kind_name kind.Print = codes "print"
+
+-- the reports from nothing of a part, in the command's source
+abbrev pub part_reports : Part → Command → List Report
+part_reports p c = of p.kind
+  where
+    of : PartKind → List Report
+    of kind.Eval = c.eval
+    of kind.Fork = fork_reports c.fork
+    of kind.Print = []
+
+-- what a finished part reports
+abbrev pub report : List Entry → Part → List (List ℕ)
+report h p = of (home (versions h) p.exec)
+  where
+    of : Option Assigned → List (List ℕ)
+    of None = []
+    of (Some a) = codes "report" ∷ decimal p.exec ∷ kind_name p.kind ∷ reports_body (part_reports p a.content) ∷ []
+
+abbrev pub dropped : Part → List (List ℕ)
+dropped p = codes "dropped" ∷ decimal p.exec ∷ kind_name p.kind ∷ []
+
+-- what is written for an entry
+abbrev pub reply : List Entry → Entry → List ℕ
+reply h (entry.Call message) = reply_to h message
+reply h (entry.Claimed who part) = []
+reply h (entry.Finished who part) = spelling (report h part)
+reply h (entry.Dropped who part) = spelling (dropped part)
+reply h entry.Ended = []
+
+-- all that is written, entry by entry in order
+abbrev pub replies : List Entry → List ℕ
+replies [] = []
+replies (e ∷ h) = replies h ++ reply h e

@@ -1,0 +1,51 @@
+-- Reports: what is known of a range of a text.
+use Rattle.std.specs.Prelude.{ℕ, ◌+◌, Bool, List, [], ◌∷◌, ◌++◌, if◌then◌else◌, codes}
+use Rattle.std.specs.Fmt.{decimal}
+use Rattle.std.specs.Ordering.{nat_cmp, ordering_then, is_gt}
+use Rattle.std.specs.declared.cmp.Ordering.{Ordering}
+use Rattle.std.specs.Cmp.Lexicographic.{slice_cmp}
+use Rattle.session_core.specs.Yxml.{element}
+
+-- a range of scalars, a kind, properties and a text (Wenzel's markup reports)
+pub record Report : Type 0 where
+  pub start : ℕ
+  pub stop : ℕ
+  pub kind : List ℕ
+  pub properties : List (List ℕ × List ℕ)
+  pub text : List ℕ
+
+-- the report stands so much further right
+abbrev pub moved : ℕ → Report → Report
+moved by report = record report { start = report.start + by; stop = report.stop + by }
+
+abbrev pub bytes_cmp : List ℕ → List ℕ → Ordering
+bytes_cmp = slice_cmp nat_cmp
+
+abbrev pub property_cmp : List ℕ × List ℕ → List ℕ × List ℕ → Ordering
+property_cmp a b = ordering_then (bytes_cmp a.0 b.0) (bytes_cmp a.1 b.1)
+
+-- start rising, stop falling, then kind, properties and text by bytes (this project's own)
+abbrev pub report_cmp : Report → Report → Ordering
+report_cmp a b =
+    ordering_then (nat_cmp a.start b.start) (ordering_then (nat_cmp b.stop a.stop) (ordering_then (bytes_cmp a.kind b.kind)
+    (ordering_then (slice_cmp property_cmp a.properties b.properties) (bytes_cmp a.text b.text))))
+
+-- the report at its place among reports that are in order
+abbrev pub insert_report : Report → List Report → List Report
+insert_report report [] = report ∷ []
+insert_report report (other ∷ others) =
+    if is_gt (report_cmp report other) then other ∷ insert_report report others else report ∷ other ∷ others
+
+-- the same reports in order
+abbrev pub in_report_order : List Report → List Report
+in_report_order [] = []
+in_report_order (report ∷ reports) = insert_report report (in_report_order reports)
+
+-- an element named by the kind, with the range before the properties as attributes, and the text as body
+abbrev pub report_body : Report → List ℕ
+report_body r =
+    element r.kind ((codes "offset", decimal r.start) ∷ (codes "end_offset", decimal r.stop) ∷ r.properties) r.text
+
+abbrev pub reports_body : List Report → List ℕ
+reports_body [] = []
+reports_body (report ∷ reports) = report_body report ++ reports_body reports

@@ -1,0 +1,20 @@
+//! A session over one document: messages come in, entries are made, replies go out.
+//!
+//! The document is that of Wenzel, "Asynchronous User Interaction and Tool Integration in
+//! Isabelle/PIDE" (ITP 2014), as far as one theory with one lemma reaches; messages are Isabelle's
+//! byte messages, their arguments YXML (Isabelle System manual). It must not know of threads, of
+//! the real streams, nor of the words of the command line.
+#![tactic(auto)]
+
+mod editor_message;
+mod entry;
+mod first_text;
+mod message;
+
+pub use editor_message::EditorMessage;
+pub use entry::Entry;
+pub use first_text::FirstText;
+pub use message::Message;
+
+#[cfg(test)]
+mod tests;
