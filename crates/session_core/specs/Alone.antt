@@ -2,7 +2,7 @@
 use Rattle.std.specs.Prelude.{◌≡◌, ℕ, Bool, false, List, [], ◌∷◌, Option, None, Some, ⊤}
 use Rattle.session_core.specs.declared.entry.Entry.{Entry}
 use Rattle.session_core.specs.declared.entry.Entry.TheVariants as entry
-use Rattle.session_core.specs.Document.{Version}
+use Rattle.session_core.specs.declared.version.Version.{Version}
 use Rattle.session_core.specs.Legal.{awaited}
 use Rattle.session_core.specs.Parts.{is_settled}
 

@@ -2,25 +2,21 @@
 use Rattle.std.specs.Prelude.{ℕ, ◌+◌, ◌*◌, List, [], ◌∷◌, ◌++◌, Option, None, Some, length, codes}
 use Rattle.session_core.specs.declared.first_text.FirstText.{FirstText}
 use Rattle.session_core.specs.FirstText.{theory_source, lemma_source, by_source, formula}
-use Rattle.session_core.specs.Report.{Report}
-
--- a command: its source, what its evaluation reports, and what its fork reports if it forks; ranges count from its start
-pub record Command : Type 0 where
-  pub source : List ℕ
-  pub eval : List Report
-  pub fork : Option (List Report)
+use Rattle.session_core.specs.declared.command.Command.{Command}
+use Rattle.session_core.specs.declared.report.Report.{Report}
+use Rattle.session_core.specs.declared.report.ReportKind.TheVariants as kind
 
 -- the command's name over its first token
 abbrev pub keyword_report : List ℕ → Report
 keyword_report name =
-    record { start = 0; stop = length name; kind = codes "command"; properties = (codes "name", name) ∷ []; text = [] }
+    record { start = 0; stop = length name; kind = kind.Command; properties = (codes "name", name) ∷ []; text = [] }
 
 abbrev pub theory_command : FirstText → Command
 theory_command t =
     record {
       source = theory_source t;
       eval = keyword_report (codes "theory")
-          ∷ record { start = 7; stop = 7 + length t.node; kind = codes "theory"; properties = (codes "name", t.node) ∷ []; text = [] } ∷ [];
+          ∷ record { start = 7; stop = 7 + length t.node; kind = kind.Theory; properties = (codes "name", t.node) ∷ []; text = [] } ∷ [];
       fork = None;
     }
 
@@ -31,8 +27,8 @@ lemma_command t =
     record {
       source = lemma_source t;
       eval = keyword_report (codes "lemma")
-          ∷ record { start = 6; stop = 6 + length t.lemma; kind = codes "def"; properties = (codes "theory", t.node) ∷ (codes "name", t.lemma) ∷ []; text = [] }
-          ∷ record { start = quote; stop = quote + length (formula t) + 2; kind = codes "formula"; properties = []; text = formula t } ∷ [];
+          ∷ record { start = 6; stop = 6 + length t.lemma; kind = kind.Def; properties = (codes "theory", t.node) ∷ (codes "name", t.lemma) ∷ []; text = [] }
+          ∷ record { start = quote; stop = quote + length (formula t) + 2; kind = kind.Formula; properties = []; text = formula t } ∷ [];
       fork = None;
     }
 
@@ -43,8 +39,8 @@ by_command t =
     record {
       source = by_source t;
       eval = keyword_report (codes "by") ∷ [];
-      fork = Some (record { start = 0; stop = length (by_source t); kind = codes "proved"; properties = []; text = [] }
-          ∷ record { start = cited; stop = cited + length t.hypothesis; kind = codes "ref"; properties = (codes "name", t.hypothesis) ∷ []; text = [] } ∷ []);
+      fork = Some (record { start = 0; stop = length (by_source t); kind = kind.Proved; properties = []; text = [] }
+          ∷ record { start = cited; stop = cited + length t.hypothesis; kind = kind.Ref; properties = (codes "name", t.hypothesis) ∷ []; text = [] } ∷ []);
     }
 
 abbrev pub end_command : Command

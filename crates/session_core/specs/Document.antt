@@ -5,21 +5,11 @@ use Rattle.session_core.specs.declared.entry.Entry.TheVariants as entry
 use Rattle.session_core.specs.declared.editor_message.EditorMessage.{EditorMessage}
 use Rattle.session_core.specs.declared.editor_message.EditorMessage.TheVariants as asks
 use Rattle.session_core.specs.declared.first_text.FirstText.{FirstText}
-use Rattle.session_core.specs.Commands.{Command, commands_of}
+use Rattle.session_core.specs.declared.command.Command.{Command}
+use Rattle.session_core.specs.declared.version.Assigned.{Assigned}
+use Rattle.session_core.specs.declared.version.Version.{Version}
+use Rattle.session_core.specs.Commands.{commands_of}
 use Rattle.session_core.specs.Reading.{asked}
-
--- a command of a version: its id, the execution that evaluates it, where it starts in the text, and what it is
-pub record Assigned : Type 0 where
-  pub command : ℕ
-  pub execution : ℕ
-  pub start : ℕ
-  pub content : Command
-
--- a version: its id, its node's name and its node's commands in order of place
-pub record Version : Type 0 where
-  pub id : ℕ
-  pub node : List ℕ
-  pub commands : List Assigned
 
 -- the commands from this id and this place on, each with the execution of the same number; one space parts them
 abbrev pub assigned_from : ℕ → ℕ → List Command → List Assigned

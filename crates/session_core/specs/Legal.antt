@@ -5,7 +5,8 @@ use Rattle.session_core.specs.declared.entry.Entry.TheVariants as entry
 use Rattle.session_core.specs.declared.editor_message.EditorMessage.{EditorMessage}
 use Rattle.session_core.specs.declared.editor_message.EditorMessage.TheVariants as asks
 use Rattle.session_core.specs.Reading.{asked}
-use Rattle.session_core.specs.Document.{Version, version_of}
+use Rattle.session_core.specs.declared.version.Version.{Version}
+use Rattle.session_core.specs.Document.{version_of}
 use Rattle.session_core.specs.Parts.{held_by, first_ready, is_settled, is_gone}
 
 abbrev pub has_ended : List Entry → Bool

@@ -6,8 +6,10 @@ use Rattle.pide_base.specs.declared.part.PartKind.{PartKind}
 use Rattle.pide_base.specs.declared.part.PartKind.TheVariants as kind
 use Rattle.session_core.specs.declared.entry.Entry.{Entry}
 use Rattle.session_core.specs.declared.entry.Entry.TheVariants as entry
-use Rattle.session_core.specs.Commands.{Command}
-use Rattle.session_core.specs.Document.{Assigned, Version, versions, home}
+use Rattle.session_core.specs.declared.command.Command.{Command}
+use Rattle.session_core.specs.declared.version.Assigned.{Assigned}
+use Rattle.session_core.specs.declared.version.Version.{Version}
+use Rattle.session_core.specs.Document.{versions, home}
 
 -- a part to be worked on, with the parts that must be finished before it and its priority
 -- (2 an evaluation, 0 a fork; Wenzel's task queue)

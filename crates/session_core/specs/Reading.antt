@@ -1,8 +1,8 @@
 -- What the editor's messages ask.
-use Rattle.std.specs.Prelude.{◌≡◌, ℕ, zero, suc, ◌-◌, Bool, true, false, ◌&&◌, ◌==◌, not, nat_le, nat_lt, bytes_eq, if◌then◌else◌, List, [], ◌∷◌, ◌++◌, Option, None, Some, length, take, drop, take_while, codes}
+use Rattle.std.specs.Prelude.{◌≡◌, ℕ, zero, suc, ◌+◌, ◌*◌, ◌-◌, min, Bool, true, false, ◌&&◌, ◌==◌, not, nat_le, nat_lt, bytes_eq, if◌then◌else◌, List, [], ◌∷◌, ◌++◌, Option, None, Some, length, take, drop, codes}
 use Rattle.std.specs.Fmt.{decimal}
 use Rattle.std.specs.Cmp.Lexicographic.{pointwise}
-use Rattle.std.specs.Str.Parse.{digits_value}
+use Rattle.std.specs.List.{prefix_len}
 use Rattle.pide_base.specs.Identifier.{is_node_name}
 use Rattle.session_core.specs.declared.editor_message.EditorMessage.{EditorMessage}
 use Rattle.session_core.specs.declared.editor_message.EditorMessage.TheVariants as asks
@@ -33,9 +33,20 @@ is_fit (asks.Settle version) = is_id version
 is_fit (asks.Snapshot version name) = is_id version && is_node_name name
 
 -- the words that single spaces part, counted from 0
+abbrev pub word_len : List ℕ → ℕ
+word_len bytes = prefix_len (λ b. not (b == 32)) bytes
+
 abbrev pub word : ℕ → List ℕ → List ℕ
-word zero bytes = take_while (λ b. not (b == 32)) bytes
-word (suc n) bytes = word n (drop 1 (drop (length (take_while (λ b. not (b == 32)) bytes)) bytes))
+word zero bytes = take (word_len bytes) bytes
+word (suc n) bytes = word n (drop (word_len bytes + 1) bytes)
+
+-- the number that at most 18 decimal digits write
+abbrev pub number_after : ℕ → List ℕ → ℕ
+number_after n [] = n
+number_after n (digit ∷ digits) = number_after (n * 10 + min (digit - 48) 9) digits
+
+abbrev pub number_of : List ℕ → ℕ
+number_of bytes = number_after 0 (take 18 bytes)
 
 -- where the names of a first text stand among the words of an update's body
 abbrev pub text_within : List ℕ → FirstText
@@ -49,9 +60,9 @@ text_within body =
 abbrev pub candidate : List (List ℕ) → Option EditorMessage
 candidate [] = None
 candidate (name ∷ []) = None
-candidate (name ∷ version ∷ []) = Some (asks.Settle (digits_value 10 version))
-candidate (name ∷ version ∷ body ∷ []) = Some (asks.Update (digits_value 10 version) (text_within body))
-candidate (name ∷ version ∷ node ∷ edits ∷ []) = Some (asks.Snapshot (digits_value 10 version) node)
+candidate (name ∷ version ∷ []) = Some (asks.Settle (number_of version))
+candidate (name ∷ version ∷ body ∷ []) = Some (asks.Update (number_of version) (text_within body))
+candidate (name ∷ version ∷ node ∷ edits ∷ []) = Some (asks.Snapshot (number_of version) node)
 candidate (name ∷ version ∷ node ∷ edits ∷ more ∷ others) = None
 
 -- what these chunks ask, if they are the chunks of a fit message

@@ -8,10 +8,13 @@ use Rattle.session_core.specs.declared.entry.Entry.{Entry}
 use Rattle.session_core.specs.declared.entry.Entry.TheVariants as entry
 use Rattle.session_core.specs.declared.editor_message.EditorMessage.{EditorMessage}
 use Rattle.session_core.specs.declared.editor_message.EditorMessage.TheVariants as asks
-use Rattle.session_core.specs.Commands.{Command}
-use Rattle.session_core.specs.Document.{Assigned, Version, versions, versions_after, version_of, home, refusal}
+use Rattle.session_core.specs.declared.command.Command.{Command}
+use Rattle.session_core.specs.declared.version.Assigned.{Assigned}
+use Rattle.session_core.specs.declared.version.Version.{Version}
+use Rattle.session_core.specs.Document.{versions, versions_after, version_of, home, refusal}
 use Rattle.session_core.specs.Reading.{asked}
-use Rattle.session_core.specs.Report.{Report, reports_body}
+use Rattle.session_core.specs.declared.report.Report.{Report}
+use Rattle.session_core.specs.Report.{reports_body}
 use Rattle.session_core.specs.Shown.{shown, pending, fork_reports}
 use Rattle.session_core.specs.Stream.{spelling}
 use Rattle.session_core.specs.Yxml.{pair, list}
@@ -59,10 +62,10 @@ reply_to h message = told (refusal h message)
     told (Some number) = spelling (refused number)
     told None = answer h (versions_after (versions h) (asked message)) (asked message)
 
-abbrev pub kind_name : PartKind → List ℕ
-kind_name kind.Eval = codes "eval"
-kind_name kind.Fork = codes "fork"
-kind_name kind.Print = codes "print"
+abbrev pub part_name : PartKind → List ℕ
+part_name kind.Eval = codes "eval"
+part_name kind.Fork = codes "fork"
+part_name kind.Print = codes "print"
 
 -- the reports from nothing of a part, in the command's source
 abbrev pub part_reports : Part → Command → List Report
@@ -79,10 +82,10 @@ report h p = of (home (versions h) p.exec)
   where
     of : Option Assigned → List (List ℕ)
     of None = []
-    of (Some a) = codes "report" ∷ decimal p.exec ∷ kind_name p.kind ∷ reports_body (part_reports p a.content) ∷ []
+    of (Some a) = codes "report" ∷ decimal p.exec ∷ part_name p.kind ∷ reports_body (part_reports p a.content) ∷ []
 
 abbrev pub dropped : Part → List (List ℕ)
-dropped p = codes "dropped" ∷ decimal p.exec ∷ kind_name p.kind ∷ []
+dropped p = codes "dropped" ∷ decimal p.exec ∷ part_name p.kind ∷ []
 
 -- what is written for an entry
 abbrev pub reply : List Entry → Entry → List ℕ

@@ -4,15 +4,19 @@ use Rattle.std.specs.Fmt.{decimal}
 use Rattle.std.specs.Ordering.{nat_cmp, ordering_then, is_gt}
 use Rattle.std.specs.declared.cmp.Ordering.{Ordering}
 use Rattle.std.specs.Cmp.Lexicographic.{slice_cmp}
+use Rattle.session_core.specs.declared.report.Report.{Report}
+use Rattle.session_core.specs.declared.report.ReportKind.{ReportKind}
+use Rattle.session_core.specs.declared.report.ReportKind.TheVariants as kind
 use Rattle.session_core.specs.Yxml.{element}
 
--- a range of scalars, a kind, properties and a text (Wenzel's markup reports)
-pub record Report : Type 0 where
-  pub start : ℕ
-  pub stop : ℕ
-  pub kind : List ℕ
-  pub properties : List (List ℕ × List ℕ)
-  pub text : List ℕ
+-- the kind's name (Isabelle's markup)
+abbrev pub kind_name : ReportKind → List ℕ
+kind_name kind.Command = codes "command"
+kind_name kind.Theory = codes "theory"
+kind_name kind.Def = codes "def"
+kind_name kind.Formula = codes "formula"
+kind_name kind.Proved = codes "proved"
+kind_name kind.Ref = codes "ref"
 
 -- the report stands so much further right
 abbrev pub moved : ℕ → Report → Report
@@ -27,7 +31,7 @@ property_cmp a b = ordering_then (bytes_cmp a.0 b.0) (bytes_cmp a.1 b.1)
 -- start rising, stop falling, then kind, properties and text by bytes (this project's own)
 abbrev pub report_cmp : Report → Report → Ordering
 report_cmp a b =
-    ordering_then (nat_cmp a.start b.start) (ordering_then (nat_cmp b.stop a.stop) (ordering_then (bytes_cmp a.kind b.kind)
+    ordering_then (nat_cmp a.start b.start) (ordering_then (nat_cmp b.stop a.stop) (ordering_then (bytes_cmp (kind_name a.kind) (kind_name b.kind))
     (ordering_then (slice_cmp property_cmp a.properties b.properties) (bytes_cmp a.text b.text))))
 
 -- the report at its place among reports that are in order
@@ -44,7 +48,7 @@ in_report_order (report ∷ reports) = insert_report report (in_report_order rep
 -- an element named by the kind, with the range before the properties as attributes, and the text as body
 abbrev pub report_body : Report → List ℕ
 report_body r =
-    element r.kind ((codes "offset", decimal r.start) ∷ (codes "end_offset", decimal r.stop) ∷ r.properties) r.text
+    element (kind_name r.kind) ((codes "offset", decimal r.start) ∷ (codes "end_offset", decimal r.stop) ∷ r.properties) r.text
 
 abbrev pub reports_body : List Report → List ℕ
 reports_body [] = []

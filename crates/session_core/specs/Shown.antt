@@ -2,10 +2,12 @@
 use Rattle.std.specs.Prelude.{ℕ, Bool, ◌&&◌, if◌then◌else◌, List, [], ◌∷◌, ◌++◌, Option, None, Some, map}
 use Rattle.std.specs.List.{list_all}
 use Rattle.session_core.specs.declared.entry.Entry.{Entry}
-use Rattle.session_core.specs.Commands.{Command}
-use Rattle.session_core.specs.Document.{Assigned, Version}
+use Rattle.session_core.specs.declared.command.Command.{Command}
+use Rattle.session_core.specs.declared.version.Assigned.{Assigned}
+use Rattle.session_core.specs.declared.version.Version.{Version}
 use Rattle.session_core.specs.Parts.{evaluation, fork, fork_tasks, is_finished}
-use Rattle.session_core.specs.Report.{Report, moved, in_report_order}
+use Rattle.session_core.specs.declared.report.Report.{Report}
+use Rattle.session_core.specs.Report.{moved, in_report_order}
 
 abbrev pub fork_reports : Option (List Report) → List Report
 fork_reports None = []

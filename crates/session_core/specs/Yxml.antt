@@ -5,12 +5,12 @@ use Rattle.std.specs.List.{concat}
 
 -- `key=value` behind byte 6 (Isabelle System manual, YXML)
 abbrev pub attribute : List ℕ × List ℕ → List ℕ
-attribute a = 6 ∷ (a.0 ++ 61 ∷ a.1)
+attribute a = (6 ∷ []) ++ a.0 ++ (61 ∷ []) ++ a.1
 
 -- bytes 5 and 6 mark where an element opens and closes; its body stands between (Isabelle System manual, YXML)
 abbrev pub element : List ℕ → List (List ℕ × List ℕ) → List ℕ → List ℕ
 element name attributes body =
-    5 ∷ 6 ∷ (name ++ concat (map attribute attributes)) ++ 5 ∷ (body ++ 5 ∷ 6 ∷ 5 ∷ [])
+    (5 ∷ 6 ∷ []) ++ name ++ concat (map attribute attributes) ++ (5 ∷ []) ++ body ++ 5 ∷ 6 ∷ 5 ∷ []
 
 -- Isabelle's XML data encoding: a nameless node, and pairs, lists, options, variants and truth values of bodies
 abbrev pub node : List ℕ → List ℕ

@@ -6,15 +6,21 @@
 //! the real streams, nor of the words of the command line.
 #![tactic(auto)]
 
+mod command;
 mod editor_message;
 mod entry;
 mod first_text;
 mod message;
+mod report;
+mod version;
 
+pub use command::Command;
 pub use editor_message::EditorMessage;
 pub use entry::Entry;
 pub use first_text::FirstText;
 pub use message::Message;
+pub use report::{Report, ReportKind};
+pub use version::{Assigned, Version};
 
 #[cfg(test)]
 mod tests;
