@@ -19,7 +19,7 @@ mod stop;
 
 pub use gate::{Gate, Point};
 pub use ids::{CommandId, ExecId, VersionId};
-pub use node_name::{NodeName, is_identifier};
+pub use node_name::{NodeName, is_identifier, is_node_name};
 pub use part::{Part, PartKind};
 pub use push_all::push_whole;
 pub use range::Range;

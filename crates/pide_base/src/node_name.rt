@@ -57,7 +57,8 @@ pub fn is_identifier(bytes: &[u8]) -> bool
     }
 }
 
-fn is_node_name(bytes: &[u8]) -> bool
+/// Whether the bytes are a node's name: an identifier of at most 64 characters.
+pub fn is_node_name(bytes: &[u8]) -> bool
     ensures { result ≡ is_node_name bytes.now }
 {
     is_identifier(bytes) && bytes.len() <= MOST_CHARACTERS

@@ -15,15 +15,18 @@ abbrev pub logical_words : List (List ℕ)
 logical_words = codes "False" ∷ codes "ALL" ∷ codes "EX" ∷ []
 
 abbrev pub is_among : List (List ℕ) → List ℕ → Bool
-is_among words word = list_any (λ w. bytes_eq w word) words
+is_among words word = list_any (bytes_eq word) words
 
--- the names are identifiers of at most 64 characters, the atom one of a formula, the others no keywords
+-- a name of a theory or a fact: an identifier of at most 64 characters that is no keyword
+abbrev pub is_name : List ℕ → Bool
+is_name name = is_node_name name && not (is_among keywords name)
+
+-- an atom of a formula
+abbrev pub is_atom : List ℕ → Bool
+is_atom name = is_node_name name && not (is_among logical_words name)
+
 abbrev pub is_first_text : FirstText → Bool
-is_first_text t =
-    is_name t.node && is_name t.lemma && is_name t.hypothesis && is_node_name t.atom && not (is_among logical_words t.atom)
-  where
-    is_name : List ℕ → Bool
-    is_name name = is_node_name name && not (is_among keywords name)
+is_first_text t = is_name t.node && is_name t.lemma && is_name t.hypothesis && is_atom t.atom
 
 -- P --> P
 abbrev pub formula : FirstText → List ℕ

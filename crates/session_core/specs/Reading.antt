@@ -10,12 +10,14 @@ use Rattle.session_core.specs.declared.first_text.FirstText.{FirstText}
 use Rattle.session_core.specs.FirstText.{is_first_text, text_of}
 use Rattle.session_core.specs.Yxml.{node, pair, list, option, variant, truth}
 
--- one item: the node; its text inserted at 0; a perspective that is required and has no ranges
+-- the text inserted at 0, and a perspective that is required and has no ranges
+abbrev pub item_body : List ℕ → List ℕ
+item_body text =
+    variant 0 [] (pair (list (variant 0 (decimal 0 ∷ []) text ∷ [])) (option (Some (pair (truth true) (list [])))))
+
+-- one item: the node, and what is set of it
 abbrev pub update_body : FirstText → List ℕ
-update_body t =
-    let insert = variant 0 (decimal 0 ∷ []) (text_of t) in
-    let perspective = pair (truth true) (list []) in
-    list (pair t.node (variant 0 [] (pair (list (insert ∷ [])) (option (Some perspective)))) ∷ [])
+update_body t = list (pair t.node (item_body (text_of t)) ∷ [])
 
 -- the chunks of a message: the function's name, then its arguments
 abbrev pub chunks_of : EditorMessage → List (List ℕ)
@@ -38,7 +40,7 @@ word_len bytes = prefix_len (λ b. not (b == 32)) bytes
 
 abbrev pub word : ℕ → List ℕ → List ℕ
 word zero bytes = take (word_len bytes) bytes
-word (suc n) bytes = word n (drop (word_len bytes + 1) bytes)
+word (suc n) bytes = word n (drop 1 (drop (word_len bytes) bytes))
 
 -- the number that at most 18 decimal digits write
 abbrev pub number_after : ℕ → List ℕ → ℕ
@@ -56,19 +58,27 @@ text_within body =
     but_last : List ℕ → List ℕ
     but_last bytes = take (length bytes - 1) bytes
 
+-- the one message that a version and these other arguments can be
+abbrev pub with_arguments : List ℕ → List (List ℕ) → Option EditorMessage
+with_arguments version [] = Some (asks.Settle (number_of version))
+with_arguments version (body ∷ []) = Some (asks.Update (number_of version) (text_within body))
+with_arguments version (node ∷ edits ∷ []) = Some (asks.Snapshot (number_of version) node)
+with_arguments version (node ∷ edits ∷ more ∷ others) = None
+
 -- the one message that these chunks can be
 abbrev pub candidate : List (List ℕ) → Option EditorMessage
 candidate [] = None
 candidate (name ∷ []) = None
-candidate (name ∷ version ∷ []) = Some (asks.Settle (number_of version))
-candidate (name ∷ version ∷ body ∷ []) = Some (asks.Update (number_of version) (text_within body))
-candidate (name ∷ version ∷ node ∷ edits ∷ []) = Some (asks.Snapshot (number_of version) node)
-candidate (name ∷ version ∷ node ∷ edits ∷ more ∷ others) = None
+candidate (name ∷ version ∷ others) = with_arguments version others
+
+abbrev pub fitting : Option EditorMessage → Option EditorMessage
+fitting None = None
+fitting (Some m) = if is_fit m then Some m else None
+
+abbrev pub written_as : Option EditorMessage → List (List ℕ) → Option EditorMessage
+written_as None chunks = None
+written_as (Some m) chunks = if pointwise bytes_eq (chunks_of m) chunks then Some m else None
 
 -- what these chunks ask, if they are the chunks of a fit message
 abbrev pub asked : List (List ℕ) → Option EditorMessage
-asked chunks = fitting (candidate chunks)
-  where
-    fitting : Option EditorMessage → Option EditorMessage
-    fitting None = None
-    fitting (Some m) = if is_fit m && pointwise bytes_eq (chunks_of m) chunks then Some m else None
+asked chunks = written_as (fitting (candidate chunks)) chunks

@@ -1,4 +1,5 @@
 //! The texts that a document may have for now: one theory with one lemma.
+
 use sqlite_items::Items;
 
 /// The names in `theory NODE begin lemma LEMMA: "ATOM --> ATOM" by (impI HYPOTHESIS HYPOTHESIS) end`.

@@ -11,8 +11,13 @@ mod editor_message;
 mod entry;
 mod first_text;
 mod message;
+mod reading;
 mod report;
+mod sources;
+mod update;
 mod version;
+mod words;
+mod writing;
 
 pub use command::Command;
 pub use editor_message::EditorMessage;
