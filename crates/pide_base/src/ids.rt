@@ -44,6 +44,14 @@ impl VersionId {
         Some(VersionId { number })
     }
 
+    /// The id of a number that is known to be one's.
+    pub fn numbered(number: u64) -> VersionId
+        requires { IsId number }
+        ensures { result ≡ number }
+    {
+        VersionId { number }
+    }
+
     /// Its number.
     pub fn number(self) -> u64
         ensures value { result ≡ self }
@@ -83,6 +91,14 @@ impl CommandId {
         Some(CommandId { number })
     }
 
+    /// The id of a number that is known to be one's.
+    pub fn numbered(number: u64) -> CommandId
+        requires { IsId number }
+        ensures { result ≡ number }
+    {
+        CommandId { number }
+    }
+
     /// Its number.
     pub fn number(self) -> u64
         ensures value { result ≡ self }
@@ -120,6 +136,14 @@ impl ExecId {
             return None;
         }
         Some(ExecId { number })
+    }
+
+    /// The id of a number that is known to be one's.
+    pub fn numbered(number: u64) -> ExecId
+        requires { IsId number }
+        ensures { result ≡ number }
+    {
+        ExecId { number }
     }
 
     /// Its number.

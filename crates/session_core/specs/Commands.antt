@@ -20,17 +20,26 @@ theory_command t =
       fork = None;
     }
 
--- the goal is the formula between the quotes
+-- the lemma's name
+abbrev pub def_report : FirstText → Report
+def_report t =
+    record {
+      start = 6;
+      stop = 6 + length t.lemma;
+      kind = kind.Def;
+      properties = (codes "theory", t.node) ∷ (codes "name", t.lemma) ∷ [];
+      text = [];
+    }
+
+-- the lemma's formula, over the quoted text
+abbrev pub formula_report : FirstText → Report
+formula_report t =
+    let quote = 8 + length t.lemma in
+    record { start = quote; stop = quote + length (formula t) + 2; kind = kind.Formula; properties = []; text = formula t }
+
 abbrev pub lemma_command : FirstText → Command
 lemma_command t =
-    let quote = 8 + length t.lemma in
-    record {
-      source = lemma_source t;
-      eval = keyword_report (codes "lemma")
-          ∷ record { start = 6; stop = 6 + length t.lemma; kind = kind.Def; properties = (codes "theory", t.node) ∷ (codes "name", t.lemma) ∷ []; text = [] }
-          ∷ record { start = quote; stop = quote + length (formula t) + 2; kind = kind.Formula; properties = []; text = formula t } ∷ [];
-      fork = None;
-    }
+    record { source = lemma_source t; eval = keyword_report (codes "lemma") ∷ def_report t ∷ formula_report t ∷ []; fork = None }
 
 -- `impI h h` proves P --> P: the assumption P, discharged (Gentzen 1935); its check is forked
 abbrev pub by_command : FirstText → Command

@@ -1,5 +1,5 @@
 -- The texts that a document may have for now: one theory with one lemma.
-use Rattle.std.specs.Prelude.{ℕ, Bool, true, false, ◌&&◌, not, nat_le, bytes_eq, List, [], ◌∷◌, ◌++◌, length, codes}
+use Rattle.std.specs.Prelude.{ℕ, ◌≤◌, Bool, true, false, ◌&&◌, not, nat_le, bytes_eq, List, [], ◌∷◌, ◌++◌, length, codes}
 use Rattle.std.specs.List.{list_any, join_with_byte}
 use Rattle.pide_base.specs.Identifier.{is_node_name}
 use Rattle.session_core.specs.declared.first_text.FirstText.{FirstText}
@@ -27,6 +27,13 @@ is_atom name = is_node_name name && not (is_among logical_words name)
 
 abbrev pub is_first_text : FirstText → Bool
 is_first_text t = is_name t.node && is_name t.lemma && is_name t.hypothesis && is_atom t.atom
+
+-- no name has over 64 characters
+pub record IsShort (t : FirstText) : Type 0 where
+  pub node : length t.node ≤ 64
+  pub lemma : length t.lemma ≤ 64
+  pub atom : length t.atom ≤ 64
+  pub hypothesis : length t.hypothesis ≤ 64
 
 -- P --> P
 abbrev pub formula : FirstText → List ℕ

@@ -7,6 +7,7 @@
 #![tactic(auto)]
 
 mod command;
+mod commands;
 mod editor_message;
 mod entry;
 mod first_text;

@@ -1,5 +1,5 @@
 //! The commands of a first text, as they are written.
-ghost use Rattle.std.specs.Prelude.{◌≡◌, ◌++◌, IfOk, OnOk};
+ghost use Rattle.std.specs.Prelude.{◌≡◌, ◌+◌, ◌*◌, IfOk, length, vec_len};
 ghost use Rattle.session_core.specs.FirstText.{theory_source, lemma_source, by_source, formula, text_of};
 
 use crate::first_text::FirstText;
@@ -7,7 +7,8 @@ use std::alloc::{AllocError, Global};
 
 /// `P --> P`.
 pub(crate) fn formula(alloc: Global, text: &FirstText) -> Result<Vec<u8>, AllocError>
-    ensures { IfOk result (λ bytes. bytes.items ≡ formula text.now) }
+    ensures value { IfOk result (λ bytes. bytes.items ≡ formula text.now) }
+    ensures len { IfOk result (λ bytes. vec_len bytes ≡ 5 + 2 * length text.now.atom) }
 {
     let mut bytes = Vec::from_slice(alloc, text.atom.as_slice())?;
     bytes.extend_from_slice(b" --> ")?;
@@ -17,7 +18,8 @@ pub(crate) fn formula(alloc: Global, text: &FirstText) -> Result<Vec<u8>, AllocE
 
 /// The command that begins the theory.
 pub(crate) fn theory_source(alloc: Global, text: &FirstText) -> Result<Vec<u8>, AllocError>
-    ensures { IfOk result (λ bytes. bytes.items ≡ theory_source text.now) }
+    ensures value { IfOk result (λ bytes. bytes.items ≡ theory_source text.now) }
+    ensures len { IfOk result (λ bytes. vec_len bytes ≡ 13 + length text.now.node) }
 {
     let mut bytes = Vec::from_slice(alloc, b"theory ")?;
     bytes.extend_from_slice(text.node.as_slice())?;
@@ -27,7 +29,8 @@ pub(crate) fn theory_source(alloc: Global, text: &FirstText) -> Result<Vec<u8>, 
 
 /// The command that states the lemma.
 pub(crate) fn lemma_source(alloc: Global, text: &FirstText) -> Result<Vec<u8>, AllocError>
-    ensures { IfOk result (λ bytes. bytes.items ≡ lemma_source text.now) }
+    ensures value { IfOk result (λ bytes. bytes.items ≡ lemma_source text.now) }
+    ensures len { IfOk result (λ bytes. vec_len bytes ≡ 15 + length text.now.lemma + 2 * length text.now.atom) }
 {
     let mut bytes = Vec::from_slice(alloc, b"lemma ")?;
     bytes.extend_from_slice(text.lemma.as_slice())?;
@@ -39,7 +42,8 @@ pub(crate) fn lemma_source(alloc: Global, text: &FirstText) -> Result<Vec<u8>, A
 
 /// The command that proves it.
 pub(crate) fn by_source(alloc: Global, text: &FirstText) -> Result<Vec<u8>, AllocError>
-    ensures { IfOk result (λ bytes. bytes.items ≡ by_source text.now) }
+    ensures value { IfOk result (λ bytes. bytes.items ≡ by_source text.now) }
+    ensures len { IfOk result (λ bytes. vec_len bytes ≡ 11 + 2 * length text.now.hypothesis) }
 {
     let mut bytes = Vec::from_slice(alloc, b"by (impI ")?;
     bytes.extend_from_slice(text.hypothesis.as_slice())?;
