@@ -35,9 +35,12 @@ abbrev pub settled : Version → List (List ℕ)
 settled v = codes "settled" ∷ decimal v.id ∷ list [] ∷ []
 
 -- the reports, the pending executions, and 0: not outdated
+abbrev pub markup_of : Version → List Report → List ℕ → List (List ℕ)
+markup_of v reports executions =
+    codes "markup" ∷ decimal v.id ∷ v.node ∷ reports_body reports ∷ list (map decimal executions) ∷ codes "0" ∷ []
+
 abbrev pub markup : List Entry → Version → List (List ℕ)
-markup h v =
-    codes "markup" ∷ decimal v.id ∷ v.node ∷ reports_body (shown h v) ∷ list (map decimal (pending h v)) ∷ codes "0" ∷ []
+markup h v = markup_of v (shown h v) (pending h v)
 
 -- the reply to a message that is not refused; the versions are those after it
 abbrev pub answer : List Entry → List Version → Option EditorMessage → List ℕ
@@ -76,13 +79,17 @@ part_reports p c = of p.kind
     of kind.Fork = fork_reports c.fork
     of kind.Print = []
 
+-- the part, with its reports
+abbrev pub report_of : Part → List Report → List (List ℕ)
+report_of p reports = codes "report" ∷ decimal p.exec ∷ part_name p.kind ∷ reports_body reports ∷ []
+
 -- what a finished part reports
 abbrev pub report : List Entry → Part → List (List ℕ)
 report h p = of (home (versions h) p.exec)
   where
     of : Option Assigned → List (List ℕ)
     of None = []
-    of (Some a) = codes "report" ∷ decimal p.exec ∷ part_name p.kind ∷ reports_body (part_reports p a.content) ∷ []
+    of (Some a) = report_of p (part_reports p a.content)
 
 abbrev pub dropped : Part → List (List ℕ)
 dropped p = codes "dropped" ∷ decimal p.exec ∷ part_name p.kind ∷ []

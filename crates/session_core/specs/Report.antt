@@ -46,7 +46,7 @@ in_report_order [] = []
 in_report_order (report ∷ reports) = insert_report report (in_report_order reports)
 
 -- an element named by the kind, with the range before the properties as attributes, and the text as body
-abbrev pub report_body : Report → List ℕ
+unfoldable pub report_body : Report → List ℕ
 report_body r =
     element (kind_name r.kind) ((codes "offset", decimal r.start) ∷ (codes "end_offset", decimal r.stop) ∷ r.properties) r.text
 

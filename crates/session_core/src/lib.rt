@@ -13,6 +13,7 @@ mod entry;
 mod first_text;
 mod message;
 mod reading;
+mod replies;
 mod report;
 mod sources;
 mod update;

@@ -1,6 +1,7 @@
 -- Each entry's conditions compute.
 use Rattle.std.proofs.Common.{refl}
 use Rattle.std.specs.Fmt.{digits}
+use Rattle.session_core.specs.Report.{report_body}
 use Rattle.session_core.proofs.Worked.{legal-ended}
 use Rattle.session_core.proofs.tests.the_history_is_legal_and_made_alone.Goals as goal
 
@@ -8,5 +9,5 @@ pub returns-clause-legal : goal.returns-clause-legal
 returns-clause-legal c = legal-ended
 
 pub returns-clause-alone : goal.returns-clause-alone
-unfolding digits
+unfolding digits report_body
 returns-clause-alone c = (refl, refl, refl, refl, (refl, refl, refl, refl, (refl, refl, refl, refl, (refl, refl, refl, refl, (refl, refl, refl, refl, tt)))))
