@@ -33,21 +33,19 @@ all_assigned (v ∷ vs) = v.commands ++ all_assigned vs
 abbrev pub home : List Version → ℕ → Option Assigned
 home versions execution = find (λ a. a.execution == execution) (all_assigned versions)
 
+-- 7 where there is no such version
+abbrev pub if_live : Option Version → (Version → Option ℕ) → Option ℕ
+if_live None other = Some 7
+if_live (Some v) other = other v
+
 -- the number with which a message is refused, if it is: 5 another shape, 7 no live version, 10 no such node, 15 a limit
 abbrev pub refusal_among : List Version → Option EditorMessage → Option ℕ
 refusal_among versions None = Some 5
 refusal_among [] (Some (asks.Update id text)) = None
 refusal_among (v ∷ vs) (Some (asks.Update id text)) = Some 15
-refusal_among versions (Some (asks.Settle id)) = known (version_among versions id)
-  where
-    known : Option Version → Option ℕ
-    known None = Some 7
-    known (Some v) = None
-refusal_among versions (Some (asks.Snapshot id name)) = known (version_among versions id)
-  where
-    known : Option Version → Option ℕ
-    known None = Some 7
-    known (Some v) = if bytes_eq v.node name then None else Some 10
+refusal_among versions (Some (asks.Settle id)) = if_live (version_among versions id) (λ v. None)
+refusal_among versions (Some (asks.Snapshot id name)) =
+    if_live (version_among versions id) (λ v. if bytes_eq v.node name then None else Some 10)
 
 -- the live versions after a message, the newest first
 abbrev pub versions_after : List Version → Option EditorMessage → List Version

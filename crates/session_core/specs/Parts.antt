@@ -26,11 +26,8 @@ fork execution = record { exec = execution; kind = kind.Fork }
 
 -- the fork's task, where the command forks: it needs the command's own evaluation
 abbrev pub fork_tasks : Assigned → List Task
-fork_tasks a = forks a.content.fork
-  where
-    forks : {A : Type 0} → Option A → List Task
-    forks None = []
-    forks (Some reports) = record { part = fork a.execution; inputs = evaluation a.execution ∷ []; priority = 0 } ∷ []
+fork_tasks a =
+    if is_some a.content.fork then record { part = fork a.execution; inputs = evaluation a.execution ∷ []; priority = 0 } ∷ [] else []
 
 -- the tasks of commands in order of place, behind these parts: an evaluation needs the one before it
 abbrev pub tasks_after : List Part → List Assigned → List Task
@@ -82,33 +79,39 @@ is_held (entry.Dropped who q ∷ h) p = not (is_same_part q p) && is_held h p
 is_held (entry.Ended ∷ h) p = is_held h p
 
 -- its inputs are finished, and it is neither finished nor held
-abbrev pub is_ready : List Entry → Task → Bool
-is_ready h t = list_all (is_finished h) t.inputs && not (is_finished h t.part) && not (is_held h t.part)
+abbrev pub is_ready : (Part → Bool) → (Part → Bool) → Task → Bool
+is_ready finished held t = list_all finished t.inputs && not (finished t.part) && not (held t.part)
 
 -- the one goes before the other: the higher priority first, ties to the lower execution
 abbrev pub goes_before : Task → Task → Bool
 goes_before t u = nat_lt u.priority t.priority || (t.priority == u.priority && nat_le t.part.exec u.part.exec)
 
+abbrev pub earlier : Task → Option Task → Task
+earlier t None = t
+earlier t (Some u) = if goes_before t u then t else u
+
 -- the task that goes before all others
 abbrev pub first_of : List Task → Option Task
 first_of [] = None
-first_of (t ∷ ts) = Some (earlier (first_of ts))
-  where
-    earlier : Option Task → Task
-    earlier None = t
-    earlier (Some u) = if goes_before t u then t else u
+first_of (t ∷ ts) = Some (earlier t (first_of ts))
 
--- the first ready part of the live versions
+abbrev pub part_of : Option Task → Option Part
+part_of None = None
+part_of (Some t) = Some t.part
+
+-- the first ready part of these versions
+abbrev pub first_among : (Part → Bool) → (Part → Bool) → List Version → Option Part
+first_among finished held vs = part_of (first_of (filter (is_ready finished held) (all_tasks vs)))
+
 abbrev pub first_ready : List Entry → Option Part
-first_ready h = part_of (first_of (filter (is_ready h) (all_tasks (versions h))))
-  where
-    part_of : Option Task → Option Part
-    part_of None = None
-    part_of (Some t) = Some t.part
+first_ready h = first_among (is_finished h) (is_held h) (versions h)
 
 -- each part that the version assigns is finished
+abbrev pub are_all_finished : (Part → Bool) → Version → Bool
+are_all_finished finished v = list_all (λ t. finished t.part) (tasks_of v)
+
 abbrev pub is_settled : List Entry → Version → Bool
-is_settled h v = list_all (λ t. is_finished h t.part) (tasks_of v)
+is_settled h v = are_all_finished (is_finished h) v
 
 -- no live version assigns the execution, so that its parts never finish
 abbrev pub is_gone : List Entry → ℕ → Bool

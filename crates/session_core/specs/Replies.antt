@@ -11,11 +11,12 @@ use Rattle.session_core.specs.declared.editor_message.EditorMessage.TheVariants 
 use Rattle.session_core.specs.declared.command.Command.{Command}
 use Rattle.session_core.specs.declared.version.Assigned.{Assigned}
 use Rattle.session_core.specs.declared.version.Version.{Version}
-use Rattle.session_core.specs.Document.{versions, versions_after, version_of, home, refusal}
+use Rattle.session_core.specs.Document.{versions, versions_after, version_among, home, refusal_among}
+use Rattle.session_core.specs.Parts.{is_finished}
 use Rattle.session_core.specs.Reading.{asked}
 use Rattle.session_core.specs.declared.report.Report.{Report}
-use Rattle.session_core.specs.Report.{reports_body}
-use Rattle.session_core.specs.Shown.{shown, pending, fork_reports}
+use Rattle.session_core.specs.Report.{in_report_order, reports_body}
+use Rattle.session_core.specs.Shown.{shown_among, pending_among, fork_reports}
 use Rattle.session_core.specs.Stream.{spelling}
 use Rattle.session_core.specs.Yxml.{pair, list}
 
@@ -39,31 +40,32 @@ abbrev pub markup_of : Version → List Report → List ℕ → List (List ℕ)
 markup_of v reports executions =
     codes "markup" ∷ decimal v.id ∷ v.node ∷ reports_body reports ∷ list (map decimal executions) ∷ codes "0" ∷ []
 
-abbrev pub markup : List Entry → Version → List (List ℕ)
-markup h v = markup_of v (shown h v) (pending h v)
+abbrev pub markup : (Part → Bool) → Version → List (List ℕ)
+markup finished v = markup_of v (in_report_order (shown_among finished v.commands)) (pending_among finished v.commands)
 
--- the reply to a message that is not refused; the versions are those after it
-abbrev pub answer : List Entry → List Version → Option EditorMessage → List ℕ
-answer h (v ∷ vs) (Some (asks.Update id text)) = spelling (assign v)
-answer h vs (Some (asks.Settle id)) = of (version_of h id)
-  where
-    of : Option Version → List ℕ
-    of None = []
-    of (Some v) = spelling (settled v)
-answer h vs (Some (asks.Snapshot id name)) = of (version_of h id)
-  where
-    of : Option Version → List ℕ
-    of None = []
-    of (Some v) = spelling (markup h v)
-answer h vs other = []
+abbrev pub spelled_of : Option Version → (Version → List (List ℕ)) → List ℕ
+spelled_of None chunks = []
+spelled_of (Some v) chunks = spelling (chunks v)
+
+-- the reply to a message that is not refused: these versions are those after it, these parts are finished
+abbrev pub answer : (Part → Bool) → List Version → Option EditorMessage → List ℕ
+answer finished vs None = []
+answer finished [] (Some (asks.Update id text)) = []
+answer finished (v ∷ vs) (Some (asks.Update id text)) = spelling (assign v)
+answer finished vs (Some (asks.Settle id)) = spelled_of (version_among vs id) settled
+answer finished vs (Some (asks.Snapshot id name)) = spelled_of (version_among vs id) (markup finished)
+
+abbrev pub told : Option ℕ → List ℕ → List ℕ
+told (Some number) other = spelling (refused number)
+told None other = other
+
+-- the reply to a message, where these were the versions and these parts are finished
+abbrev pub reply_among : (Part → Bool) → List Version → Option EditorMessage → List ℕ
+reply_among finished vs m = told (refusal_among vs m) (answer finished (versions_after vs m) m)
 
 -- the reply to a message after this history
 abbrev pub reply_to : List Entry → List (List ℕ) → List ℕ
-reply_to h message = told (refusal h message)
-  where
-    told : Option ℕ → List ℕ
-    told (Some number) = spelling (refused number)
-    told None = answer h (versions_after (versions h) (asked message)) (asked message)
+reply_to h message = reply_among (is_finished h) (versions h) (asked message)
 
 abbrev pub part_name : PartKind → List ℕ
 part_name kind.Eval = codes "eval"
@@ -71,25 +73,22 @@ part_name kind.Fork = codes "fork"
 part_name kind.Print = codes "print"
 
 -- the reports from nothing of a part, in the command's source
-abbrev pub part_reports : Part → Command → List Report
-part_reports p c = of p.kind
-  where
-    of : PartKind → List Report
-    of kind.Eval = c.eval
-    of kind.Fork = fork_reports c.fork
-    of kind.Print = []
+abbrev pub part_reports : PartKind → Command → List Report
+part_reports kind.Eval c = c.eval
+part_reports kind.Fork c = fork_reports c.fork
+part_reports kind.Print c = []
 
 -- the part, with its reports
 abbrev pub report_of : Part → List Report → List (List ℕ)
 report_of p reports = codes "report" ∷ decimal p.exec ∷ part_name p.kind ∷ reports_body reports ∷ []
 
+abbrev pub report_at : Part → Option Assigned → List (List ℕ)
+report_at p None = []
+report_at p (Some a) = report_of p (part_reports p.kind a.content)
+
 -- what a finished part reports
 abbrev pub report : List Entry → Part → List (List ℕ)
-report h p = of (home (versions h) p.exec)
-  where
-    of : Option Assigned → List (List ℕ)
-    of None = []
-    of (Some a) = report_of p (part_reports p a.content)
+report h p = report_at p (home (versions h) p.exec)
 
 abbrev pub dropped : Part → List (List ℕ)
 dropped p = codes "dropped" ∷ decimal p.exec ∷ part_name p.kind ∷ []

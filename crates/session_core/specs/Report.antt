@@ -40,10 +40,13 @@ insert_report report [] = report ∷ []
 insert_report report (other ∷ others) =
     if is_gt (report_cmp report other) then other ∷ insert_report report others else report ∷ other ∷ others
 
+abbrev pub insert_reports : List Report → List Report → List Report
+insert_reports [] others = others
+insert_reports (report ∷ reports) others = insert_report report (insert_reports reports others)
+
 -- the same reports in order
 abbrev pub in_report_order : List Report → List Report
-in_report_order [] = []
-in_report_order (report ∷ reports) = insert_report report (in_report_order reports)
+in_report_order reports = insert_reports reports []
 
 -- an element named by the kind, with the range before the properties as attributes, and the text as body
 unfoldable pub report_body : Report → List ℕ
