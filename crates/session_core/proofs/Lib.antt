@@ -1,2 +1,5 @@
+mod Answered
 mod Digits
+mod FirstVersions
+mod Inserted
 mod Worked

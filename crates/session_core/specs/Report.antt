@@ -1,6 +1,7 @@
 -- Reports: what is known of a range of a text.
-use Rattle.std.specs.Prelude.{ℕ, ◌+◌, Bool, List, [], ◌∷◌, ◌++◌, if◌then◌else◌, codes}
+use Rattle.std.specs.Prelude.{ℕ, ◌+◌, Bool, List, [], ◌∷◌, ◌++◌, insert, codes}
 use Rattle.std.specs.Fmt.{decimal}
+use Rattle.std.specs.List.{prefix_len}
 use Rattle.std.specs.Ordering.{nat_cmp, ordering_then, is_gt}
 use Rattle.std.specs.declared.cmp.Ordering.{Ordering}
 use Rattle.std.specs.Cmp.Lexicographic.{slice_cmp}
@@ -34,11 +35,13 @@ report_cmp a b =
     ordering_then (nat_cmp a.start b.start) (ordering_then (nat_cmp b.stop a.stop) (ordering_then (bytes_cmp (kind_name a.kind) (kind_name b.kind))
     (ordering_then (slice_cmp property_cmp a.properties b.properties) (bytes_cmp a.text b.text))))
 
+-- how many reports in order go before this one
+abbrev pub place_of : Report → List Report → ℕ
+place_of report others = prefix_len (λ other. is_gt (report_cmp report other)) others
+
 -- the report at its place among reports that are in order
 abbrev pub insert_report : Report → List Report → List Report
-insert_report report [] = report ∷ []
-insert_report report (other ∷ others) =
-    if is_gt (report_cmp report other) then other ∷ insert_report report others else report ∷ other ∷ others
+insert_report report others = insert others (place_of report others) report
 
 abbrev pub insert_reports : List Report → List Report → List Report
 insert_reports [] others = others

@@ -13,11 +13,15 @@ abbrev pub fork_reports : Option (List Report) → List Report
 fork_reports None = []
 fork_reports (Some reports) = reports
 
--- the reports of the command's finished parts, at its place in the text
+-- the reports of the command's evaluation and of its fork, where they are finished, at its place in the text
+abbrev pub eval_shown : (Part → Bool) → Assigned → List Report
+eval_shown finished a = if finished (evaluation a.execution) then map (moved a.start) a.content.eval else []
+
+abbrev pub fork_shown : (Part → Bool) → Assigned → List Report
+fork_shown finished a = if finished (fork a.execution) then map (moved a.start) (fork_reports a.content.fork) else []
+
 abbrev pub shown_of : (Part → Bool) → Assigned → List Report
-shown_of finished a =
-    map (moved a.start) ((if finished (evaluation a.execution) then a.content.eval else [])
-    ++ (if finished (fork a.execution) then fork_reports a.content.fork else []))
+shown_of finished a = eval_shown finished a ++ fork_shown finished a
 
 abbrev pub shown_among : (Part → Bool) → List Assigned → List Report
 shown_among finished [] = []

@@ -6,15 +6,20 @@
 //! the real streams, nor of the words of the command line.
 #![tactic(auto)]
 
+mod answer;
 mod command;
 mod commands;
 mod editor_message;
 mod entry;
 mod first_text;
 mod message;
+mod order;
+mod progress;
 mod reading;
 mod replies;
 mod report;
+mod session;
+mod shown;
 mod sources;
 mod update;
 mod version;
@@ -27,6 +32,7 @@ pub use entry::Entry;
 pub use first_text::FirstText;
 pub use message::Message;
 pub use report::{Report, ReportKind};
+pub use session::{Session, Taken};
 pub use version::{Assigned, Version};
 
 #[cfg(test)]

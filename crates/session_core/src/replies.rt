@@ -16,7 +16,8 @@ use pide_base::{ExecId, Part, PartKind};
 use sqlite_items::Items;
 use std::alloc::{AllocError, Global};
 
-fn kind_name(kind: ReportKind) -> &'static str
+/// The kind's name, as it is written.
+pub(crate) fn kind_name(kind: ReportKind) -> &'static str
     ensures { result.now ≡ kind_name kind }
 {
     match kind {
