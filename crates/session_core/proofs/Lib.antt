@@ -2,4 +2,8 @@ mod Answered
 mod Digits
 mod FirstVersions
 mod Inserted
+mod Reporting
+mod Short
+mod Taking
 mod Worked
+mod Working

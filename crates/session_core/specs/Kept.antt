@@ -1,5 +1,5 @@
 -- What a session keeps beside its history.
-use Rattle.std.specs.Prelude.{◌≡◌, ℕ, ◌≤◌, Bool, false, List, [], Option, None, IfSome}
+use Rattle.std.specs.Prelude.{◌≡◌, ℕ, ◌≤◌, Bool, false, List, Option, None, IfSome}
 use Rattle.std.specs.Option.{option_to_list}
 use Rattle.pide_base.specs.declared.part.Part.{Part}
 use Rattle.session_core.specs.declared.entry.Entry.{Entry}
@@ -17,7 +17,6 @@ pub record IsKept (h : List Entry) (live : Option Version) (done : ℕ) (ended :
   pub versions_are : versions h ≡ option_to_list live
   pub first : IfSome live IsFirst
   pub few : done ≤ 5
-  pub none_before : live ≡ None → done ≡ 0
   pub finished_are : (p : Part) → is_finished h p ≡ is_done done p
   pub none_held : (p : Part) → is_held h p ≡ false
   pub idle : (w : ℕ) → held_by h w ≡ None

@@ -12,6 +12,7 @@ pub mod Reading
 pub mod Replies
 pub mod Report
 pub mod Shown
+pub mod Steps
 pub mod Stream
 pub mod Yxml
 pub mod Work

@@ -1,12 +1,14 @@
 //! The replies, as bytes.
-ghost use Rattle.std.specs.Prelude.{◌≡◌, ◌++◌, ◌∷◌, [], IfOk, OnOk, map};
+ghost use Rattle.std.specs.Prelude.{◌≡◌, ◌==◌, ◌++◌, ◌∷◌, [], IfOk, OnOk, find, map};
 ghost use Rattle.std.specs.Fmt.{decimal};
 ghost use Rattle.std.specs.List.{concat};
-ghost use Rattle.session_core.specs.Replies.{assign, assignment_row, markup_of, part_name, refused, report_of, settled};
+ghost use Rattle.std.specs.Option.{option_copied};
+ghost use Rattle.session_core.specs.Replies.{assign, assignment_row, markup_of, part_name, part_reports, refused, report_at, report_of, settled};
 ghost use Rattle.session_core.specs.Report.{kind_name, report_body, reports_body};
 ghost use Rattle.session_core.specs.Stream.{spelling};
 ghost use Rattle.session_core.specs.Yxml.{attribute, list, node, pair};
 
+use crate::command::Command;
 use crate::report::{Report, ReportKind};
 use crate::version::{Assigned, Version};
 use crate::writing::{
@@ -224,8 +226,49 @@ fn part_name(kind: PartKind) -> &'static str
     }
 }
 
+/// The command that the execution evaluates.
+fn home(commands: &[Assigned], exec: ExecId) -> Option<&Assigned>
+    ensures { option_copied result ≡ find (λ a. a.execution == exec) commands.now }
+{
+    'commands: for assigned in commands {
+        if assigned.execution.number() == exec.number() {
+            return Some(assigned);
+        }
+    }
+    None
+}
+
+/// The reports of a part of the command.
+fn part_reports(kind: PartKind, command: &Command) -> &[Report]
+    ensures { result.now ≡ part_reports kind command.now }
+{
+    match kind {
+        PartKind::Eval => command.eval.as_slice(),
+        PartKind::Fork => match &command.fork {
+            Some(reports) => reports.as_slice(),
+            None => &[],
+        },
+        PartKind::Print => &[],
+    }
+}
+
+/// What a part of the version reports when it is finished.
+pub(crate) fn part_report(
+    alloc: Global,
+    version: &Version,
+    part: &Part,
+) -> Result<Vec<u8>, AllocError>
+    ensures { IfOk result (λ bytes. bytes.items
+        ≡ spelling (report_at part.now (find (λ a. a.execution == part.now.exec) version.now.commands))) }
+{
+    match home(version.commands.as_slice(), part.exec) {
+        Some(assigned) => report(alloc, *part, part_reports(part.kind, &assigned.content)),
+        None => spelled(alloc, &[]),
+    }
+}
+
 /// What a finished part reports.
-pub(crate) fn report(alloc: Global, part: Part, reports: &[Report]) -> Result<Vec<u8>, AllocError>
+fn report(alloc: Global, part: Part, reports: &[Report]) -> Result<Vec<u8>, AllocError>
     ensures { IfOk result (λ bytes. bytes.items ≡ spelling (report_of part reports.now)) }
 {
     spelled(
