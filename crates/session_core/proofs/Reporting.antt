@@ -42,7 +42,7 @@ pub nothing-so : (h : List Entry) (live : Option Version) (k : ℕ) (ended : Boo
     → WorkedSo h h held held done.Nothing
 nothing-so h live k ended held kept all = (refl, keeps held, nothing-ready h live k ended kept all, settled-all h live k ended kept all)
 
-abbrev found_in : List Assigned → ℕ → Option Assigned
+abbrev pub found_in : List Assigned → ℕ → Option Assigned
 found_in commands execution = find (λ a. a.execution == execution) commands
 
 -- the bytes that were made are the part's report
