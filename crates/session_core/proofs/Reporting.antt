@@ -50,7 +50,7 @@ report-is : (h : List Entry) (v : Version) (k : ℕ) (ended : Bool) (p : Part) (
     → bytes ≡ spelling (report_at p (found_in v.commands p.exec)) → bytes ≡ spelling (report h p)
 report-is h v k ended p bytes kept made =
     let at_home : found_in v.commands p.exec ≡ home (versions h) p.exec =
-      ap (λ (commands : List Assigned). found_in commands p.exec) (sym (append-nil v.commands)) ∙ ap (λ (vs : List Version). home vs p.exec) (sym kept.versions_are) in
+    ap (λ (commands : List Assigned). found_in commands p.exec) (sym (append-nil v.commands)) ∙ ap (λ (vs : List Version). home vs p.exec) (sym kept.versions_are) in
     made ∙ ap (λ (o : Option Assigned). spelling (report_at p o)) at_home
 
 -- what was written of the report says what came of the work
@@ -58,9 +58,13 @@ pub worked-so : (r : Worked) (h h' : List Entry) (v : Version) (k : ℕ) (held h
     → h' ≡ worked (nth_part k) h → bytes ≡ spelling (report_at (nth_part k) (found_in v.commands (nth_part k).exec)) → ReportedSo r held held' bytes
     → WorkedSo h h' held held' r
 worked-so done.Finished h h' v k held held' bytes kept more grown made written =
-    let reported = report-is h v k false (nth_part k) bytes kept made in
-    (nth_part k, grown, next-ready h v k false kept more, subst (Appends held held') reported written,
-     subst (λ (l : List Entry). unfinished l < unfinished h) (sym grown) (fewer-left h v k kept more))
+    let reported = report-is h v k false (nth_part k) bytes kept made in (
+      nth_part k,
+      grown,
+      next-ready h v k false kept more,
+      subst (Appends held held') reported written,
+      subst (λ (l : List Entry). unfinished l < unfinished h) (sym grown) (fewer-left h v k kept more),
+    )
 worked-so done.Nothing h h' v k held held' bytes kept more grown made written = absurd written
 worked-so done.WriteFault h h' v k held held' bytes kept more grown made written =
     let reported = report-is h v k false (nth_part k) bytes kept made in

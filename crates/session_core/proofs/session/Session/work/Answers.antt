@@ -18,7 +18,7 @@ invariant_of-self-2 g c =
     let more : c.self.inside.done < 5 = omega arith in
     let kept = subst (λ (o : Option Version). IsKept (reverse c.self.inside.history.items) o c.self.inside.done c.self.inside.ended) c.in-Some.is c.self.invariant.0 in
     let claimed : c.record.new.history.items ≡ c.self.inside.history.items ++ Claimed 0 c.nth_part-part.result ∷ [] =
-      c.record.ensures.items ∙ ap (λ (xs : List Entry). xs ++ Claimed 0 c.nth_part-part.result ∷ []) c.reserve.ensures.items in
+    c.record.ensures.items ∙ ap (λ (xs : List Entry). xs ++ Claimed 0 c.nth_part-part.result ∷ []) c.reserve.ensures.items in
     let now = work-kept _ _ _ c.in-Some.live c.self.inside.done c.self.inside.ended _ kept going more c.nth_part-part.ensures claimed c.record-2.ensures.items in
     (subst (λ (o : Option Version). IsKept (reverse c.record-2.new.history.items) o (c.self.inside.done + 1) c.self.inside.ended) (sym c.in-Some.is) now, search rules)
 
@@ -29,9 +29,9 @@ returns-clause-ok g c =
     let found = subst (λ (o : Option Version). IsKept (reverse c.self.inside.history.items) o c.self.inside.done c.self.inside.ended) c.in-Some.is c.self.invariant.0 in
     let kept = subst (λ (b : Bool). IsKept (reverse c.self.inside.history.items) (Some c.in-Some.live) c.self.inside.done b) going found in
     let claimed : c.record.new.history.items ≡ c.self.inside.history.items ++ Claimed 0 c.nth_part-part.result ∷ [] =
-      c.record.ensures.items ∙ ap (λ (xs : List Entry). xs ++ Claimed 0 c.nth_part-part.result ∷ []) c.reserve.ensures.items in
+    c.record.ensures.items ∙ ap (λ (xs : List Entry). xs ++ Claimed 0 c.nth_part-part.result ∷ []) c.reserve.ensures.items in
     let grown : c.write_report.new.self.0 ≡ worked (nth_part c.self.inside.done) (reverse c.self.inside.history.items) =
-      c.write_report.ensures.history ∙ recorded_two _ _ _ c.nth_part-part.result claimed c.record-2.ensures.items
-      ∙ ap (λ (p : Part). worked p (reverse c.self.inside.history.items)) c.nth_part-part.ensures in
+    c.write_report.ensures.history ∙ recorded_two _ _ _ c.nth_part-part.result claimed c.record-2.ensures.items
+    ∙ ap (λ (p : Part). worked p (reverse c.self.inside.history.items)) c.nth_part-part.ensures in
     let made = c.as_slice.ensures.value ∙ c.in_ok-bytes.ensures ∙ ap (λ (p : Part). spelling (report_at p (found_in c.in-Some.live.commands p.exec))) c.nth_part-part.ensures in
     rw (← c.self.view_is) (worked-so c.write_report.result _ _ c.in-Some.live c.self.inside.done _ _ _ kept more grown made c.write_report.ensures.written)
