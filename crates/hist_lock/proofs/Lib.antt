@@ -1,0 +1,4 @@
+pub mod Entries
+pub mod Seats
+pub mod Kept
+pub mod Tickets
