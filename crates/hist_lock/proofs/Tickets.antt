@@ -14,10 +14,7 @@ use Rattle.hist_lock.specs.Rule.{Phase, home, out, ticket, tickets, AtStage, IsG
 use Rattle.hist_lock.specs.Steps.{drew, staged}
 use Rattle.hist_lock.proofs.Entries.{prefix_refl}
 use Rattle.hist_lock.proofs.Seats.{tickets_set}
-use Rattle.hist_lock.proofs.Kept.{gone_stays, moved}
-
-pub idle_live : (st : Stage) → st ≡ Idle → st ≢ Spent
-idle_live st e f = let h : Idle ≡ Spent = sym e ∙ f in cc
+use Rattle.hist_lock.proofs.Kept.{idle_live, restaged, same_place, moved}
 
 module _ {S E : Type 0} (entries : S → List E) (whose : E → ℕ) (legal : List E → Type 0) where
   abbrev Rule : State (Option S) (Doing E) → Type 0
@@ -25,26 +22,6 @@ module _ {S E : Type 0} (entries : S → List E) (whose : E → ℕ) (legal : Li
 
   abbrev M : Type 0
   M = Me (Option S) (Doing E)
-
-  -- what a seat knows, where only its stage changes
-  restaged : (s : State (Option S) (Doing E)) (k : Rule s) (id : ℕ) (d : Doing E) (st : Stage) → get_elem? s.views id ≡ some d → d.stage ≢ Spent
-      → Knows whose legal k.log (set s.views id (staged d st)) id (staged d st)
-  restaged s k id d st at live = let o = k.known id d at live in record {
-    caller = o.caller;
-    seen = o.seen;
-    told = o.told;
-    mine = o.mine;
-    joined = λ i x l. gone_stays entries whose legal k.log k.log s.views id d (staged d st) at live (λ c n. refl) _ (o.joined i x l);
-    made = λ z. length-set s.views id (staged d st) ∙ o.made z;
-  }
-
-  -- the state's place, where a seat that hasn't the turn changes
-  same_place : (homes : List (maybe.Option (Option S))) (vs : List (Doing E)) (log : List E) (served : ℕ) (id : ℕ) (d w : Doing E) (p : Phase) → get_elem? vs id ≡ some d → d.stage ≢ Holds served
-      → InPlace entries whose legal homes vs log served p → InPlace entries whose legal homes (set vs id w) log served p
-  same_place homes vs log served id d w home at waits h = h
-  same_place homes vs log served id d w (out j) at waits h =
-      let other : j ≢ id = λ e. waits (ap (λ (x : Doing E). x.stage) (some-injective d h.0 (sym at ∙ (ap (get_elem? vs) (sym e) ∙ h.1))) ∙ h.2) in
-      (h.0, set_else vs id j w other ∙ h.1, h.2)
 
   -- the others' stages, where a ticket is drawn
   drawn_by : (log : List E) (drawn served : ℕ) (owner : ℕ → ℕ) (phase : Phase) (id j : ℕ) (seen : List E) (st : Stage)
@@ -65,9 +42,9 @@ module _ {S E : Type 0} (entries : S → List E) (whose : E → ℕ) (legal : Li
         moved entries whose legal s k id me.0 w at live _ s.homes k.log (k.drawn + 1) k.served owner' k.phase
             (ap (λ ws. set ws 0 ((get_or ws 0 0 + 1) % 2 ^ 64)) k.words ∙ ap (λ x. x ∷ (k.served % 2 ^ 64) ∷ length k.log ∷ []) (mod-add-mod k.drawn (2 ^ 64) 1))
             k.short k.legal_log (prefix_refl k.log) (λ c n. refl) (omega arith)
-            (same_place s.homes s.views k.log k.served id me.0 w k.phase at (λ e. let h : Idle ≡ Holds k.served = sym idle ∙ e in cc) k.placed)
+            (same_place entries whose legal s.homes s.views k.log k.served id me.0 w k.phase at (λ e. let h : Idle ≡ Holds k.served = sym idle ∙ e in cc) k.placed)
             (ap (λ b. cond b id (k.owner k.drawn)) (eq-eqb k.drawn k.drawn refl), omega arith, omega arith)
             (λ j e other _ a. drawn_by k.log k.drawn k.served k.owner k.phase id j e.view.seen e.stage a)
-            (λ _. restaged s k id me.0 (Waits k.drawn) at live),
+            (λ _. restaged entries whose legal s k id me.0 (Waits k.drawn) at live),
         (k.drawn, ap (λ ws. get_or ws 0 0) k.words, refl),
       )

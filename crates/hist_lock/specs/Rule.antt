@@ -60,31 +60,25 @@ module _ {E : Type 0} (whose : E → ℕ) (legal : List E → Type 0) (log : Lis
     pub joined : All IsGone d.view.joined
     pub made : j ≡ 0 → length seats ≡ d.view.made + 1
 
-module _ {S E : Type 0} (entries : S → List E) (whose : E → ℕ) (legal : List E → Type 0) where
-  -- what a caller knows is so of the list that a state stands for
-  pub record Fits (v : View E) (x : S) : Type 0 where
-    pub is_legal : legal (entries x)
-    pub seen : IsPrefix v.seen (entries x)
-    pub mine : own whose v.caller (entries x) ≡ v.mine
-
+module _ {S E : Type 0} (entries : S → List E) where
   -- at home the state stands for the history; a seat that it is out with has the turn
   abbrev pub InPlace : List (maybe.Option (Option S)) → List (Doing E) → List E → ℕ → Phase → Type 0
   InPlace homes seats log served home = (x : S) × (get_elem? homes 0 ≡ some (some (Some x))) × (entries x ≡ log)
   InPlace homes seats log served (out j) = (d : Doing E) × (get_elem? seats j ≡ some d) × (d.stage ≡ Holds served)
 
-  -- there is one legal history, each seat knows its part of it, and it has entries of these seats alone
-  pub record Kept (s : State (Option S) (Doing E)) : Type 0 where
-    pub log : List E
-    pub drawn : ℕ
-    pub served : ℕ
-    pub owner : ℕ → ℕ
-    pub phase : Phase
-    pub words : s.words ≡ (drawn % 2 ^ 64) ∷ (served % 2 ^ 64) ∷ length log ∷ []
-    pub short : length log < 2 ^ 64
-    pub legal_log : legal log
-    pub few : length s.views ≤ 2 ^ 32
-    pub counted : served + tickets s.views ≡ drawn
-    pub placed : InPlace s.homes s.views log served phase
-    pub staged : (j : ℕ) (d : Doing E) → get_elem? s.views j ≡ some d → AtStage log drawn served owner phase j d.view.seen d.stage
-    pub known : (j : ℕ) (d : Doing E) → get_elem? s.views j ≡ some d → d.stage ≢ Spent → Knows whose legal log s.views j d
-    pub no_other : (c : ℕ) → length s.views ≤ c → own whose c log ≡ []
+-- there is one legal history, each seat knows its part of it, and it has entries of these seats alone
+pub record Kept {S E : Type 0} (entries : S → List E) (whose : E → ℕ) (legal : List E → Type 0) (s : State (Option S) (Doing E)) : Type 0 where
+  pub log : List E
+  pub drawn : ℕ
+  pub served : ℕ
+  pub owner : ℕ → ℕ
+  pub phase : Phase
+  pub words : s.words ≡ (drawn % 2 ^ 64) ∷ (served % 2 ^ 64) ∷ length log ∷ []
+  pub short : length log < 2 ^ 64
+  pub legal_log : legal log
+  pub few : length s.views ≤ 2 ^ 32
+  pub counted : served + tickets s.views ≡ drawn
+  pub placed : InPlace entries s.homes s.views log served phase
+  pub staged : (j : ℕ) (d : Doing E) → get_elem? s.views j ≡ some d → AtStage log drawn served owner phase j d.view.seen d.stage
+  pub known : (j : ℕ) (d : Doing E) → get_elem? s.views j ≡ some d → d.stage ≢ Spent → Knows whose legal log s.views j d
+  pub no_other : (c : ℕ) → length s.views ≤ c → own whose c log ≡ []

@@ -8,7 +8,7 @@ use Rattle.hist_lock.specs.declared.view.Doing.{Doing}
 use Rattle.hist_lock.specs.declared.view.Stage.{Stage}
 use Rattle.hist_lock.specs.declared.view.Stage.TheVariants.{Idle, Waits, Holds, Spent}
 use Rattle.hist_lock.specs.Entries.{own}
-use Rattle.hist_lock.specs.Rule.{Fits}
+use Rattle.hist_lock.specs.Known.{Fits}
 
 abbrev pub ticket_of : Stage → ℕ
 ticket_of Idle = 0
