@@ -5,3 +5,6 @@ pub mod Tickets
 pub mod Turns
 pub mod Appends
 pub mod Sights
+pub mod Splits
+pub mod Joins
+pub mod Ends
