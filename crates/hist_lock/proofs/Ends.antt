@@ -1,5 +1,5 @@
 -- The rule at the start and at the end.
-use Rattle.std.proofs.Common.{◌≡◌, ◌≢◌, ◌⊎◌, ℕ, zero, suc, eqb, ◌+◌, ◌%◌, ◌^◌, ◌<◌, ◌≤◌, List, [], ◌∷◌, ◌++◌, cond, map, length, sym, refl, ap, ◌∙◌, subst, ⊎_elim, inl, inr, arith, get_or, length-map, Option, Some, ne_eqb, eq-eqb}
+use Rattle.std.proofs.Common.{◌≡◌, ◌≢◌, ◌⊎◌, ℕ, zero, suc, eqb, ◌+◌, ◌%◌, ◌^◌, ◌<◌, ◌≤◌, List, [], ◌∷◌, ◌++◌, cond, map, length, sym, refl, ap, ◌∙◌, subst, ⊎_elim, inl, inr, arith, get_or, Option, Some, ne_eqb, eq-eqb}
 use Rattle.std.proofs.lemmas.List.Elements.{All-nil, All-head, All-tail}
 use Rattle.std.specs.List.{All, Contains}
 use mathlib.Core.Logic.{dite}
@@ -31,25 +31,16 @@ module _ {E : Type 0} (whose : E → ℕ) where
   own_none c (e ∷ log) l a = let h : whose e ≡ 0 = All-head (λ e. whose e ≡ 0) e log a in
       ap (λ b. cond b (e ∷ own whose c log) (own whose c log)) (ne_eqb (whose e) c (λ f. omega arith)) ∙ own_none c log l (All-tail (λ e. whose e ≡ 0) e log a)
 
-at_map_some : {A : Type 0} (l : List A) (k : ℕ) (a : A) → get_elem? (map some l) k ≡ some (some a) → get_elem? l k ≡ some a
-at_map_some [] k a e = absurd (some-ne-none (some a) (sym e))
-at_map_some (x ∷ xs) zero a e = some-injective (some x) (some a) e
-at_map_some (x ∷ xs) (suc k) a e = at_map_some xs k a e
-
--- the element that a list has at a place
-at_place : {A : Type 0} (l : List A) (k : ℕ) → k < length l → (a : A) × (get_elem? l k ≡ some a) × ((d : A) → get_or l k d ≡ a)
-at_place [] k h = absurd (omega arith)
-at_place (x ∷ xs) zero h = (x, refl, λ d. refl)
-at_place (x ∷ xs) (suc k) h = at_place xs k (omega arith)
-
 -- the record of a caller that was joined
-record_of : {E : Type 0} (P : Joined E → Type 0) (js : List (Joined E)) (c : ℕ) → All P js → Contains (callers js) c → (r : Joined E) × (r.caller ≡ c) × P r
-record_of P [] c a h = let l = h.1 in absurd (omega arith)
-record_of P (r ∷ js) c a h = first_or P r js c a h.0 h.1 h.2 where
-  first_or : {E : Type 0} (P : Joined E → Type 0) (r : Joined E) (js : List (Joined E)) (c : ℕ) → All P (r ∷ js) → (k : ℕ) → k < length (callers (r ∷ js)) → get_or (callers (r ∷ js)) k c ≡ c
-      → (q : Joined E) × (q.caller ≡ c) × P q
-  first_or P r js c a zero l e = (r, e, All-head P r js a)
-  first_or P r js c a (suc k) l e = ?
+record_at : {E : Type 0} (P : Joined E → Type 0) (js : List (Joined E)) (c k : ℕ) → All P js → k < length (callers js) → get_or (callers js) k c ≡ c → (r : Joined E) × (r.caller ≡ c) × P r
+record_at P [] c k a l e = absurd (omega arith)
+record_at P (r ∷ js) c zero a l e = (r, e, All-head P r js a)
+record_at P (r ∷ js) c (suc k) a l e = record_at P js c k (All-tail P r js a) (omega arith) e
+
+-- what holds of the one seat at the start
+only_seat : {A : Type 0} (K : ℕ → A → Type 0) (a : A) → K 0 a → (j : ℕ) (d : A) → get_elem? (a ∷ []) j ≡ some d → K j d
+only_seat K a k zero d at = subst (K 0) (some-injective a d at) k
+only_seat K a k (suc j) d at = absurd (some-ne-none d (sym at))
 
 module _ {S E : Type 0} (entries : S → List E) (whose : E → ℕ) (legal : List E → Type 0) where
   abbrev Rule : State (Option S) (Doing E) → Type 0
@@ -68,17 +59,47 @@ module _ {S E : Type 0} (entries : S → List E) (whose : E → ℕ) (legal : Li
     few = omega arith;
     counted = refl;
     placed = (x, refl, refl);
-    staged = λ j d at. starts (λ j d. AtStage log 0 0 (λ _. 0) home j d.view.seen d.stage) tt j d at;
-    known = λ j d at lives. starts (λ j d. Knows whose legal log (first_seat log ∷ []) j d) (record {
+    staged = only_seat (λ j d. AtStage log 0 0 (λ _. 0) home j d.view.seen d.stage) (first_seat log) tt;
+    known = λ j d at lives. only_seat (Knows whose legal log (first_seat log ∷ [])) (first_seat log) record {
       caller = refl;
       seen = (prefix_refl log, is_legal);
       told = (prefix_refl log, is_legal);
       mine = own_all whose log first;
       joined = All-nil (IsGone whose legal log (first_seat log ∷ []));
       made = λ _. refl;
-    }) j d at;
+    } j d at;
     no_other = λ c l. own_none whose c log (omega arith) first;
-  } where
-    starts : {E : Type 0} {log : List E} (K : ℕ → Doing E → Type 0) → K 0 (first_seat log) → (j : ℕ) (d : Doing E) → get_elem? (first_seat log ∷ []) j ≡ some d → K j d
-    starts K k zero d at = subst (K 0) (some-injective _ d at) k
-    starts K k (suc j) d at = absurd (some-ne-none d (sym at))
+  }
+
+  module _ (s : State (Option S) (Doing E)) (k : Rule s) (id : ℕ) (d : Doing E) (at : get_elem? s.views id ≡ some d) (idle : d.stage ≡ Idle) (first : d.view.caller ≡ 0)
+      (all : (c : ℕ) → 0 < c → c ≤ d.view.made → Contains (callers d.view.joined) c) where
+    -- no seat has the turn
+    none_out : (j : ℕ) (e : Doing E) → get_elem? s.views j ≡ some e → e.stage ≡ Holds k.served → ⊥
+    none_out j e there has = let o = k.known id d at (idle_live d.stage idle) in let is_first : id ≡ 0 = sym o.caller ∙ first in
+        let inside = at_inside s.views j e there in let many = o.made is_first in
+        dite (ℕ_discrete j 0)
+          (λ z. let same : d ≡ e = some-injective d e (sym at ∙ (ap (get_elem? s.views) (is_first ∙ sym z) ∙ there)) in
+              let h : Idle ≡ Holds k.served = sym idle ∙ (ap (λ (x : Doing E). x.stage) same ∙ has) in cc)
+          (λ n. let c = all j (omega arith) (omega arith) in let r = record_at (IsGone whose legal k.log s.views) d.view.joined j c.0 o.joined c.1 c.2 in let g = r.2.spent in
+              let same : g.0 ≡ e = some-injective g.0 e (sym g.1 ∙ (ap (get_elem? s.views) r.1 ∙ there)) in
+              let h : Spent ≡ Holds k.served = sym g.2 ∙ (ap (λ (x : Doing E). x.stage) same ∙ has) in cc)
+
+    back_home : (p : Phase) → InPlace entries s.homes s.views k.log k.served p → (x : S) × (get_elem? s.homes 0 ≡ some (some (Some x))) × (entries x ≡ k.log)
+    back_home home h = h
+    back_home (out j) h = absurd (none_out j h.0 h.1 h.2)
+
+    ends : (x : S) → entries x ≡ k.log → Ends entries whose legal d.view x
+    ends x is = let o = k.known id d at (idle_live d.stage idle) in let is_first : id ≡ 0 = sym o.caller ∙ first in let many = o.made is_first in record {
+      fits = record {
+        is_legal = subst legal (sym is) k.legal_log;
+        seen = subst (IsPrefix d.view.seen) (sym is) o.seen.0;
+        mine = ap (λ c. own whose c (entries x)) o.caller ∙ (ap (own whose id) is ∙ o.mine);
+      };
+      joined = λ i r l. ap (own whose _) is ∙ (o.joined i r l).mine;
+      no_other = λ c n absent. ap (own whose c) is ∙ dite (dec_le c d.view.made) (λ (l : c ≤ d.view.made). absurd (absent (all c (omega arith) l))) (λ l. k.no_other c (omega arith));
+    }
+
+  pub closes : (id : ℕ) (d : Doing E) (ws : List ℕ) (xs : List (Option S)) → d.stage ≡ Idle → d.view.caller ≡ 0 → ((c : ℕ) → 0 < c → c ≤ d.view.made → Contains (callers d.view.joined) c)
+      → Final (Seen Rule id d) ws xs → (x : S) × (get_elem? xs 0 ≡ some (Some x)) × Ends entries whose legal d.view x
+  closes id d ws xs idle first all f = let s = f.0 in let k = f.1.0 in let at = f.1.1 in let h = back_home s k id d at idle first all k.phase k.placed in
+      (h.0, f.4 0 (Some h.0) h.1, ends s k id d at idle first all h.0 h.2)
