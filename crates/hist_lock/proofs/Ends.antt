@@ -78,11 +78,11 @@ module _ {S E : Type 0} (entries : S → List E) (whose : E → ℕ) (legal : Li
     none_out j e there has = let o = k.known id d at (idle_live d.stage idle) in let is_first : id ≡ 0 = sym o.caller ∙ first in
         let inside = at_inside s.views j e there in let many = o.made is_first in
         dite (ℕ_discrete j 0)
-          (λ z. let same : d ≡ e = some-injective d e (sym at ∙ (ap (get_elem? s.views) (is_first ∙ sym z) ∙ there)) in
-              let h : Idle ≡ Holds k.served = sym idle ∙ (ap (λ (x : Doing E). x.stage) same ∙ has) in cc)
-          (λ n. let c = all j (omega arith) (omega arith) in let r = record_at (IsGone whose legal k.log s.views) d.view.joined j c.0 o.joined c.1 c.2 in let g = r.2.spent in
-              let same : g.0 ≡ e = some-injective g.0 e (sym g.1 ∙ (ap (get_elem? s.views) r.1 ∙ there)) in
-              let h : Spent ≡ Holds k.served = sym g.2 ∙ (ap (λ (x : Doing E). x.stage) same ∙ has) in cc)
+        (λ z. let same : d ≡ e = some-injective d e (sym at ∙ (ap (get_elem? s.views) (is_first ∙ sym z) ∙ there)) in
+        let h : Idle ≡ Holds k.served = sym idle ∙ (ap (λ (x : Doing E). x.stage) same ∙ has) in cc)
+        (λ n. let c = all j (omega arith) (omega arith) in let r = record_at (IsGone whose legal k.log s.views) d.view.joined j c.0 o.joined c.1 c.2 in let g = r.2.spent in
+        let same : g.0 ≡ e = some-injective g.0 e (sym g.1 ∙ (ap (get_elem? s.views) r.1 ∙ there)) in
+        let h : Spent ≡ Holds k.served = sym g.2 ∙ (ap (λ (x : Doing E). x.stage) same ∙ has) in cc)
 
     back_home : (p : Phase) → InPlace entries s.homes s.views k.log k.served p → (x : S) × (get_elem? s.homes 0 ≡ some (some (Some x))) × (entries x ≡ k.log)
     back_home home h = h

@@ -41,7 +41,7 @@ module _ {S E : Type 0} (entries : S → List E) (whose : E → ℕ) (legal : Li
       let there' : get_elem? s.views other ≡ some e = sym (set_else s.views id other w apart) ∙ there in
       let o = k.known id d at d_live in let p = k.known other e there' e_live in
       let gone : (r : Joined E) → IsGone whose legal k.log s.views r → IsGone whose legal k.log vs' r = λ r g.
-          gone_stays entries whose legal k.log k.log vs other e u there e_live (λ c n. refl) r (gone_stays entries whose legal k.log k.log s.views id d w at d_live (λ c n. refl) r g) in
+      gone_stays entries whose legal k.log k.log vs other e u there e_live (λ c n. refl) r (gone_stays entries whose legal k.log k.log s.views id d w at d_live (λ c n. refl) r g) in
       let ended : IsGone whose legal k.log vs' record { caller = e.view.caller; mine = e.view.mine } = record {
         spent = (u, ap (get_elem? vs') p.caller ∙ set_here vs other u (at_inside vs other e there), refl);
         mine = ap (λ c. own whose c k.log) p.caller ∙ p.mine;
@@ -63,14 +63,14 @@ module _ {S E : Type 0} (entries : S → List E) (whose : E → ℕ) (legal : Li
             stays (λ j f. AtStage k.log k.drawn k.served k.owner k.phase j f.view.seen f.stage) s.views id w (subst (AtStage k.log k.drawn k.served k.owner k.phase id d.view.seen) (sym d_idle) tt) (λ j f _ a. k.staged j f a) j f a);
         known = stays (λ j f. f.stage ≢ Spent → Knows whose legal k.log vs' j f) vs other u (λ lives. absurd (lives refl)) (λ j f _ a.
             stays (λ j f. f.stage ≢ Spent → Knows whose legal k.log vs' j f) s.views id w
-                (λ _. record {
-                  caller = o.caller;
-                  seen = o.seen;
-                  told = p.seen;
-                  mine = o.mine;
-                  joined = All-append P d.view.joined (brings e.view) (λ i x l. gone _ (o.joined i x l)) (All-cons P _ e.view.joined ended (λ i x l. gone _ (p.joined i x l)));
-                  made = λ z. long ∙ o.made z;
-                })
-                (λ j f _ b lives. knows_gone k.log s.views vs' j f long gone (k.known j f b lives)) j f a);
+            (λ _. record {
+              caller = o.caller;
+              seen = o.seen;
+              told = p.seen;
+              mine = o.mine;
+              joined = All-append P d.view.joined (brings e.view) (λ i x l. gone _ (o.joined i x l)) (All-cons P _ e.view.joined ended (λ i x l. gone _ (p.joined i x l)));
+              made = λ z. long ∙ o.made z;
+            })
+            (λ j f _ b lives. knows_gone k.log s.views vs' j f long gone (k.known j f b lives)) j f a);
         no_other = λ c l. k.no_other c (omega arith);
       }

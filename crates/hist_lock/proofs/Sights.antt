@@ -26,16 +26,16 @@ module _ {S E : Type 0} (entries : S → List E) (whose : E → ℕ) (legal : Li
   sees s k i id d xs at idle begins is_legal =
       let live = idle_live d.stage idle in let w : Doing E = saw d xs d.view.mine in let o = k.known id d at live in let same = tickets_set s.views id d w at in let counted = k.counted in
       moved entries whose legal s k id d w at live _ s.homes k.log k.drawn k.served k.owner k.phase (set-get_or s.words i 0 ∙ k.words) k.short k.legal_log (prefix_refl k.log) (λ c n. refl) (omega arith)
-          (same_place entries whose legal s.homes s.views k.log k.served id d w k.phase at (λ e. let h : Idle ≡ Holds k.served = sym idle ∙ e in cc) k.placed)
-          (subst (AtStage k.log k.drawn k.served k.owner k.phase id xs) (sym idle) tt) (λ j e other _ b. b)
-          (λ _. record {
-            caller = o.caller;
-            seen = (begins, is_legal);
-            told = o.told;
-            mine = o.mine;
-            joined = λ n x l. gone_stays entries whose legal k.log k.log s.views id d w at live (λ c m. refl) _ (o.joined n x l);
-            made = λ z. length-set s.views id w ∙ o.made z;
-          })
+      (same_place entries whose legal s.homes s.views k.log k.served id d w k.phase at (λ e. let h : Idle ≡ Holds k.served = sym idle ∙ e in cc) k.placed)
+      (subst (AtStage k.log k.drawn k.served k.owner k.phase id xs) (sym idle) tt) (λ j e other _ b. b)
+      (λ _. record {
+        caller = o.caller;
+        seen = (begins, is_legal);
+        told = o.told;
+        mine = o.mine;
+        joined = λ n x l. gone_stays entries whose legal k.log k.log s.views id d w at live (λ c m. refl) _ (o.joined n x l);
+        made = λ z. length-set s.views id w ∙ o.made z;
+      })
 
   pub watches : (n id : ℕ) (me : Me (Option S) (Doing E)) → me.0.stage ≡ Idle → Allows Rule n id me 2 (λ y. y) (watched entries whose legal (step n 2 0 0 none) me)
   watches n id me idle s k deep at _ = let o = k.known id me.0 at (idle_live me.0.stage idle) in (
@@ -49,7 +49,17 @@ module _ {S E : Type 0} (entries : S → List E) (whose : E → ℕ) (legal : Li
   pub learns : (n id : ℕ) (me : Me (Option S) (Doing E)) → me.0.stage ≡ Idle → Allows Rule n id me 0 (λ y. y) (learned entries whose legal (step n 0 0 0 none) me)
   learns n id me idle s k deep at _ = let d : Doing E = me.0 in let o = k.known id d at (idle_live d.stage idle) in
       dite (dec_le (length d.view.seen) (length d.told))
-        (λ l. (saw d d.told d.view.mine, keeps, tt, sees s k 0 id d d.told at idle o.told.0 o.told.1,
-            (d.told, record { either = inr refl; first = prefix_shorter d.view.seen d.told k.log o.seen.0 o.told.0 l; second = prefix_refl d.told }, o.told.1, refl)))
-        (λ l. (saw d d.view.seen d.view.mine, keeps, tt, sees s k 0 id d d.view.seen at idle o.seen.0 o.seen.1,
-            (d.view.seen, record { either = inl refl; first = prefix_refl d.view.seen; second = prefix_shorter d.told d.view.seen k.log o.told.0 o.seen.0 (omega arith) }, o.seen.1, refl)))
+      (λ l. (
+        saw d d.told d.view.mine,
+        keeps,
+        tt,
+        sees s k 0 id d d.told at idle o.told.0 o.told.1,
+        (d.told, record { either = inr refl; first = prefix_shorter d.view.seen d.told k.log o.seen.0 o.told.0 l; second = prefix_refl d.told }, o.told.1, refl),
+      ))
+      (λ l. (
+        saw d d.view.seen d.view.mine,
+        keeps,
+        tt,
+        sees s k 0 id d d.view.seen at idle o.seen.0 o.seen.1,
+        (d.view.seen, record { either = inl refl; first = prefix_refl d.view.seen; second = prefix_shorter d.told d.view.seen k.log o.told.0 o.seen.0 (omega arith) }, o.seen.1, refl),
+      ))

@@ -60,22 +60,22 @@ module _ {S E : Type 0} (entries : S → List E) (whose : E → ℕ) (legal : Li
             (λ (h : (j ≡ length vs) × (u ≡ e)). subst (λ (f : Doing E). AtStage k.log k.drawn k.served k.owner k.phase j f.view.seen f.stage) h.1 tt) (at_snoc vs u e j there);
         known = λ j e there lives. ⊎_elim
             (λ (h : get_elem? vs j ≡ some e). stays (λ j f. f.stage ≢ Spent → Knows whose legal k.log (vs ++ u ∷ []) j f) s.views id w
-                (λ _. record {
-                  caller = o.caller;
-                  seen = o.seen;
-                  told = o.told;
-                  mine = o.mine;
-                  joined = λ i x l. gone _ (o.joined i x l);
-                  made = λ _. omega arith;
-                })
-                (λ j f other a lively. let b = k.known j f a lively in record {
-                  caller = b.caller;
-                  seen = b.seen;
-                  told = b.told;
-                  mine = b.mine;
-                  joined = λ i x l. gone _ (b.joined i x l);
-                  made = λ z. absurd (other (z ∙ sym is_first));
-                }) j e h lives)
+            (λ _. record {
+              caller = o.caller;
+              seen = o.seen;
+              told = o.told;
+              mine = o.mine;
+              joined = λ i x l. gone _ (o.joined i x l);
+              made = λ _. omega arith;
+            })
+            (λ j f other a lively. let b = k.known j f a lively in record {
+              caller = b.caller;
+              seen = b.seen;
+              told = b.told;
+              mine = b.mine;
+              joined = λ i x l. gone _ (b.joined i x l);
+              made = λ z. absurd (other (z ∙ sym is_first));
+            }) j e h lives)
             (λ (h : (j ≡ length vs) × (u ≡ e)). subst (λ (f : Doing E). Knows whose legal k.log (vs ++ u ∷ []) j f) h.1 (let at_end = h.0 in record {
               caller = omega arith;
               seen = o.seen;

@@ -100,10 +100,10 @@ module _ {S E : Type 0} (entries : S → List E) (whose : E → ℕ) (legal : Li
       let counted = k.counted in let low = tickets_le s.views in let few = k.few in let after : k.served ≤ t = a.1 in let below : t < k.drawn = a.2 in
       let t_is : ticket_of me.0.stage ≡ t = ap ticket_of waits in
       dite (ℕ_discrete (get_or s.words 1 0) (ticket_of me.0.stage % 2 ^ 64))
-        (λ hit. let turn : k.served ≡ t = one_turn k.served t (2 ^ 64) after (omega arith) (sym found ∙ (hit ∙ ap (λ z. z % 2 ^ 64) t_is)) in
-            let r = takes_turn n id me t waits s k at turn in
-            (r.0, takes 0 (Some r.1), r.2, r.3, ((λ _. (r.1, r.4, ap (λ (z : Doing E). (z, (0, Some r.1) ∷ me.1)) r.5)), λ miss. absurd (miss hit))))
-        (λ miss. (me.0, keeps, tt, unmoved entries whose legal s k 1 id me.0 at, ((λ hit. absurd (miss hit)), λ _. refl)))
+      (λ hit. let turn : k.served ≡ t = one_turn k.served t (2 ^ 64) after (omega arith) (sym found ∙ (hit ∙ ap (λ z. z % 2 ^ 64) t_is)) in
+      let r = takes_turn n id me t waits s k at turn in
+      (r.0, takes 0 (Some r.1), r.2, r.3, ((λ _. (r.1, r.4, ap (λ (z : Doing E). (z, (0, Some r.1) ∷ me.1)) r.5)), λ miss. absurd (miss hit))))
+      (λ miss. (me.0, keeps, tt, unmoved entries whose legal s k 1 id me.0 at, ((λ hit. absurd (miss hit)), λ _. refl)))
 
   pub passes : (n id : ℕ) (me : M) (t : ℕ) (y : S) → 0 < n → me.0.stage ≡ Holds t → me.1 ≡ (0, Some y) ∷ [] → entries y ≡ me.0.view.seen
       → Allows Rule n id me 1 (λ z. (z + 1) % 2 ^ 64) (passed (step n 1 1 0 none) me)

@@ -1,20 +1,85 @@
-//! The queue.
-ghost use Rattle.std.specs.Prelude.{◌≡◌, ◌%◌, ◌^◌, ℕ};
-ghost use Rattle.hist_lock.specs.Steps.{staged};
-ghost use Rattle.hist_lock.specs.declared.view.Stage.TheVariants.{Idle, Waits};
+//! The queue: a caller draws a ticket, waits until it is served, has the state, and passes the turn on.
+ghost use Rattle.std.specs.Prelude.{◌≡◌, ◌%◌, ◌^◌, ◌<◌, ◌++◌, ℕ, [], ◌∷◌, length, Some, None};
+ghost use Rattle.hist_lock.specs.Known.{Fits};
+ghost use Rattle.hist_lock.specs.Entries.{own};
+ghost use Rattle.hist_lock.specs.Steps.{staged, saw, TakesTurn};
+ghost use Rattle.hist_lock.specs.declared.view.Stage.TheVariants.{Idle, Waits, Holds};
 
-use crate::rule::{Place, TICKETS};
+use crate::rule::{ENTRIES, Place, SERVED, TICKETS};
 use crate::shared::Shared;
 use crate::state::State;
-use crate::steps::Draw;
+use crate::steps::{Append, Draw, Look, PassOn};
+use std::sync::Wait;
+
+/// The low half of a word, on which threads park.
+pub(crate) fn low_half(word: u64) -> u32 {
+    (word & 0xffff_ffff) as u32
+}
 
 impl<S: State> Shared<S> {
-    pub(crate) fn draw(&self, place: &mut Place<S>) -> u64
+    fn draw(&self, place: &mut Place<S>) -> u64
         requires own { place.old.table_id ≡ self.now.table.shared.table_id }
         requires idle { place.old.me.0.stage ≡ Idle }
         ensures own { (place.new.table_id ≡ place.old.table_id) × (place.new.id ≡ place.old.id) }
         ensures ticket { (t : ℕ) × (result ≡ t % 2 ^ 64) × (place.new.me ≡ (staged place.old.me.0 (Waits t), place.old.me.1)) }
     {
         self.table.shared.fetch_add::<Draw>(place, TICKETS, 1)
+    }
+
+    fn wait_turn<R: Wait>(&self, rt: &R, place: &mut Place<S>, ticket: u64)
+        requires own { place.old.table_id ≡ self.now.table.shared.table_id }
+        requires waits { (t : ℕ) × (ticket ≡ t % 2 ^ 64) × (place.old.me.0.stage ≡ Waits t) }
+        ensures own { (place.new.table_id ≡ place.old.table_id) × (place.new.id ≡ place.old.id) }
+        ensures turn { TakesTurn S.entries S.whose S.legal place.old.me place.new.me }
+    {
+        for _ in rt.forever() {
+            let served = self.table.shared.load::<Look<S>>(place, SERVED);
+            if served == ticket {
+                return;
+            }
+            self.table.shared.park(rt, SERVED, low_half(served));
+        }
+        unreachable!()
+    }
+
+    // The state leaves its slot.
+    fn take(&self, place: &mut Place<S>) -> S
+        requires own { place.old.table_id ≡ self.now.table.shared.table_id }
+        requires holds { (x : S) × (place.old.me.1 ≡ (0, Some x) ∷ []) }
+        ensures own { (place.new.table_id ≡ place.old.table_id) × (place.new.id ≡ place.old.id) }
+        ensures taken { (place.old.me.1 ≡ (0, Some result) ∷ []) × (place.new.me ≡ (place.old.me.0, (0, None) ∷ [])) }
+    {
+        self.table.shared.exchange(place, 0, None).unwrap()
+    }
+
+    fn put(&self, place: &mut Place<S>, state: S)
+        requires own { place.old.table_id ≡ self.now.table.shared.table_id }
+        requires holds { place.old.me.1 ≡ (0, None) ∷ [] }
+        ensures own { (place.new.table_id ≡ place.old.table_id) × (place.new.id ≡ place.old.id) }
+        ensures put { place.new.me ≡ (place.old.me.0, (0, Some state) ∷ []) }
+    {
+        let left = self.table.shared.exchange(place, 0, Some(state));
+        let None = left else { unreachable!() };
+    }
+
+    // The entry that the call made is appended, and those who wait for a change are woken.
+    fn append(&self, place: &mut Place<S>)
+        requires own { place.old.table_id ≡ self.now.table.shared.table_id }
+        requires holds { (t : ℕ) × (y : S) × (e : S.Entry) × (place.old.me.0.stage ≡ Holds t) × (place.old.me.1 ≡ (0, Some y) ∷ []) × (S.entries y ≡ place.old.me.0.view.seen ++ e ∷ []) × (S.whose e ≡ place.old.me.0.view.caller) × S.legal (S.entries y) × (length (S.entries y) < 2 ^ 64) }
+        ensures own { (place.new.table_id ≡ place.old.table_id) × (place.new.id ≡ place.old.id) }
+        ensures appended { (y : S) → place.old.me.1 ≡ (0, Some y) ∷ [] → place.new.me ≡ (saw place.old.me.0 (S.entries y) (own S.whose place.old.me.0.view.caller (S.entries y)), place.old.me.1) }
+    {
+        self.table.shared.fetch_add::<Append<S>>(place, ENTRIES, 1);
+        self.table.shared.wake_all(ENTRIES);
+    }
+
+    fn pass_on(&self, place: &mut Place<S>)
+        requires own { place.old.table_id ≡ self.now.table.shared.table_id }
+        requires holds { (t : ℕ) × (y : S) × (place.old.me.0.stage ≡ Holds t) × (place.old.me.1 ≡ (0, Some y) ∷ []) × (S.entries y ≡ place.old.me.0.view.seen) }
+        ensures own { (place.new.table_id ≡ place.old.table_id) × (place.new.id ≡ place.old.id) }
+        ensures passed { place.new.me ≡ (staged place.old.me.0 Idle, []) }
+    {
+        self.table.shared.fetch_add::<PassOn>(place, SERVED, 1);
+        self.table.shared.wake_all(SERVED);
     }
 }
