@@ -1,4 +1,6 @@
 pub mod Entries
 pub mod Known
+pub mod Calls
+pub mod Passes
 pub mod Rule
 pub mod Steps

@@ -5,6 +5,8 @@
 //! are the caller's own. The lock must not know what a state or an entry is: `State` and `Turn` say all that it uses.
 #![tactic(auto)]
 
+mod calls;
+mod pass;
 mod queue;
 mod rule;
 mod shared;
@@ -12,6 +14,7 @@ mod state;
 mod steps;
 mod view;
 
+pub use pass::Pass;
 pub use shared::Shared;
 pub use state::{State, Turn};
 pub use view::{Joined, View};

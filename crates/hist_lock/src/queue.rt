@@ -1,5 +1,5 @@
 //! The queue: a caller draws a ticket, waits until it is served, has the state, and passes the turn on.
-ghost use Rattle.std.specs.Prelude.{◌≡◌, ◌%◌, ◌^◌, ◌<◌, ◌++◌, ℕ, [], ◌∷◌, length, Some, None};
+ghost use Rattle.std.specs.Prelude.{◌≡◌, ◌%◌, ◌^◌, ◌<◌, ◌++◌, ℕ, [], ◌∷◌, length, Some, None, IsTrue, IsFalse};
 ghost use Rattle.hist_lock.specs.Known.{Fits};
 ghost use Rattle.hist_lock.specs.Entries.{own};
 ghost use Rattle.hist_lock.specs.Steps.{staged, saw, TakesTurn};
@@ -81,5 +81,37 @@ impl<S: State> Shared<S> {
     {
         self.table.shared.fetch_add::<PassOn>(place, SERVED, 1);
         self.table.shared.wake_all(SERVED);
+    }
+
+    /// Waits for the turn, and takes the state.
+    pub(crate) fn enter<R: Wait>(&self, rt: &R, place: &mut Place<S>) -> S
+        requires own { place.old.table_id ≡ self.now.table.shared.table_id }
+        requires ready { (place.old.me.0.stage ≡ Idle) × (place.old.me.1 ≡ []) }
+        ensures own { (place.new.table_id ≡ place.old.table_id) × (place.new.id ≡ place.old.id) }
+        ensures fits { Fits S.entries S.whose S.legal place.old.me.0.view result }
+        ensures turn { (t : ℕ) × (place.new.me ≡ (staged (saw place.old.me.0 (S.entries result) place.old.me.0.view.mine) (Holds t), (0, None) ∷ [])) }
+    {
+        let ticket = self.draw(place);
+        self.wait_turn(rt, place, ticket);
+        self.take(place)
+    }
+
+    /// Gives the state back, with one entry more where `adds` is true, and passes the turn on.
+    pub(crate) fn leave(&self, place: &mut Place<S>, state: S, adds: bool)
+        requires own { place.old.table_id ≡ self.now.table.shared.table_id }
+        requires turn { (t : ℕ) × (place.old.me.0.stage ≡ Holds t) }
+        requires holds { place.old.me.1 ≡ (0, None) ∷ [] }
+        requires adds { IsTrue adds → (e : S.Entry) × (S.entries state ≡ place.old.me.0.view.seen ++ e ∷ []) × (S.whose e ≡ place.old.me.0.view.caller) }
+        requires keeps { IsFalse adds → S.entries state ≡ place.old.me.0.view.seen }
+        requires legal { S.legal (S.entries state) × (length (S.entries state) < 2 ^ 64) }
+        ensures own { (place.new.table_id ≡ place.old.table_id) × (place.new.id ≡ place.old.id) }
+        ensures added { IsTrue adds → place.new.me ≡ (staged (saw place.old.me.0 (S.entries state) (own S.whose place.old.me.0.view.caller (S.entries state))) Idle, []) }
+        ensures kept { IsFalse adds → place.new.me ≡ (staged place.old.me.0 Idle, []) }
+    {
+        self.put(place, state);
+        if adds {
+            self.append(place);
+        }
+        self.pass_on(place);
     }
 }
