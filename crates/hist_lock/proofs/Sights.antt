@@ -10,6 +10,7 @@ use Rattle.atomic_table.specs.Table.{State, Me, step, keeps, stepped, Allows}
 use Rattle.hist_lock.specs.declared.view.Doing.{Doing}
 use Rattle.hist_lock.specs.declared.view.Stage.{Stage}
 use Rattle.hist_lock.specs.declared.view.Stage.TheVariants.{Idle, Holds}
+use Rattle.hist_lock.specs.Entries.{own}
 use Rattle.hist_lock.specs.Rule.{AtStage, Knows, Kept}
 use Rattle.hist_lock.specs.Steps.{watched, learned, saw, IsLonger}
 use Rattle.hist_lock.proofs.Entries.{prefix_refl, prefix_shorter}
@@ -43,7 +44,7 @@ module _ {S E : Type 0} (entries : S → List E) (whose : E → ℕ) (legal : Li
     keeps,
     tt,
     sees s k 2 id me.0 k.log at idle (prefix_refl k.log) k.legal_log,
-    (k.log, ap (λ ws. get_or ws 2 0) k.words, o.seen.0, k.legal_log, refl),
+    (k.log, ap (λ ws. get_or ws 2 0) k.words, o.seen.0, k.legal_log, ap (λ c. own whose c k.log) o.caller ∙ o.mine, refl),
   )
 
   pub learns : (n id : ℕ) (me : Me (Option S) (Doing E)) → me.0.stage ≡ Idle → Allows Rule n id me 0 (λ y. y) (learned entries whose legal (step n 0 0 0 none) me)

@@ -85,7 +85,8 @@ module _ {S E : Type 0} (entries : S → List E) (whose : E → ℕ) (legal : Li
   appended st m r m' = m' ≡ (saw m.0 (held m.1) (own whose m.0.view.caller (held m.1)), m.1)
 
   abbrev pub watched : Step (Option S) → Sat S E → ℕ → Sat S E → Type 0
-  watched st m r m' = (xs : List E) × (r ≡ length xs) × IsPrefix m.0.view.seen xs × legal xs × (m' ≡ (saw m.0 xs m.0.view.mine, m.1))
+  watched st m r m' = (xs : List E) × (r ≡ length xs) × IsPrefix m.0.view.seen xs × legal xs × (own whose m.0.view.caller xs ≡ m.0.view.mine)
+      × (m' ≡ (saw m.0 xs m.0.view.mine, m.1))
 
   abbrev pub learned : Step (Option S) → Sat S E → ℕ → Sat S E → Type 0
   learned st m r m' = (xs : List E) × IsLonger m.0.view.seen m.0.told xs × legal xs × (m' ≡ (saw m.0 xs m.0.view.mine, m.1))

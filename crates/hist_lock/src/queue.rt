@@ -1,5 +1,6 @@
 //! The queue: a caller draws a ticket, waits until it is served, has the state, and passes the turn on.
 ghost use Rattle.std.specs.Prelude.{◌≡◌, ◌%◌, ◌^◌, ◌<◌, ◌++◌, ℕ, [], ◌∷◌, length, Some, None, IsTrue, IsFalse};
+ghost use mathlib.Core.List.{IsPrefix};
 ghost use Rattle.hist_lock.specs.Known.{Fits};
 ghost use Rattle.hist_lock.specs.Entries.{own};
 ghost use Rattle.hist_lock.specs.Steps.{staged, saw, TakesTurn};
@@ -8,7 +9,7 @@ ghost use Rattle.hist_lock.specs.declared.view.Stage.TheVariants.{Idle, Waits, H
 use crate::rule::{ENTRIES, Place, SERVED, TICKETS};
 use crate::shared::Shared;
 use crate::state::State;
-use crate::steps::{Append, Draw, Look, PassOn};
+use crate::steps::{Append, Draw, Look, PassOn, Watch};
 use std::sync::Wait;
 
 /// The low half of a word, on which threads park.
@@ -113,5 +114,42 @@ impl<S: State> Shared<S> {
             self.append(place);
         }
         self.pass_on(place);
+    }
+
+    // Sees the history as it is, and says how many entries it has.
+    fn see(&self, place: &mut Place<S>) -> u64
+        requires own { place.old.table_id ≡ self.now.table.shared.table_id }
+        requires idle { place.old.me.0.stage ≡ Idle }
+        ensures own { (place.new.table_id ≡ place.old.table_id) × (place.new.id ≡ place.old.id) }
+        ensures begins { IsPrefix place.old.me.0.view.seen place.new.me.0.view.seen }
+        ensures count { result ≡ length place.new.me.0.view.seen }
+        ensures legal { S.legal place.new.me.0.view.seen }
+        ensures mine { own S.whose place.old.me.0.view.caller place.new.me.0.view.seen ≡ place.old.me.0.view.mine }
+        ensures rest { place.new.me ≡ (saw place.old.me.0 place.new.me.0.view.seen place.old.me.0.view.mine, place.old.me.1) }
+    {
+        self.table.shared.load::<Watch<S>>(place, ENTRIES)
+    }
+
+    /// Waits until the history has more entries than these, and says how many.
+    pub(crate) fn watch<R: Wait>(&self, rt: &R, place: &mut Place<S>, count: u64) -> u64
+        requires own { place.old.table_id ≡ self.now.table.shared.table_id }
+        requires idle { place.old.me.0.stage ≡ Idle }
+        requires count { count ≡ length place.old.me.0.view.seen }
+        ensures own { (place.new.table_id ≡ place.old.table_id) × (place.new.id ≡ place.old.id) }
+        ensures begins { IsPrefix place.old.me.0.view.seen place.new.me.0.view.seen }
+        ensures more { count < length place.new.me.0.view.seen }
+        ensures count { result ≡ length place.new.me.0.view.seen }
+        ensures legal { S.legal place.new.me.0.view.seen }
+        ensures mine { own S.whose place.old.me.0.view.caller place.new.me.0.view.seen ≡ place.old.me.0.view.mine }
+        ensures rest { place.new.me ≡ (saw place.old.me.0 place.new.me.0.view.seen place.old.me.0.view.mine, place.old.me.1) }
+    {
+        for _ in rt.forever() {
+            let found = self.see(place);
+            if found != count {
+                return found;
+            }
+            self.table.shared.park(rt, ENTRIES, low_half(found));
+        }
+        unreachable!()
     }
 }
