@@ -7,4 +7,4 @@ pub mod Appends
 pub mod Sights
 pub mod Splits
 pub mod Joins
-pub mod Ends
+pub mod Bounds

@@ -6,6 +6,7 @@
 #![tactic(auto)]
 
 mod calls;
+mod ends;
 mod pass;
 mod queue;
 mod rule;

@@ -1,5 +1,6 @@
 //! The lock.
-ghost use Rattle.std.specs.Prelude.{◌≡◌};
+ghost use Rattle.std.specs.Prelude.{◌≡◌, ℕ, ◌<◌, ◌≤◌, IfOk, IfErr};
+ghost use Rattle.std.specs.List.{All};
 
 use crate::rule::OneHistory;
 use crate::state::State;

@@ -103,3 +103,12 @@ module _ {S E : Type 0} (entries : S → List E) (whose : E → ℕ) (legal : Li
       → Final (Seen Rule id d) ws xs → (x : S) × (get_elem? xs 0 ≡ some (Some x)) × Ends entries whose legal d.view x
   closes id d ws xs idle first all f = let s = f.0 in let k = f.1.0 in let at = f.1.1 in let h = back_home s k id d at idle first all k.phase k.placed in
       (h.0, f.4 0 (Some h.0) h.1, ends s k id d at idle first all h.0 h.2)
+
+  -- the same, at what the slot then gives
+  pub closed : (id : ℕ) (d : Doing E) (ws : List ℕ) (xs : List (Option S)) (r : Option S) → d.stage ≡ Idle → d.view.caller ≡ 0 → ((c : ℕ) → 0 < c → c ≤ d.view.made → Contains (callers d.view.joined) c)
+      → Final (Seen Rule id d) ws xs → get_elem? xs 0 ≡ some r → (x : S) × (r ≡ Some x) × Ends entries whose legal d.view x
+  closed id d ws xs r idle first all f found = let h = closes id d ws xs idle first all f in (h.0, some-injective r (Some h.0) (sym found ∙ h.1), h.2)
+
+  pub closed_at : (id : ℕ) (d : Doing E) (ws : List ℕ) (xs : List (Option S)) (x : S) → d.stage ≡ Idle → d.view.caller ≡ 0 → ((c : ℕ) → 0 < c → c ≤ d.view.made → Contains (callers d.view.joined) c)
+      → Final (Seen Rule id d) ws xs → get_elem? xs 0 ≡ some (Some x) → Ends entries whose legal d.view x
+  closed_at id d ws xs x idle first all f found = let h = closed id d ws xs (Some x) idle first all f found in let e = h.1 in let same : h.0 ≡ x = cc in subst (Ends entries whose legal d.view) same h.2
