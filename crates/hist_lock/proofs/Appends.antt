@@ -1,16 +1,14 @@
 -- The step that appends an entry keeps the rule.
-use Rattle.std.proofs.Common.{◌≡◌, ◌≢◌, ℕ, ◌+◌, ◌%◌, ◌^◌, ◌<◌, ◌≤◌, List, [], ◌∷◌, ◌++◌, length, set, get_or, sym, refl, ap, ◌∙◌, subst, arith, length-set, length-append, Option, Some}
+use Rattle.std.proofs.Common.{◌≡◌, ◌≢◌, ℕ, ◌+◌, ◌%◌, ◌^◌, ◌<◌, List, [], ◌∷◌, ◌++◌, length, set, get_or, sym, refl, ap, ◌∙◌, subst, arith, length-set, length-append, Option, Some}
 use Rattle.std.proofs.Math.Nat.{mod-eq_of_lt}
 use mathlib.Core.List.{IsPrefix}
-use mathlib.Core.Option.{some, none}
-use lib.ListN.{get_elem?}
-use Rattle.atomic_table.specs.Table.{State, Me, step, keeps, stepped, Allows}
+use mathlib.Core.Option.{none}
+use Rattle.atomic_table.specs.Table.{Me, step, keeps, Allows}
 use Rattle.atomic_table.proofs.Lists.{set_here}
 use Rattle.hist_lock.specs.declared.view.Doing.{Doing}
-use Rattle.hist_lock.specs.declared.view.Stage.{Stage}
 use Rattle.hist_lock.specs.declared.view.Stage.TheVariants.{Holds}
 use Rattle.hist_lock.specs.Entries.{own}
-use Rattle.hist_lock.specs.Rule.{out, AtStage, Knows, Kept}
+use Rattle.hist_lock.specs.Rule.{out, AtStage, Kept}
 use Rattle.hist_lock.specs.Steps.{appended, saw, held}
 use Rattle.hist_lock.proofs.Entries.{prefix_refl, prefix_trans, own_other}
 use Rattle.hist_lock.proofs.Seats.{at_inside, tickets_set}

@@ -1,5 +1,5 @@
 -- The rule at the start and at the end.
-use Rattle.std.proofs.Common.{◌≡◌, ◌≢◌, ◌⊎◌, ℕ, zero, suc, eqb, ◌+◌, ◌%◌, ◌^◌, ◌<◌, ◌≤◌, List, [], ◌∷◌, ◌++◌, cond, map, length, sym, refl, ap, ◌∙◌, subst, ⊎_elim, inl, inr, arith, get_or, Option, Some, ne_eqb, eq-eqb}
+use Rattle.std.proofs.Common.{◌≡◌, ◌≢◌, ℕ, zero, suc, ◌^◌, ◌<◌, ◌≤◌, List, [], ◌∷◌, cond, length, sym, refl, ap, ◌∙◌, subst, arith, get_or, Option, Some, ne_eqb, eq-eqb}
 use Rattle.std.proofs.lemmas.List.Elements.{All-nil, All-head, All-tail}
 use Rattle.std.specs.List.{All, Contains}
 use mathlib.Core.Logic.{dite}
@@ -11,11 +11,10 @@ use Rattle.atomic_table.specs.Table.{State, opening, Final, Seen}
 use Rattle.hist_lock.specs.declared.view.View.{View}
 use Rattle.hist_lock.specs.declared.view.Joined.{Joined}
 use Rattle.hist_lock.specs.declared.view.Doing.{Doing}
-use Rattle.hist_lock.specs.declared.view.Stage.{Stage}
 use Rattle.hist_lock.specs.declared.view.Stage.TheVariants.{Idle, Holds, Spent}
 use Rattle.hist_lock.specs.Entries.{own}
-use Rattle.hist_lock.specs.Known.{callers, Fits, Ends}
-use Rattle.hist_lock.specs.Rule.{Phase, home, out, tickets, first_seat, AtStage, IsGone, Knows, InPlace, Kept}
+use Rattle.hist_lock.specs.Known.{callers, Fits}
+use Rattle.hist_lock.specs.Rule.{Phase, home, out, first_seat, AtStage, IsGone, Knows, InPlace, Kept}
 use Rattle.hist_lock.proofs.Entries.{prefix_refl}
 use Rattle.hist_lock.proofs.Seats.{at_inside}
 use Rattle.hist_lock.proofs.Kept.{idle_live}
@@ -45,6 +44,12 @@ only_seat K a k (suc j) d at = absurd (some-ne-none d (sym at))
 module _ {S E : Type 0} (entries : S → List E) (whose : E → ℕ) (legal : List E → Type 0) where
   abbrev Rule : State (Option S) (Doing E) → Type 0
   Rule = Kept entries whose legal
+
+  -- what is so of the state at the end
+  pub record Ends (v : View E) (x : S) : Type 0 where
+    pub fits : Fits entries whose legal v x
+    pub joined : All (λ (r : Joined E). own whose r.caller (entries x) ≡ r.mine) v.joined
+    pub no_other : (c : ℕ) → c ≢ v.caller → (Contains (callers v.joined) c → ⊥) → own whose c (entries x) ≡ []
 
   pub opens : (x : S) (n : ℕ) → n ≡ length (entries x) → n < 2 ^ 64 → legal (entries x) → All (λ e. whose e ≡ 0) (entries x) → Rule (opening (0 ∷ 0 ∷ n ∷ []) (Some x ∷ []) (first_seat (entries x)))
   opens x n long short is_legal first = let log : List E = entries x in record {
@@ -88,7 +93,7 @@ module _ {S E : Type 0} (entries : S → List E) (whose : E → ℕ) (legal : Li
     back_home home h = h
     back_home (out j) h = absurd (none_out j h.0 h.1 h.2)
 
-    ends : (x : S) → entries x ≡ k.log → Ends entries whose legal d.view x
+    ends : (x : S) → entries x ≡ k.log → Ends d.view x
     ends x is = let o = k.known id d at (idle_live d.stage idle) in let is_first : id ≡ 0 = sym o.caller ∙ first in let many = o.made is_first in record {
       fits = record {
         is_legal = subst legal (sym is) k.legal_log;
@@ -100,15 +105,15 @@ module _ {S E : Type 0} (entries : S → List E) (whose : E → ℕ) (legal : Li
     }
 
   pub closes : (id : ℕ) (d : Doing E) (ws : List ℕ) (xs : List (Option S)) → d.stage ≡ Idle → d.view.caller ≡ 0 → ((c : ℕ) → 0 < c → c ≤ d.view.made → Contains (callers d.view.joined) c)
-      → Final (Seen Rule id d) ws xs → (x : S) × (get_elem? xs 0 ≡ some (Some x)) × Ends entries whose legal d.view x
+      → Final (Seen Rule id d) ws xs → (x : S) × (get_elem? xs 0 ≡ some (Some x)) × Ends d.view x
   closes id d ws xs idle first all f = let s = f.0 in let k = f.1.0 in let at = f.1.1 in let h = back_home s k id d at idle first all k.phase k.placed in
       (h.0, f.4 0 (Some h.0) h.1, ends s k id d at idle first all h.0 h.2)
 
   -- the same, at what the slot then gives
   pub closed : (id : ℕ) (d : Doing E) (ws : List ℕ) (xs : List (Option S)) (r : Option S) → d.stage ≡ Idle → d.view.caller ≡ 0 → ((c : ℕ) → 0 < c → c ≤ d.view.made → Contains (callers d.view.joined) c)
-      → Final (Seen Rule id d) ws xs → get_elem? xs 0 ≡ some r → (x : S) × (r ≡ Some x) × Ends entries whose legal d.view x
+      → Final (Seen Rule id d) ws xs → get_elem? xs 0 ≡ some r → (x : S) × (r ≡ Some x) × Ends d.view x
   closed id d ws xs r idle first all f found = let h = closes id d ws xs idle first all f in (h.0, some-injective r (Some h.0) (sym found ∙ h.1), h.2)
 
   pub closed_at : (id : ℕ) (d : Doing E) (ws : List ℕ) (xs : List (Option S)) (x : S) → d.stage ≡ Idle → d.view.caller ≡ 0 → ((c : ℕ) → 0 < c → c ≤ d.view.made → Contains (callers d.view.joined) c)
-      → Final (Seen Rule id d) ws xs → get_elem? xs 0 ≡ some (Some x) → Ends entries whose legal d.view x
-  closed_at id d ws xs x idle first all f found = let h = closed id d ws xs (Some x) idle first all f found in let e = h.1 in let same : h.0 ≡ x = cc in subst (Ends entries whose legal d.view) same h.2
+      → Final (Seen Rule id d) ws xs → get_elem? xs 0 ≡ some (Some x) → Ends d.view x
+  closed_at id d ws xs x idle first all f found = let h = closed id d ws xs (Some x) idle first all f found in let e = h.1 in let same : h.0 ≡ x = cc in subst (Ends d.view) same h.2

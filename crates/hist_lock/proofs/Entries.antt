@@ -1,11 +1,9 @@
 -- Beginnings of lists, and the entries of one caller.
-use Rattle.std.proofs.Common.{◌≡◌, ◌≢◌, ℕ, eqb, ◌+◌, ◌<◌, ◌≤◌, ◌⊎◌, List, [], ◌∷◌, ◌++◌, cond, length, sym, refl, ap, ◌∙◌, subst, inl, inr, ⊎_elim, arith, append_assoc, length-append, ne_eqb, eq-eqb}
+use Rattle.std.proofs.Common.{◌≡◌, ◌≢◌, ℕ, eqb, ◌≤◌, List, [], ◌∷◌, ◌++◌, cond, length, sym, refl, ap, ◌∙◌, arith, append_assoc, length-append, ne_eqb, eq-eqb}
 use Rattle.std.proofs.lemmas.List.{append-nil}
 use Rattle.std.proofs.lemmas.List.Elements.{filter-append}
-use Rattle.std.specs.List.{filter}
 use mathlib.Core.List.{IsPrefix}
 use Rattle.hist_lock.specs.Entries.{own}
-use Rattle.hist_lock.specs.Steps.{IsLonger}
 
 module _ {E : Type 0} where
   pub prefix_refl : (xs : List E) → IsPrefix xs xs

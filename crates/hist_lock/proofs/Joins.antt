@@ -1,6 +1,5 @@
 -- The join of two seats keeps the rule.
-use Rattle.std.proofs.Common.{◌≡◌, ◌≢◌, ℕ, ◌+◌, ◌%◌, ◌^◌, ◌<◌, ◌≤◌, List, [], ◌∷◌, ◌++◌, length, set, sym, refl, ap, ◌∙◌, subst, arith, length-set, Option, Some}
-use Rattle.std.proofs.lemmas.List.{set_comm}
+use Rattle.std.proofs.Common.{◌≡◌, ◌≢◌, ℕ, List, length, set, sym, refl, ap, ◌∙◌, subst, arith, length-set, Option}
 use Rattle.std.proofs.lemmas.List.Elements.{All-append, All-cons}
 use mathlib.Core.Option.{some}
 use lib.ListN.{get_elem?}
@@ -8,14 +7,12 @@ use Rattle.atomic_table.specs.Table.{State, Joins}
 use Rattle.atomic_table.proofs.Lists.{set_else, set_here}
 use Rattle.hist_lock.specs.declared.view.Joined.{Joined}
 use Rattle.hist_lock.specs.declared.view.Doing.{Doing}
-use Rattle.hist_lock.specs.declared.view.Stage.{Stage}
 use Rattle.hist_lock.specs.declared.view.Stage.TheVariants.{Idle, Holds, Spent}
 use Rattle.hist_lock.specs.Entries.{own}
 use Rattle.hist_lock.specs.Rule.{ticket, AtStage, IsGone, Knows, Kept}
 use Rattle.hist_lock.specs.Steps.{absorbed, brings, spent_seat}
-use Rattle.hist_lock.proofs.Entries.{prefix_refl}
 use Rattle.hist_lock.proofs.Seats.{at_inside, stays, tickets_set}
-use Rattle.hist_lock.proofs.Kept.{idle_live, gone_stays, knows_stays, same_place, moved}
+use Rattle.hist_lock.proofs.Kept.{idle_live, gone_stays, same_place}
 
 module _ {S E : Type 0} (entries : S → List E) (whose : E → ℕ) (legal : List E → Type 0) where
   abbrev Rule : State (Option S) (Doing E) → Type 0

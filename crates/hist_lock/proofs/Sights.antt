@@ -1,18 +1,17 @@
 -- The loads by which a seat sees more of the history keep the rule.
-use Rattle.std.proofs.Common.{◌≡◌, ◌≢◌, ℕ, ◌+◌, ◌%◌, ◌^◌, ◌<◌, ◌≤◌, List, [], ◌∷◌, length, set, get_or, sym, refl, ap, ◌∙◌, subst, arith, length-set, Option, Some, inl, inr}
+use Rattle.std.proofs.Common.{◌≡◌, ℕ, List, length, set, get_or, sym, refl, ap, ◌∙◌, subst, arith, length-set, Option, inl, inr}
 use Rattle.std.proofs.lemmas.List.{set-get_or}
 use mathlib.Core.Logic.{dite}
 use native.Mathlib.Decide.{dec_le}
 use mathlib.Core.List.{IsPrefix}
 use mathlib.Core.Option.{some, none}
 use lib.ListN.{get_elem?}
-use Rattle.atomic_table.specs.Table.{State, Me, step, keeps, stepped, Allows}
+use Rattle.atomic_table.specs.Table.{State, Me, step, keeps, Allows}
 use Rattle.hist_lock.specs.declared.view.Doing.{Doing}
-use Rattle.hist_lock.specs.declared.view.Stage.{Stage}
 use Rattle.hist_lock.specs.declared.view.Stage.TheVariants.{Idle, Holds}
 use Rattle.hist_lock.specs.Entries.{own}
-use Rattle.hist_lock.specs.Rule.{AtStage, Knows, Kept}
-use Rattle.hist_lock.specs.Steps.{watched, learned, saw, IsLonger}
+use Rattle.hist_lock.specs.Rule.{AtStage, Kept}
+use Rattle.hist_lock.specs.Steps.{watched, learned, saw}
 use Rattle.hist_lock.proofs.Entries.{prefix_refl, prefix_shorter}
 use Rattle.hist_lock.proofs.Seats.{tickets_set}
 use Rattle.hist_lock.proofs.Kept.{idle_live, gone_stays, same_place, moved}

@@ -1,20 +1,18 @@
 -- The split of a seat keeps the rule.
-use Rattle.std.proofs.Common.{◌≡◌, ◌≢◌, ◌⊎◌, ℕ, zero, suc, ◌+◌, ◌-◌, ◌%◌, ◌^◌, ◌<◌, ◌≤◌, List, [], ◌∷◌, ◌++◌, length, set, sym, refl, ap, ◌∙◌, subst, ⊎_elim, inl, inr, arith, le_refl, length-set, length-append, Option, Some}
+use Rattle.std.proofs.Common.{◌≡◌, ◌≢◌, ◌⊎◌, ℕ, zero, suc, ◌+◌, ◌^◌, ◌<◌, List, [], ◌∷◌, ◌++◌, length, set, sym, refl, ap, ◌∙◌, subst, ⊎_elim, inl, inr, arith, length-set, length-append, Option}
 use Rattle.std.proofs.lemmas.List.Elements.{All-nil}
 use mathlib.Core.Option.{some, some-injective, some-ne-none}
 use mathlib.Core.Option as maybe
 use lib.ListN.{get_elem?}
 use Rattle.atomic_table.specs.Table.{State, Splits}
-use Rattle.atomic_table.proofs.Lists.{at_longer, set_here}
+use Rattle.atomic_table.proofs.Lists.{at_longer}
 use Rattle.hist_lock.specs.declared.view.Joined.{Joined}
 use Rattle.hist_lock.specs.declared.view.Doing.{Doing}
-use Rattle.hist_lock.specs.declared.view.Stage.{Stage}
 use Rattle.hist_lock.specs.declared.view.Stage.TheVariants.{Idle, Holds, Spent}
 use Rattle.hist_lock.specs.Rule.{Phase, home, out, ticket, tickets, AtStage, IsGone, Knows, InPlace, Kept}
 use Rattle.hist_lock.specs.Steps.{parent_seat, child_seat}
-use Rattle.hist_lock.proofs.Entries.{prefix_refl}
 use Rattle.hist_lock.proofs.Seats.{at_inside, stays, tickets_set}
-use Rattle.hist_lock.proofs.Kept.{idle_live, gone_stays, knows_stays, same_place}
+use Rattle.hist_lock.proofs.Kept.{idle_live, gone_stays, same_place}
 
 at_snoc : {A : Type 0} (l : List A) (a b : A) (j : ℕ) → get_elem? (l ++ a ∷ []) j ≡ some b → (get_elem? l j ≡ some b) ⊎ ((j ≡ length l) × (a ≡ b))
 at_snoc [] a b zero e = inr (refl, some-injective a b e)

@@ -1,16 +1,12 @@
 -- The steps of the queue keep the rule.
-use Rattle.std.proofs.Common.{◌≡◌, ◌≢◌, ℕ, eqb, ◌+◌, ◌%◌, ◌^◌, ◌<◌, ◌≤◌, List, [], ◌∷◌, cond, length, set, get_or, sym, refl, ap, ◌∙◌, subst, arith, length-set, Option, Some, ne_eqb, eq-eqb}
+use Rattle.std.proofs.Common.{◌≡◌, ℕ, eqb, ◌+◌, ◌%◌, ◌^◌, ◌<◌, List, [], ◌∷◌, cond, length, set, get_or, sym, refl, ap, ◌∙◌, arith, Option, ne_eqb, eq-eqb}
 use Rattle.std.proofs.Math.Nat.{mod-add-mod}
-use mathlib.Core.Option.{some, none, some-injective}
-use mathlib.Core.Option as maybe
-use lib.ListN.{get_elem?}
-use Rattle.atomic_table.specs.Table.{State, Me, step, keeps, takes, gives, stepped, Allows}
-use Rattle.atomic_table.proofs.Lists.{set_else}
+use mathlib.Core.Option.{none}
+use Rattle.atomic_table.specs.Table.{State, Me, step, keeps, Allows}
 use Rattle.hist_lock.specs.declared.view.Doing.{Doing}
 use Rattle.hist_lock.specs.declared.view.Stage.{Stage}
 use Rattle.hist_lock.specs.declared.view.Stage.TheVariants.{Idle, Waits, Holds, Spent}
-use Rattle.hist_lock.specs.Entries.{own}
-use Rattle.hist_lock.specs.Rule.{Phase, home, out, ticket, tickets, AtStage, IsGone, Knows, InPlace, Kept}
+use Rattle.hist_lock.specs.Rule.{Phase, ticket, AtStage, Kept}
 use Rattle.hist_lock.specs.Steps.{drew, staged}
 use Rattle.hist_lock.proofs.Entries.{prefix_refl}
 use Rattle.hist_lock.proofs.Seats.{tickets_set}

@@ -6,16 +6,15 @@ use mathlib.Core.Logic.{dite}
 use native.Mathlib.Decide.{ℕ_discrete}
 use mathlib.Core.List.{IsPrefix}
 use mathlib.Core.Option.{some, none, some-injective}
-use mathlib.Core.Option as maybe
 use lib.ListN.{get_elem?}
-use Rattle.atomic_table.specs.Table.{State, Me, step, keeps, takes, gives, put_back, stepped, Allows}
-use Rattle.atomic_table.proofs.Lists.{set_else, set_here, one_turn}
+use Rattle.atomic_table.specs.Table.{State, Me, step, keeps, takes, gives, put_back, Allows}
+use Rattle.atomic_table.proofs.Lists.{set_here, one_turn}
 use Rattle.hist_lock.specs.declared.view.Doing.{Doing}
 use Rattle.hist_lock.specs.declared.view.Stage.{Stage}
 use Rattle.hist_lock.specs.declared.view.Stage.TheVariants.{Idle, Waits, Holds, Spent}
 use Rattle.hist_lock.specs.Entries.{own}
 use Rattle.hist_lock.specs.Known.{Fits}
-use Rattle.hist_lock.specs.Rule.{Phase, home, out, ticket, tickets, AtStage, IsGone, Knows, InPlace, Kept}
+use Rattle.hist_lock.specs.Rule.{Phase, home, out, ticket, AtStage, InPlace, Kept}
 use Rattle.hist_lock.specs.Steps.{looked, passed, staged, saw, ticket_of}
 use Rattle.hist_lock.proofs.Entries.{prefix_refl}
 use Rattle.hist_lock.proofs.Seats.{at_inside, tickets_set, tickets_le}

@@ -1,6 +1,5 @@
--- What a caller knows of a state, and of the end.
-use Rattle.std.specs.Prelude.{◌≡◌, ◌≢◌, ℕ, List, [], map}
-use Rattle.std.specs.List.{All, Contains}
+-- What a caller knows of a state.
+use Rattle.std.specs.Prelude.{◌≡◌, ℕ, List, map}
 use mathlib.Core.List.{IsPrefix}
 use Rattle.hist_lock.specs.declared.view.View.{View}
 use Rattle.hist_lock.specs.declared.view.Joined.{Joined}
@@ -16,9 +15,3 @@ module _ {S E : Type 0} (entries : S → List E) (whose : E → ℕ) (legal : Li
     pub is_legal : legal (entries x)
     pub seen : IsPrefix v.seen (entries x)
     pub mine : own whose v.caller (entries x) ≡ v.mine
-
-  -- the same, and so are those of each caller that was joined; there are no others'
-  pub record Ends (v : View E) (x : S) : Type 0 where
-    pub fits : Fits v x
-    pub joined : All (λ (r : Joined E). own whose r.caller (entries x) ≡ r.mine) v.joined
-    pub no_other : (c : ℕ) → c ≢ v.caller → (Contains (callers v.joined) c → ⊥) → own whose c (entries x) ≡ []

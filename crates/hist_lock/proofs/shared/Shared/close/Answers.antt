@@ -1,4 +1,4 @@
-use Rattle.std.proofs.Common.{rules, ◌≡◌, ◌∙◌, ap, Some, List, ℕ, subst, sym}
+use Rattle.std.proofs.Common.{rules, ◌∙◌, ap}
 use mathlib.Core.Option.{some}
 use Rattle.hist_lock.proofs.Bounds.{closed, closed_at}
 use Rattle.hist_lock.proofs.shared.Shared.close.Goals as goal

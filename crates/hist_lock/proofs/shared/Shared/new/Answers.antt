@@ -1,4 +1,4 @@
-use Rattle.std.proofs.Common.{rules, ◌≡◌, ◌∷◌, [], ap, sym, ◌∙◌, subst, List, ℕ, Option, Some, length}
+use Rattle.std.proofs.Common.{rules, ◌≡◌, ◌∷◌, [], sym, subst, List, Option, Some}
 use Rattle.atomic_table.specs.Table.{opening}
 use Rattle.hist_lock.specs.Rule.{Kept, first_seat}
 use Rattle.hist_lock.proofs.Bounds.{opens}
