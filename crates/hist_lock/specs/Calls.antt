@@ -1,7 +1,7 @@
 -- What a turn asks, and what it tells.
 use Rattle.std.specs.Prelude.{◌≡◌, ◌⊎◌, ℕ, List, [], ◌∷◌, ◌++◌}
 use Rattle.hist_lock.specs.declared.view.View.{View}
-use Rattle.hist_lock.specs.Known.{Fits}
+use Rattle.hist_lock.specs.Known.{Fits, IsSameCaller}
 
 -- no entry came, or one of caller c's, which is then one more of its own
 abbrev pub Adds : {E : Type 0} → (E → ℕ) → ℕ → List E → List E → List E → List E → Type 0
@@ -22,4 +22,4 @@ module _ {S E A : Type 0} (entries : S → List E) (whose : E → ℕ) (legal : 
     pub fits_now : Fits entries whose legal w after
     pub seen : w.seen ≡ entries after
     pub adds : Adds whose v.caller (entries before) (entries after) v.mine w.mine
-    pub rest : w ≡ record v { seen = w.seen; mine = w.mine }
+    pub rest : IsSameCaller v w

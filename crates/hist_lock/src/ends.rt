@@ -2,7 +2,7 @@
 ghost use Rattle.std.specs.Prelude.{◌≡◌, ◌≢◌, ℕ, ◌<◌, ◌≤◌, [], IfOk, IfErr};
 ghost use Rattle.std.specs.List.{All, Contains};
 ghost use Rattle.hist_lock.specs.Entries.{own};
-ghost use Rattle.hist_lock.specs.Known.{callers, Fits};
+ghost use Rattle.hist_lock.specs.Known.{callers, Fits, AllJoined};
 ghost use Rattle.hist_lock.specs.Rule.{first_view};
 ghost use Rattle.hist_lock.specs.Passes.{view, IsPassOf};
 
@@ -46,7 +46,7 @@ impl<S: State> Shared<S> {
     pub fn close(self, pass: Pass<S>) -> S
         requires own { IsPassOf self pass }
         requires first { (view pass).caller ≡ 0 }
-        requires all { (c : ℕ) → 0 < c → c ≤ (view pass).made → Contains (callers (view pass).joined) c }
+        requires all { AllJoined (view pass) }
         ensures fits { Fits S.entries S.whose S.legal (view pass) result }
         ensures joined { All (λ r. own S.whose r.caller (S.entries result) ≡ r.mine) (view pass).joined }
         ensures no_other { (c : ℕ) → c ≢ (view pass).caller → (Contains (callers (view pass).joined) c → ⊥) → own S.whose c (S.entries result) ≡ [] }

@@ -19,3 +19,6 @@ pub use pass::Pass;
 pub use shared::Shared;
 pub use state::{State, Turn};
 pub use view::{Joined, View};
+
+#[cfg(test)]
+mod tests;
