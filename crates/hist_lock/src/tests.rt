@@ -10,6 +10,7 @@ mod book;
 use crate::{Pass, Shared};
 use book::{Book, IsAlone, Mark, Read, Write};
 use std::alloc::{AllocError, Global};
+use std::process::Abort;
 use std::sync::Wait;
 use std::test::Fail;
 use std::thread::{Threads, join};
@@ -77,4 +78,111 @@ fn a_look_sees_both_marks_in_order(rt: HostRuntime) -> Result<(), Fail> {
     assert_eq!(rt; seen.as_slice(), marks.as_slice());
     assert_eq!(rt; book.marks.as_slice(), marks.as_slice());
     Ok(())
+}
+
+// Writes so many marks, with the texts 0, 1, 2 and so on.
+fn work<R: Wait>(
+    rt: &R,
+    lock: &Shared<Book>,
+    mut pass: Pass<Book>,
+    by: u32,
+    times: u64,
+) -> Pass<Book>
+    requires own { IsPassOf lock.now pass }
+    requires by { (view pass).caller ≡ by }
+    ensures own { IsPassOf lock.now result }
+    ensures same { IsSameCaller (view pass) (view result) }
+{
+    for text in 0..times {
+        write(rt, lock, &mut pass, by, text);
+    }
+    pass
+}
+
+// The first caller and `more` others work, each in a thread of its own.
+fn crew<R: Threads + Wait + Sync>(
+    rt: &R,
+    lock: &Shared<Book>,
+    mut first: Pass<Book>,
+    made: u32,
+    more: u32,
+    times: u64,
+) -> Pass<Book>
+    requires own { IsPassOf lock.now first }
+    requires first { ((view first).caller ≡ 0) × ((view first).made ≡ made) }
+    requires room { made + more + 1 < 2 ^ 32 }
+    ensures own { IsPassOf lock.now result }
+    ensures first { ((view result).caller ≡ 0) × ((view result).made ≡ made + more) }
+    ensures kept { (c : ℕ) → Contains (callers (view first).joined) c → Contains (callers (view result).joined) c }
+    ensures joined { (c : ℕ) → made < c → c ≤ made + more → Contains (callers (view result).joined) c }
+{
+    if more == 0 {
+        return work(rt, lock, first, 0, times);
+    }
+    let by = made + 1;
+    let next = lock.split(&mut first);
+    let (mut first, next) = join(
+        rt,
+        move || -> Pass<Book>
+            requires { IsSync R.row × IsPassOf lock.now first × ((view first).caller ≡ 0) × ((view first).made ≡ by) × (0 < more) × (by + (more - 1) + 1 < 2 ^ 32) }
+            ensures { IsPassOf lock.entry.now result × ((view result).caller ≡ 0) × ((view result).made ≡ by + (more - 1)) × ((c : ℕ) → Contains (callers (view first).joined) c → Contains (callers (view result).joined) c) × ((c : ℕ) → by < c → c ≤ by + (more - 1) → Contains (callers (view result).joined) c) }
+        { crew(rt, lock, first, by, more - 1, times) },
+        move || -> Pass<Book>
+            requires { IsPassOf lock.now next × ((view next).caller ≡ by) }
+            ensures { IsPassOf lock.entry.now result × IsSameCaller (view next) (view result) }
+        { work(rt, lock, next, by, times) },
+    );
+    lock.join(&mut first, next);
+    first
+}
+
+// The texts of one caller, in the order of the book.
+fn texts_of(alloc: Global, marks: &[Mark], by: u32) -> Result<Vec<u64>, AllocError> {
+    let mut texts = Vec::new(alloc);
+    for mark in marks {
+        if mark.by == by {
+            texts.push(mark.text)?;
+        }
+    }
+    Ok(texts)
+}
+
+// Each caller's marks stand in the book once and in order, and the book has no others.
+fn works_in_threads<R: Threads + Wait + Abort + Sync>(
+    rt: &R,
+    alloc: Global,
+    others: u32,
+    times: u64,
+) -> Result<(), Fail>
+    requires { others + 1 < 2 ^ 32 }
+{
+    let (lock, first) = opened(alloc)?;
+    let first = crew(rt, &lock, first, 0, others, times);
+    let book = lock.close(first);
+    let marks = book.marks.as_slice();
+    let mut wanted = Vec::new(alloc);
+    for text in 0..times {
+        wanted.push(text)?;
+    }
+    for by in 0..others {
+        let texts = texts_of(alloc, marks, by)?;
+        assert_eq!(rt; texts.as_slice(), wanted.as_slice(), "caller {by}");
+    }
+    let last = texts_of(alloc, marks, others)?;
+    assert_eq!(rt; last.as_slice(), wanted.as_slice(), "the last caller");
+    assert_eq!(rt;
+        marks.len() as u64,
+        (u64::from(others) + 1).wrapping_mul(times)
+    );
+    Ok(())
+}
+
+#[test]
+fn two_threads_write_each_mark_once_and_in_order(rt: HostRuntime) -> Result<(), Fail> {
+    works_in_threads(&rt, rt.alloc(), 1, 5000)
+}
+
+#[test]
+fn eight_threads_write_each_mark_once_and_in_order(rt: HostRuntime) -> Result<(), Fail> {
+    works_in_threads(&rt, rt.alloc(), 7, 5000)
 }
