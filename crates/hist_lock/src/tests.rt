@@ -186,3 +186,80 @@ fn two_threads_write_each_mark_once_and_in_order(rt: HostRuntime) -> Result<(), 
 fn eight_threads_write_each_mark_once_and_in_order(rt: HostRuntime) -> Result<(), Fail> {
     works_in_threads(&rt, rt.alloc(), 7, 5000)
 }
+
+// Waits until the book has another caller's mark.
+fn wait_for_another<R: Wait>(rt: &R, lock: &Shared<Book>, pass: &mut Pass<Book>, by: u32)
+    requires own { IsPassOf lock.now pass.old }
+    requires by { (view pass.old).caller ≡ by }
+    ensures own { IsPassOf lock.now pass.new }
+    ensures same { IsSameCaller (view pass.old) (view pass.new) }
+{
+    for _ in rt.forever() {
+        if !lock.turn(rt, pass, IsAlone { by }) {
+            return;
+        }
+        lock.wait_change(rt, pass);
+    }
+    unreachable!()
+}
+
+// Looks many times before it writes, and waits for the answer.
+fn ask<R: Wait>(rt: &R, lock: &Shared<Book>, mut pass: Pass<Book>) -> Pass<Book>
+    requires own { IsPassOf lock.now pass }
+    requires by { (view pass).caller ≡ 0 }
+    ensures own { IsPassOf lock.now result }
+    ensures same { IsSameCaller (view pass) (view result) }
+{
+    for _ in 0..1000 {
+        lock.turn(rt, &mut pass, IsAlone { by: 0 });
+    }
+    write(rt, lock, &mut pass, 0, 1);
+    wait_for_another(rt, lock, &mut pass, 0);
+    pass
+}
+
+// Waits for a first mark, and then writes one.
+fn answer<R: Wait>(rt: &R, lock: &Shared<Book>, mut pass: Pass<Book>) -> Pass<Book>
+    requires own { IsPassOf lock.now pass }
+    requires by { ((view pass).caller ≡ 1) × ((view pass).seen ≡ []) }
+    ensures own { IsPassOf lock.now result }
+    ensures same { IsSameCaller (view pass) (view result) }
+{
+    lock.wait_change(rt, &mut pass);
+    write(rt, lock, &mut pass, 1, 2);
+    pass
+}
+
+#[test]
+fn a_wait_ends_with_another_threads_mark(rt: HostRuntime) -> Result<(), Fail> {
+    let (lock, mut first) = opened(rt.alloc())?;
+    let next = lock.split(&mut first);
+    let shared = &lock;
+    let (mut first, next) = join(
+        &rt,
+        || -> Pass<Book>
+            requires { IsPassOf shared.now first × ((view first).caller ≡ 0) }
+            ensures { IsPassOf shared.entry.now result × IsSameCaller (view first) (view result) }
+        { ask(&rt, shared, first) },
+        || -> Pass<Book>
+            requires { IsPassOf shared.now next × ((view next).caller ≡ 1) × ((view next).seen ≡ []) }
+            ensures { IsPassOf shared.entry.now result × IsSameCaller (view next) (view result) }
+        { answer(&rt, shared, next) },
+    );
+    lock.join(&mut first, next);
+    let book = lock.close(first);
+    let marks = [
+        Mark {
+            by: 0,
+            number: 0,
+            text: 1,
+        },
+        Mark {
+            by: 1,
+            number: 1,
+            text: 2,
+        },
+    ];
+    assert_eq!(rt; book.marks.as_slice(), marks.as_slice());
+    Ok(())
+}
