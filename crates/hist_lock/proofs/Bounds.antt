@@ -13,10 +13,11 @@ use Rattle.hist_lock.specs.declared.view.Joined.{Joined}
 use Rattle.hist_lock.specs.declared.view.Doing.{Doing}
 use Rattle.hist_lock.specs.declared.view.Stage.TheVariants.{Idle, Holds, Spent}
 use Rattle.hist_lock.specs.Entries.{own}
-use Rattle.hist_lock.specs.Known.{callers, Fits}
+use Rattle.hist_lock.specs.Known.{Fits}
 use Rattle.hist_lock.specs.Rule.{Phase, home, out, first_seat, AtStage, IsGone, Knows, InPlace, Kept}
+use Rattle.hist_lock.specs.Callers.{callers}
 use Rattle.hist_lock.proofs.Entries.{prefix_refl}
-use Rattle.hist_lock.proofs.Seats.{at_inside}
+use Rattle.hist_lock.proofs.Seats.{at_inside, at_same}
 use Rattle.hist_lock.proofs.Kept.{idle_live}
 
 module _ {E : Type 0} (whose : E → ℕ) where
@@ -83,10 +84,10 @@ module _ {S E : Type 0} (entries : S → List E) (whose : E → ℕ) (legal : Li
     none_out j e there has = let o = k.known id d at (idle_live d.stage idle) in let is_first : id ≡ 0 = sym o.caller ∙ first in
         let inside = at_inside s.views j e there in let many = o.made is_first in
         dite (ℕ_discrete j 0)
-        (λ z. let same : d ≡ e = some-injective d e (sym at ∙ (ap (get_elem? s.views) (is_first ∙ sym z) ∙ there)) in
+        (λ z. let same : d ≡ e = at_same s.views id j d e (is_first ∙ sym z) at there in
         let h : Idle ≡ Holds k.served = sym idle ∙ (ap (λ (x : Doing E). x.stage) same ∙ has) in cc)
         (λ n. let c = all j (omega arith) (omega arith) in let r = record_at (IsGone whose legal k.log s.views) d.view.joined j c.0 o.joined c.1 c.2 in let g = r.2.spent in
-        let same : g.0 ≡ e = some-injective g.0 e (sym g.1 ∙ (ap (get_elem? s.views) r.1 ∙ there)) in
+        let same : g.0 ≡ e = at_same s.views r.0.caller j g.0 e r.1 g.1 there in
         let h : Spent ≡ Holds k.served = sym g.2 ∙ (ap (λ (x : Doing E). x.stage) same ∙ has) in cc)
 
     back_home : (p : Phase) → InPlace entries s.homes s.views k.log k.served p → (x : S) × (get_elem? s.homes 0 ≡ some (some (Some x))) × (entries x ≡ k.log)

@@ -10,7 +10,8 @@ use Rattle.hist_lock.specs.declared.view.Doing.{Doing}
 use Rattle.hist_lock.specs.declared.view.Stage.TheVariants.{Idle, Holds, Spent}
 use Rattle.hist_lock.specs.Entries.{own}
 use Rattle.hist_lock.specs.Rule.{ticket, AtStage, IsGone, Knows, Kept}
-use Rattle.hist_lock.specs.Steps.{absorbed, brings, spent_seat}
+use Rattle.hist_lock.specs.Steps.{absorbed, spent_seat}
+use Rattle.hist_lock.specs.Callers.{brings}
 use Rattle.hist_lock.proofs.Seats.{at_inside, stays, tickets_set}
 use Rattle.hist_lock.proofs.Kept.{idle_live, gone_stays, same_place}
 

@@ -15,7 +15,7 @@ use Rattle.hist_lock.specs.Entries.{own}
 use Rattle.hist_lock.specs.Rule.{Phase, home, out, tickets, AtStage, IsGone, Knows, InPlace, Kept}
 use Rattle.hist_lock.specs.Steps.{staged}
 use Rattle.hist_lock.proofs.Entries.{prefix_trans}
-use Rattle.hist_lock.proofs.Seats.{at_inside, stays}
+use Rattle.hist_lock.proofs.Seats.{at_inside, at_same, stays}
 
 pub idle_live : (st : Stage) → st ≡ Idle → st ≢ Spent
 idle_live st e f = let h : Idle ≡ Spent = sym e ∙ f in cc
@@ -31,7 +31,7 @@ module _ {S E : Type 0} (entries : S → List E) (whose : E → ℕ) (legal : Li
   pub gone_stays : (log log' : List E) (vs : List (Doing E)) (id : ℕ) (d w : Doing E) → get_elem? vs id ≡ some d → d.stage ≢ Spent → ((c : ℕ) → c ≢ id → own whose c log' ≡ own whose c log)
       → (r : Joined E) → IsGone whose legal log vs r → IsGone whose legal log' (set vs id w) r
   gone_stays log log' vs id d w at live same r g =
-      let other : r.caller ≢ id = λ e. live (ap (λ (x : Doing E). x.stage) (some-injective d g.spent.0 (sym at ∙ (ap (get_elem? vs) (sym e) ∙ g.spent.1))) ∙ g.spent.2) in record {
+      let other : r.caller ≢ id = λ e. live (ap (λ (x : Doing E). x.stage) (at_same vs id r.caller d g.spent.0 (sym e) at g.spent.1) ∙ g.spent.2) in record {
         spent = (g.spent.0, set_else vs id r.caller w other ∙ g.spent.1, g.spent.2);
         mine = same r.caller other ∙ g.mine;
       }
@@ -96,5 +96,5 @@ module _ {S E : Type 0} (entries : S → List E) (whose : E → ℕ) (legal : Li
       → InPlace entries homes vs log served p → InPlace entries homes (set vs id w) log served p
   same_place homes vs log served id d w home at waits h = h
   same_place homes vs log served id d w (out j) at waits h =
-      let other : j ≢ id = λ e. waits (ap (λ (x : Doing E). x.stage) (some-injective d h.0 (sym at ∙ (ap (get_elem? vs) (sym e) ∙ h.1))) ∙ h.2) in
+      let other : j ≢ id = λ e. waits (ap (λ (x : Doing E). x.stage) (at_same vs id j d h.0 (sym e) at h.1) ∙ h.2) in
       (h.0, set_else vs id j w other ∙ h.1, h.2)

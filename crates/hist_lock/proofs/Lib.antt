@@ -8,4 +8,4 @@ pub mod Sights
 pub mod Splits
 pub mod Joins
 pub mod Bounds
-pub mod Callers
+pub mod Joinings

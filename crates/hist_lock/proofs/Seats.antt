@@ -1,5 +1,5 @@
 -- Seats, and how many of them have a ticket.
-use Rattle.std.proofs.Common.{◌≡◌, ◌≢◌, ℕ, zero, suc, ◌+◌, ◌<◌, ◌≤◌, List, [], ◌∷◌, length, set, sym, ap, subst, ⊎_elim, arith}
+use Rattle.std.proofs.Common.{◌≡◌, ◌≢◌, ℕ, zero, suc, ◌+◌, ◌<◌, ◌≤◌, List, [], ◌∷◌, length, set, sym, ap, ◌∙◌, subst, ⊎_elim, arith}
 use mathlib.Core.Option.{some, some-injective, some-ne-none}
 use lib.ListN.{get_elem?}
 use Rattle.atomic_table.proofs.Lists.{at_set}
@@ -12,6 +12,10 @@ pub at_inside : {A : Type 0} (l : List A) (i : ℕ) (a : A) → get_elem? l i �
 at_inside [] i a e = absurd (some-ne-none a (sym e))
 at_inside (x ∷ xs) zero a e = omega arith
 at_inside (x ∷ xs) (suc i) a e = let h = at_inside xs i a e in omega arith
+
+-- a place of a list has one element
+pub at_same : {A : Type 0} (l : List A) (i j : ℕ) (a b : A) → i ≡ j → get_elem? l i ≡ some a → get_elem? l j ≡ some b → a ≡ b
+at_same l i j a b e p q = some-injective a b (sym p ∙ (ap (get_elem? l) e ∙ q))
 
 -- what holds of each seat, where one seat changes
 pub stays : {A : Type 0} (K : ℕ → A → Type 0) (vs : List A) (id : ℕ) (w : A) → K id w → ((j : ℕ) (d : A) → j ≢ id → get_elem? vs j ≡ some d → K j d)

@@ -54,12 +54,12 @@ module _ {S E : Type 0} (entries : S → List E) (whose : E → ℕ) (legal : Li
         keeps,
         tt,
         sees s k 0 id d d.told at idle o.told.0 o.told.1,
-        (d.told, record { either = inr refl; first = prefix_shorter d.view.seen d.told k.log o.seen.0 o.told.0 l; second = prefix_refl d.told }, o.told.1, refl),
+        (d.told, record { is_either = inr refl; first = prefix_shorter d.view.seen d.told k.log o.seen.0 o.told.0 l; second = prefix_refl d.told }, o.told.1, refl),
       ))
       (λ l. (
         saw d d.view.seen d.view.mine,
         keeps,
         tt,
         sees s k 0 id d d.view.seen at idle o.seen.0 o.seen.1,
-        (d.view.seen, record { either = inl refl; first = prefix_refl d.view.seen; second = prefix_shorter d.told d.view.seen k.log o.told.0 o.seen.0 (omega arith) }, o.seen.1, refl),
+        (d.view.seen, record { is_either = inl refl; first = prefix_refl d.view.seen; second = prefix_shorter d.told d.view.seen k.log o.told.0 o.seen.0 (omega arith) }, o.seen.1, refl),
       ))

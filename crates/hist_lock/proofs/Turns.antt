@@ -5,7 +5,7 @@ use Rattle.std.proofs.Math.Nat.{mod-add-mod}
 use mathlib.Core.Logic.{dite}
 use native.Mathlib.Decide.{ℕ_discrete}
 use mathlib.Core.List.{IsPrefix}
-use mathlib.Core.Option.{some, none, some-injective}
+use mathlib.Core.Option.{some, none}
 use lib.ListN.{get_elem?}
 use Rattle.atomic_table.specs.Table.{State, Me, step, keeps, takes, gives, put_back, Allows}
 use Rattle.atomic_table.proofs.Lists.{set_here, one_turn}
@@ -17,7 +17,7 @@ use Rattle.hist_lock.specs.Known.{Fits}
 use Rattle.hist_lock.specs.Rule.{Phase, home, out, ticket, AtStage, InPlace, Kept}
 use Rattle.hist_lock.specs.Steps.{looked, passed, staged, saw, ticket_of}
 use Rattle.hist_lock.proofs.Entries.{prefix_refl}
-use Rattle.hist_lock.proofs.Seats.{at_inside, tickets_set, tickets_le}
+use Rattle.hist_lock.proofs.Seats.{at_inside, at_same, tickets_set, tickets_le}
 use Rattle.hist_lock.proofs.Kept.{waits_live, holds_live, gone_stays, restaged, moved, unmoved}
 
 module _ {E : Type 0} where
@@ -53,7 +53,7 @@ module _ {S E : Type 0} (entries : S → List E) (whose : E → ℕ) (legal : Li
       let e : Doing E = h.0 in
       let a : AtStage k.log k.drawn k.served k.owner k.phase j e.view.seen (Holds k.served) = subst (AtStage k.log k.drawn k.served k.owner k.phase j e.view.seen) h.2 (k.staged j e h.1) in
       let same : j ≡ id = sym a.0 ∙ mine in
-      let f : d ≡ e = some-injective d e (sym at ∙ (ap (get_elem? s.views) (sym same) ∙ h.1)) in
+      let f : d ≡ e = at_same s.views id j d e (sym same) at h.1 in
       let g : Waits t ≡ Holds k.served = sym waits ∙ (ap (λ (z : Doing E). z.stage) f ∙ h.2) in absurd (cc)
 
   takes_turn : (n id : ℕ) (me : M) (t : ℕ) → me.0.stage ≡ Waits t → (s : State (Option S) (Doing E)) (k : Rule s) → get_elem? s.views id ≡ some me.0 → k.served ≡ t

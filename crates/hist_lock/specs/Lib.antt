@@ -1,5 +1,6 @@
 pub mod Entries
 pub mod Known
+pub mod Callers
 pub mod Calls
 pub mod Passes
 pub mod Rule

@@ -6,11 +6,11 @@ use mathlib.Core.Option.{some}
 use mathlib.Core.Option as maybe
 use lib.ListN.{get_elem?}
 use Rattle.atomic_table.specs.Table.{State}
-use Rattle.hist_lock.specs.declared.view.View.{View}
 use Rattle.hist_lock.specs.declared.view.Joined.{Joined}
 use Rattle.hist_lock.specs.declared.view.Doing.{Doing}
 use Rattle.hist_lock.specs.declared.view.Stage.{Stage}
 use Rattle.hist_lock.specs.declared.view.Stage.TheVariants.{Idle, Waits, Holds, Spent}
+use Rattle.hist_lock.specs.Callers.{first_view}
 use Rattle.hist_lock.specs.Entries.{own}
 
 -- the state lies in the slot, or is out with a seat
@@ -31,10 +31,7 @@ module _ {E : Type 0} where
   tickets [] = 0
   tickets (d ∷ ds) = ticket d.stage + tickets ds
 
-  -- the first caller has seen the opening list, which is its own
-  abbrev pub first_view : List E → View E
-  first_view log = record { caller = 0; seen = log; mine = log; joined = []; made = 0 }
-
+  -- the first caller's seat
   abbrev pub first_seat : List E → Doing E
   first_seat log = record { stage = Idle; view = first_view log; told = log }
 

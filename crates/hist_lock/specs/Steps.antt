@@ -1,13 +1,13 @@
 -- What each step tells its seat: of the seat m before, the word r found, and the seat m' after.
-use Rattle.std.specs.Prelude.{◌≡◌, ◌≢◌, ◌⊎◌, ℕ, ◌+◌, ◌%◌, ◌^◌, List, [], ◌∷◌, ◌++◌, length, Option, Some, None}
+use Rattle.std.specs.Prelude.{◌≡◌, ◌≢◌, ℕ, ◌%◌, ◌^◌, List, [], ◌∷◌, ◌++◌, length, Option, Some, None}
 use mathlib.Core.List.{IsPrefix}
 use Rattle.atomic_table.specs.Table.{Me, Step, rest}
 use Rattle.hist_lock.specs.declared.view.View.{View}
-use Rattle.hist_lock.specs.declared.view.Joined.{Joined}
 use Rattle.hist_lock.specs.declared.view.Doing.{Doing}
 use Rattle.hist_lock.specs.declared.view.Stage.{Stage}
 use Rattle.hist_lock.specs.declared.view.Stage.TheVariants.{Idle, Waits, Holds, Spent}
-use Rattle.hist_lock.specs.Entries.{own}
+use Rattle.hist_lock.specs.Callers.{parent, child, brings}
+use Rattle.hist_lock.specs.Entries.{own, IsLonger}
 use Rattle.hist_lock.specs.Known.{Fits}
 
 abbrev pub ticket_of : Stage → ℕ
@@ -15,12 +15,6 @@ ticket_of Idle = 0
 ticket_of (Waits t) = t
 ticket_of (Holds t) = t
 ticket_of Spent = 0
-
--- xs is one of the two lists, and both are where it begins
-pub record IsLonger {E : Type 0} (one other xs : List E) : Type 0 where
-  pub either : (xs ≡ one) ⊎ (xs ≡ other)
-  pub first : IsPrefix one xs
-  pub second : IsPrefix other xs
 
 module _ {E : Type 0} where
   abbrev pub staged : Doing E → Stage → Doing E
@@ -37,17 +31,7 @@ module _ {E : Type 0} where
   abbrev pub spent_seat : Doing E
   spent_seat = record { stage = Spent; view = spent_view; told = [] }
 
-  -- one pass more was split from it
-  abbrev pub parent : View E → View E
-  parent v = record v { made = v.made + 1 }
-
-  abbrev pub child : View E → View E
-  child v = record { caller = v.made + 1; seen = v.seen; mine = []; joined = []; made = 0 }
-
-  -- the callers that a pass brings when it is joined
-  abbrev pub brings : View E → List (Joined E)
-  brings u = record { caller = u.caller; mine = u.mine } ∷ u.joined
-
+  -- the seats after a split and after a join
   abbrev pub parent_seat : Doing E → Doing E
   parent_seat d = record d { view = parent d.view }
 

@@ -1,11 +1,11 @@
 //! What callers do with the lock.
 ghost use Rattle.std.specs.Prelude.{◌≡◌, ◌^◌, ◌<◌, ◌≤◌, ◌+◌, ◌++◌, length};
 ghost use mathlib.Core.List.{IsPrefix};
-ghost use Rattle.hist_lock.specs.Entries.{own};
+ghost use Rattle.hist_lock.specs.Entries.{own, IsLonger};
 ghost use Rattle.hist_lock.specs.Known.{Fits};
 ghost use Rattle.hist_lock.specs.Calls.{May, Turned};
-ghost use Rattle.hist_lock.specs.Steps.{IsLonger, parent, child, brings};
 ghost use Rattle.hist_lock.specs.Passes.{view, IsPassOf};
+ghost use Rattle.hist_lock.specs.Callers.{parent, child, brings};
 
 use crate::pass::Pass;
 use crate::rule::TICKETS;

@@ -2,9 +2,9 @@
 ghost use Rattle.std.specs.Prelude.{◌≡◌, ◌≢◌, ℕ, ◌<◌, ◌≤◌, [], IfOk, IfErr};
 ghost use Rattle.std.specs.List.{All, Contains};
 ghost use Rattle.hist_lock.specs.Entries.{own};
-ghost use Rattle.hist_lock.specs.Known.{callers, Fits, AllJoined};
-ghost use Rattle.hist_lock.specs.Rule.{first_view};
+ghost use Rattle.hist_lock.specs.Known.{Fits};
 ghost use Rattle.hist_lock.specs.Passes.{view, IsPassOf};
+ghost use Rattle.hist_lock.specs.Callers.{callers, AllJoined, first_view};
 
 use crate::pass::Pass;
 use crate::shared::Shared;

@@ -13,8 +13,10 @@ use crate::steps::{Append, Draw, Look, PassOn, Watch};
 use std::sync::Wait;
 
 /// The low half of a word, on which threads park.
-pub(crate) fn low_half(word: u64) -> u32 {
-    (word & 0xffff_ffff) as u32
+pub(crate) fn low_half(word: u64) -> u32
+    ensures { result ≡ word % 2 ^ 32 }
+{
+    (word % 0x1_0000_0000) as u32
 }
 
 impl<S: State> Shared<S> {

@@ -1,9 +1,9 @@
 ghost use Rattle.std.specs.Prelude.{◌≡◌, ℕ, ◌+◌, ◌<◌, ◌≤◌, ◌^◌, ◌-◌, [], IfOk};
 ghost use Rattle.std.specs.List.{Contains};
 ghost use Rattle.std.specs.Thread.{IsSync};
-ghost use Rattle.hist_lock.specs.Known.{callers, IsSameCaller};
+ghost use Rattle.hist_lock.specs.Known.{IsSameCaller};
 ghost use Rattle.hist_lock.specs.Passes.{view, IsPassOf};
-ghost use Rattle.hist_lock.specs.Rule.{first_view};
+ghost use Rattle.hist_lock.specs.Callers.{callers, first_view};
 
 mod book;
 

@@ -1,12 +1,11 @@
-use Rattle.std.proofs.Common.{◌≡◌, ◌≢◌, ℕ, ◌+◌, ◌<◌, ◌≤◌, ◌++◌, sym, ap, ◌∙◌, subst, arith}
+use Rattle.std.proofs.Common.{◌≡◌, ℕ, ◌+◌, ◌<◌, ◌≤◌, ◌++◌, sym, ap, ◌∙◌, subst, arith}
 use Rattle.std.specs.List.{Contains}
 use mathlib.Core.Logic.{dite}
 use native.Mathlib.Decide.{ℕ_discrete}
 use Rattle.hist_lock.specs.declared.view.View.{View}
-use Rattle.hist_lock.specs.Known.{callers}
 use Rattle.hist_lock.specs.Passes.{view}
-use Rattle.hist_lock.specs.Steps.{brings}
-use Rattle.hist_lock.proofs.Callers.{joined_before, joined_now}
+use Rattle.hist_lock.specs.Callers.{callers, brings}
+use Rattle.hist_lock.proofs.Joinings.{joined_before, joined_now}
 use Rattle.hist_lock.proofs.tests.+crew+fn-crew-join+arg2.Goals as goal
 
 module _ {E : Type 0} (v w u z : View E) (joined : z.joined ≡ w.joined ++ brings u) where

@@ -1,12 +1,11 @@
 -- The callers that were joined.
-use Rattle.std.proofs.Common.{◌≡◌, ℕ, List, [], ◌∷◌, ◌++◌, sym, refl, subst, arith}
+use Rattle.std.proofs.Common.{◌≡◌, ℕ, List, ◌++◌, sym, refl, subst, arith}
 use Rattle.std.proofs.lemmas.List.{map-append}
 use Rattle.std.proofs.lemmas.List.Elements.{Contains-append_left, Contains-append_right}
 use Rattle.std.specs.List.{Contains}
 use Rattle.hist_lock.specs.declared.view.View.{View}
 use Rattle.hist_lock.specs.declared.view.Joined.{Joined}
-use Rattle.hist_lock.specs.Known.{callers}
-use Rattle.hist_lock.specs.Steps.{brings}
+use Rattle.hist_lock.specs.Callers.{callers, brings}
 
 module _ {E : Type 0} where
   pub callers-append : (js ks : List (Joined E)) → callers (js ++ ks) ≡ callers js ++ callers ks

@@ -1,0 +1,30 @@
+-- The first caller, those whose passes are split from its pass, and those that have ended.
+use Rattle.std.specs.Prelude.{ℕ, ◌+◌, ◌<◌, ◌≤◌, List, [], ◌∷◌, map}
+use Rattle.std.specs.List.{Contains}
+use Rattle.hist_lock.specs.declared.view.View.{View}
+use Rattle.hist_lock.specs.declared.view.Joined.{Joined}
+
+module _ {E : Type 0} where
+  -- the first caller has seen the opening list, which is its own
+  abbrev pub first_view : List E → View E
+  first_view log = record { caller = 0; seen = log; mine = log; joined = []; made = 0 }
+
+  -- a caller from whose pass one pass more was split
+  abbrev pub parent : View E → View E
+  parent v = record v { made = v.made + 1 }
+
+  -- the caller of that pass, which has the next number, has seen as much, and has made no entry
+  abbrev pub child : View E → View E
+  child v = record { caller = v.made + 1; seen = v.seen; mine = []; joined = []; made = 0 }
+
+  -- the callers that a pass brings when it is joined: its own and those that were joined into it
+  abbrev pub brings : View E → List (Joined E)
+  brings u = record { caller = u.caller; mine = u.mine } ∷ u.joined
+
+  -- the numbers of callers
+  abbrev pub callers : List (Joined E) → List ℕ
+  callers joined = map (λ r. r.caller) joined
+
+  -- each pass that was split was joined
+  abbrev pub AllJoined : View E → Type 0
+  AllJoined v = (c : ℕ) → 0 < c → c ≤ v.made → Contains (callers v.joined) c
