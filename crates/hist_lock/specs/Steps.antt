@@ -1,5 +1,5 @@
 -- What each step tells its seat: of the seat m before, the word r found, and the seat m' after.
-use Rattle.std.specs.Prelude.{◌≡◌, ◌≢◌, ℕ, ◌%◌, ◌^◌, List, [], ◌∷◌, ◌++◌, length, Option, Some, None}
+use Rattle.std.specs.Prelude.{◌≡◌, ◌≢◌, ℕ, ◌<◌, ◌%◌, ◌^◌, List, [], ◌∷◌, ◌++◌, length, Option, Some, None}
 use mathlib.Core.List.{IsPrefix}
 use Rattle.atomic_table.specs.Table.{Me, Step, rest}
 use Rattle.hist_lock.specs.declared.view.View.{View}
@@ -45,8 +45,26 @@ abbrev pub Sat : Type 0 → Type 0 → Type 0
 Sat S E = Me (Option S) (Doing E)
 
 module _ {S E : Type 0} where
+  -- the seat has a ticket, which words show as r
+  abbrev pub TakesTicket : Sat S E → ℕ → Sat S E → Type 0
+  TakesTicket m r m' = (t : ℕ) × (r ≡ t % 2 ^ 64) × (m' ≡ (staged m.0 (Waits t), m.1))
+
+  abbrev pub HasTicket : Sat S E → ℕ → Type 0
+  HasTicket m r = (t : ℕ) × (r ≡ t % 2 ^ 64) × (m.0.stage ≡ Waits t)
+
+  abbrev pub HasTurn : Sat S E → Type 0
+  HasTurn m = (t : ℕ) × (m.0.stage ≡ Holds t)
+
+  -- the seat holds the slot, with this in it
+  abbrev pub Carries : Sat S E → Option S → Type 0
+  Carries m x = m.1 ≡ (0, x) ∷ []
+
+  -- it has seen more, and nothing else has changed
+  abbrev pub HasSeen : Sat S E → Sat S E → Type 0
+  HasSeen m m' = m' ≡ (saw m.0 m'.0.view.seen m.0.view.mine, m.1)
+
   abbrev pub drew : Step (Option S) → Sat S E → ℕ → Sat S E → Type 0
-  drew st m r m' = (t : ℕ) × (r ≡ t % 2 ^ 64) × (m' ≡ (staged m.0 (Waits t), m.1))
+  drew st m r m' = TakesTicket m r m'
 
   abbrev pub passed : Step (Option S) → Sat S E → ℕ → Sat S E → Type 0
   passed st m r m' = m' ≡ (staged m.0 Idle, rest m.1)
@@ -58,12 +76,25 @@ module _ {S E : Type 0} (entries : S → List E) (whose : E → ℕ) (legal : Li
   held ((k, None) ∷ xs) = []
   held ((k, Some x) ∷ xs) = entries x
 
+  -- the state has one legal entry more than was seen, which is the caller's
+  pub record IsOneMore (v : View E) (y : S) : Type 0 where
+    pub entry : E
+    pub entries_are : entries y ≡ v.seen ++ entry ∷ []
+    pub callers_own : whose entry ≡ v.caller
+    pub is_legal : legal (entries y)
+    pub short : length (entries y) < 2 ^ 64
+
+  -- the seat holds the state x, which fits what the caller knew
   abbrev pub TakesTurn : Sat S E → Sat S E → Type 0
   TakesTurn m m' = (x : S) × Fits entries whose legal m.0.view x
       × (m' ≡ (staged (saw m.0 (entries x) m.0.view.mine) (Holds (ticket_of m.0.stage)), (0, Some x) ∷ m.1))
 
   abbrev pub looked : Step (Option S) → Sat S E → ℕ → Sat S E → Type 0
   looked st m r m' = (r ≡ ticket_of m.0.stage % 2 ^ 64 → TakesTurn m m') × (r ≢ ticket_of m.0.stage % 2 ^ 64 → m' ≡ m)
+
+  -- the seat has seen all entries of the state that it holds, and the caller's own among them
+  abbrev pub seeing : Doing E → S → Doing E
+  seeing d y = saw d (entries y) (own whose d.view.caller (entries y))
 
   abbrev pub appended : Step (Option S) → Sat S E → ℕ → Sat S E → Type 0
   appended st m r m' = m' ≡ (saw m.0 (held m.1) (own whose m.0.view.caller (held m.1)), m.1)

@@ -3,8 +3,9 @@ ghost use Rattle.std.specs.Prelude.{◌≡◌, ◌%◌, ◌^◌, ◌<◌, ◌++�
 ghost use mathlib.Core.List.{IsPrefix};
 ghost use Rattle.hist_lock.specs.Known.{Fits};
 ghost use Rattle.hist_lock.specs.Entries.{own};
-ghost use Rattle.hist_lock.specs.Steps.{staged, saw, TakesTurn};
-ghost use Rattle.hist_lock.specs.declared.view.Stage.TheVariants.{Idle, Waits, Holds};
+ghost use Rattle.hist_lock.specs.Passes.{IsSameSeat, IsSeatOf};
+ghost use Rattle.hist_lock.specs.Steps.{Carries, HasSeen, HasTicket, HasTurn, IsOneMore, TakesTicket, TakesTurn, seeing, staged};
+ghost use Rattle.hist_lock.specs.declared.view.Stage.TheVariants.{Idle};
 
 use crate::rule::{ENTRIES, Place, SERVED, TICKETS};
 use crate::shared::Shared;
@@ -21,18 +22,18 @@ pub(crate) fn low_half(word: u64) -> u32
 
 impl<S: State> Shared<S> {
     fn draw(&self, place: &mut Place<S>) -> u64
-        requires own { place.old.table_id ≡ self.now.table.shared.table_id }
+        requires own { IsSeatOf self.now place.old }
         requires idle { place.old.me.0.stage ≡ Idle }
-        ensures own { (place.new.table_id ≡ place.old.table_id) × (place.new.id ≡ place.old.id) }
-        ensures ticket { (t : ℕ) × (result ≡ t % 2 ^ 64) × (place.new.me ≡ (staged place.old.me.0 (Waits t), place.old.me.1)) }
+        ensures own { IsSameSeat place.old place.new }
+        ensures ticket { TakesTicket place.old.me result place.new.me }
     {
         self.table.shared.fetch_add::<Draw>(place, TICKETS, 1)
     }
 
     fn wait_turn<R: Wait>(&self, rt: &R, place: &mut Place<S>, ticket: u64)
-        requires own { place.old.table_id ≡ self.now.table.shared.table_id }
-        requires waits { (t : ℕ) × (ticket ≡ t % 2 ^ 64) × (place.old.me.0.stage ≡ Waits t) }
-        ensures own { (place.new.table_id ≡ place.old.table_id) × (place.new.id ≡ place.old.id) }
+        requires own { IsSeatOf self.now place.old }
+        requires waits { HasTicket place.old.me ticket }
+        ensures own { IsSameSeat place.old place.new }
         ensures turn { TakesTurn S.entries S.whose S.legal place.old.me place.new.me }
     {
         for _ in rt.forever() {
@@ -47,18 +48,19 @@ impl<S: State> Shared<S> {
 
     // The state leaves its slot.
     fn take(&self, place: &mut Place<S>) -> S
-        requires own { place.old.table_id ≡ self.now.table.shared.table_id }
-        requires holds { (x : S) × (place.old.me.1 ≡ (0, Some x) ∷ []) }
-        ensures own { (place.new.table_id ≡ place.old.table_id) × (place.new.id ≡ place.old.id) }
-        ensures taken { (place.old.me.1 ≡ (0, Some result) ∷ []) × (place.new.me ≡ (place.old.me.0, (0, None) ∷ [])) }
+        requires own { IsSeatOf self.now place.old }
+        requires holds { (x : S) × Carries place.old.me (Some x) }
+        ensures own { IsSameSeat place.old place.new }
+        ensures taken { Carries place.old.me (Some result) }
+        ensures empty { place.new.me ≡ (place.old.me.0, (0, None) ∷ []) }
     {
         self.table.shared.exchange(place, 0, None).unwrap()
     }
 
     fn put(&self, place: &mut Place<S>, state: S)
-        requires own { place.old.table_id ≡ self.now.table.shared.table_id }
-        requires holds { place.old.me.1 ≡ (0, None) ∷ [] }
-        ensures own { (place.new.table_id ≡ place.old.table_id) × (place.new.id ≡ place.old.id) }
+        requires own { IsSeatOf self.now place.old }
+        requires holds { Carries place.old.me None }
+        ensures own { IsSameSeat place.old place.new }
         ensures put { place.new.me ≡ (place.old.me.0, (0, Some state) ∷ []) }
     {
         let left = self.table.shared.exchange(place, 0, Some(state));
@@ -67,19 +69,21 @@ impl<S: State> Shared<S> {
 
     // The entry that the call made is appended, and those who wait for a change are woken.
     fn append(&self, place: &mut Place<S>)
-        requires own { place.old.table_id ≡ self.now.table.shared.table_id }
-        requires holds { (t : ℕ) × (y : S) × (e : S.Entry) × (place.old.me.0.stage ≡ Holds t) × (place.old.me.1 ≡ (0, Some y) ∷ []) × (S.entries y ≡ place.old.me.0.view.seen ++ e ∷ []) × (S.whose e ≡ place.old.me.0.view.caller) × S.legal (S.entries y) × (length (S.entries y) < 2 ^ 64) }
-        ensures own { (place.new.table_id ≡ place.old.table_id) × (place.new.id ≡ place.old.id) }
-        ensures appended { (y : S) → place.old.me.1 ≡ (0, Some y) ∷ [] → place.new.me ≡ (saw place.old.me.0 (S.entries y) (own S.whose place.old.me.0.view.caller (S.entries y)), place.old.me.1) }
+        requires own { IsSeatOf self.now place.old }
+        requires turn { HasTurn place.old.me }
+        requires adds { (y : S) × Carries place.old.me (Some y) × IsOneMore S.entries S.whose S.legal place.old.me.0.view y }
+        ensures own { IsSameSeat place.old place.new }
+        ensures appended { (y : S) → Carries place.old.me (Some y) → place.new.me ≡ (seeing S.entries S.whose S.legal place.old.me.0 y, place.old.me.1) }
     {
         self.table.shared.fetch_add::<Append<S>>(place, ENTRIES, 1);
         self.table.shared.wake_all(ENTRIES);
     }
 
     fn pass_on(&self, place: &mut Place<S>)
-        requires own { place.old.table_id ≡ self.now.table.shared.table_id }
-        requires holds { (t : ℕ) × (y : S) × (place.old.me.0.stage ≡ Holds t) × (place.old.me.1 ≡ (0, Some y) ∷ []) × (S.entries y ≡ place.old.me.0.view.seen) }
-        ensures own { (place.new.table_id ≡ place.old.table_id) × (place.new.id ≡ place.old.id) }
+        requires own { IsSeatOf self.now place.old }
+        requires turn { HasTurn place.old.me }
+        requires holds { (y : S) × Carries place.old.me (Some y) × (S.entries y ≡ place.old.me.0.view.seen) }
+        ensures own { IsSameSeat place.old place.new }
         ensures passed { place.new.me ≡ (staged place.old.me.0 Idle, []) }
     {
         self.table.shared.fetch_add::<PassOn>(place, SERVED, 1);
@@ -88,11 +92,12 @@ impl<S: State> Shared<S> {
 
     /// Waits for the turn, and takes the state.
     pub(crate) fn enter<R: Wait>(&self, rt: &R, place: &mut Place<S>) -> S
-        requires own { place.old.table_id ≡ self.now.table.shared.table_id }
+        requires own { IsSeatOf self.now place.old }
         requires ready { (place.old.me.0.stage ≡ Idle) × (place.old.me.1 ≡ []) }
-        ensures own { (place.new.table_id ≡ place.old.table_id) × (place.new.id ≡ place.old.id) }
+        ensures own { IsSameSeat place.old place.new }
         ensures fits { Fits S.entries S.whose S.legal place.old.me.0.view result }
-        ensures turn { (t : ℕ) × (place.new.me ≡ (staged (saw place.old.me.0 (S.entries result) place.old.me.0.view.mine) (Holds t), (0, None) ∷ [])) }
+        ensures turn { HasTurn place.new.me × Carries place.new.me None }
+        ensures seen { (place.new.me.0.view ≡ record place.old.me.0.view { seen = S.entries result }) × (place.new.me.0.told ≡ place.old.me.0.told) }
     {
         let ticket = self.draw(place);
         self.wait_turn(rt, place, ticket);
@@ -101,14 +106,13 @@ impl<S: State> Shared<S> {
 
     /// Gives the state back, with one entry more where `adds` is true, and passes the turn on.
     pub(crate) fn leave(&self, place: &mut Place<S>, state: S, adds: bool)
-        requires own { place.old.table_id ≡ self.now.table.shared.table_id }
-        requires turn { (t : ℕ) × (place.old.me.0.stage ≡ Holds t) }
-        requires holds { place.old.me.1 ≡ (0, None) ∷ [] }
-        requires adds { IsTrue adds → (e : S.Entry) × (S.entries state ≡ place.old.me.0.view.seen ++ e ∷ []) × (S.whose e ≡ place.old.me.0.view.caller) }
+        requires own { IsSeatOf self.now place.old }
+        requires turn { HasTurn place.old.me }
+        requires holds { Carries place.old.me None }
+        requires adds { IsTrue adds → IsOneMore S.entries S.whose S.legal place.old.me.0.view state }
         requires keeps { IsFalse adds → S.entries state ≡ place.old.me.0.view.seen }
-        requires legal { S.legal (S.entries state) × (length (S.entries state) < 2 ^ 64) }
-        ensures own { (place.new.table_id ≡ place.old.table_id) × (place.new.id ≡ place.old.id) }
-        ensures added { IsTrue adds → place.new.me ≡ (staged (saw place.old.me.0 (S.entries state) (own S.whose place.old.me.0.view.caller (S.entries state))) Idle, []) }
+        ensures own { IsSameSeat place.old place.new }
+        ensures added { IsTrue adds → place.new.me ≡ (staged (seeing S.entries S.whose S.legal place.old.me.0 state) Idle, []) }
         ensures kept { IsFalse adds → place.new.me ≡ (staged place.old.me.0 Idle, []) }
     {
         self.put(place, state);
@@ -120,30 +124,30 @@ impl<S: State> Shared<S> {
 
     // Sees the history as it is, and says how many entries it has.
     fn see(&self, place: &mut Place<S>) -> u64
-        requires own { place.old.table_id ≡ self.now.table.shared.table_id }
+        requires own { IsSeatOf self.now place.old }
         requires idle { place.old.me.0.stage ≡ Idle }
-        ensures own { (place.new.table_id ≡ place.old.table_id) × (place.new.id ≡ place.old.id) }
+        ensures own { IsSameSeat place.old place.new }
         ensures begins { IsPrefix place.old.me.0.view.seen place.new.me.0.view.seen }
         ensures count { result ≡ length place.new.me.0.view.seen }
         ensures legal { S.legal place.new.me.0.view.seen }
         ensures mine { own S.whose place.old.me.0.view.caller place.new.me.0.view.seen ≡ place.old.me.0.view.mine }
-        ensures rest { place.new.me ≡ (saw place.old.me.0 place.new.me.0.view.seen place.old.me.0.view.mine, place.old.me.1) }
+        ensures rest { HasSeen place.old.me place.new.me }
     {
         self.table.shared.load::<Watch<S>>(place, ENTRIES)
     }
 
     /// Waits until the history has more entries than these, and says how many.
     pub(crate) fn watch<R: Wait>(&self, rt: &R, place: &mut Place<S>, count: u64) -> u64
-        requires own { place.old.table_id ≡ self.now.table.shared.table_id }
+        requires own { IsSeatOf self.now place.old }
         requires idle { place.old.me.0.stage ≡ Idle }
         requires count { count ≡ length place.old.me.0.view.seen }
-        ensures own { (place.new.table_id ≡ place.old.table_id) × (place.new.id ≡ place.old.id) }
+        ensures own { IsSameSeat place.old place.new }
         ensures begins { IsPrefix place.old.me.0.view.seen place.new.me.0.view.seen }
         ensures more { count < length place.new.me.0.view.seen }
         ensures count { result ≡ length place.new.me.0.view.seen }
         ensures legal { S.legal place.new.me.0.view.seen }
         ensures mine { own S.whose place.old.me.0.view.caller place.new.me.0.view.seen ≡ place.old.me.0.view.mine }
-        ensures rest { place.new.me ≡ (saw place.old.me.0 place.new.me.0.view.seen place.old.me.0.view.mine, place.old.me.1) }
+        ensures rest { HasSeen place.old.me place.new.me }
     {
         for _ in rt.forever() {
             let found = self.see(place);

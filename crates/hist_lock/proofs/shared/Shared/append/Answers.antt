@@ -5,8 +5,8 @@ use Rattle.hist_lock.proofs.Appends.{appends}
 use Rattle.hist_lock.proofs.shared.Shared.append.Goals as goal
 
 pub fetch_add-requires : goal.fetch_add-requires
-fetch_add-requires g c = let h = c.requires.holds in
-    (search rules, search rules, appends g.S.State.entries g.S.State.whose g.S.State.legal _ _ _ h.0 h.1 h.2 h.3 h.4 h.5 h.6 h.7 h.8)
+fetch_add-requires g c = let h = c.requires.turn in let y = c.requires.adds in let more = y.2 in
+    (search rules, search rules, appends g.S.State.entries g.S.State.whose g.S.State.legal _ _ _ h.0 y.0 more.entry h.1 y.1 more.entries_are more.callers_own more.is_legal more.short)
 
 pub returns-clause-appended : goal.returns-clause-appended
 returns-clause-appended g c y is = let m = c.args.place.now.me in
