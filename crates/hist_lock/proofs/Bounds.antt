@@ -1,5 +1,5 @@
 -- The rule at the start and at the end.
-use Rattle.std.proofs.Common.{◌≡◌, ◌≢◌, ℕ, zero, suc, ◌^◌, ◌<◌, ◌≤◌, List, [], ◌∷◌, cond, length, sym, refl, ap, ◌∙◌, subst, arith, get_or, Option, Some, ne_eqb, eq-eqb}
+use Rattle.std.proofs.Common.{◌≡◌, ℕ, zero, suc, ◌^◌, ◌<◌, ◌≤◌, List, [], ◌∷◌, cond, length, sym, refl, ap, ◌∙◌, subst, arith, get_or, Option, Some, ne_eqb, eq-eqb}
 use Rattle.std.proofs.lemmas.List.Elements.{All-nil, All-head, All-tail}
 use Rattle.std.specs.List.{All, Contains}
 use mathlib.Core.Logic.{dite}
@@ -15,7 +15,7 @@ use Rattle.hist_lock.specs.declared.view.Stage.TheVariants.{Idle, Holds, Spent}
 use Rattle.hist_lock.specs.Entries.{own}
 use Rattle.hist_lock.specs.Known.{Fits}
 use Rattle.hist_lock.specs.Rule.{Phase, home, out, first_seat, AtStage, IsGone, Knows, InPlace, Kept}
-use Rattle.hist_lock.specs.Callers.{callers}
+use Rattle.hist_lock.specs.Callers.{callers, HasTheirs, HasNoOther}
 use Rattle.hist_lock.proofs.Entries.{prefix_refl}
 use Rattle.hist_lock.proofs.Seats.{at_inside, at_same}
 use Rattle.hist_lock.proofs.Kept.{idle_live}
@@ -49,8 +49,8 @@ module _ {S E : Type 0} (entries : S → List E) (whose : E → ℕ) (legal : Li
   -- what is so of the state at the end
   pub record Ends (v : View E) (x : S) : Type 0 where
     pub fits : Fits entries whose legal v x
-    pub joined : All (λ (r : Joined E). own whose r.caller (entries x) ≡ r.mine) v.joined
-    pub no_other : (c : ℕ) → c ≢ v.caller → (Contains (callers v.joined) c → ⊥) → own whose c (entries x) ≡ []
+    pub theirs : HasTheirs whose v (entries x)
+    pub no_other : HasNoOther whose v (entries x)
 
   pub opens : (x : S) (n : ℕ) → n ≡ length (entries x) → n < 2 ^ 64 → legal (entries x) → All (λ e. whose e ≡ 0) (entries x) → Rule (opening (0 ∷ 0 ∷ n ∷ []) (Some x ∷ []) (first_seat (entries x)))
   opens x n long short is_legal first = let log : List E = entries x in record {
@@ -77,6 +77,11 @@ module _ {S E : Type 0} (entries : S → List E) (whose : E → ℕ) (legal : Li
     no_other = λ c l. own_none whose c log (omega arith) first;
   }
 
+  -- a caller that has ended hasn't the turn
+  gone_waits : (log : List E) (vs : List (Doing E)) (r : Joined E) (j t : ℕ) (e : Doing E) → IsGone whose legal log vs r → r.caller ≡ j → get_elem? vs j ≡ some e → e.stage ≡ Holds t → ⊥
+  gone_waits log vs r j t e g is there has = let same = at_same vs r.caller j g.spent.0 e is g.spent.1 there in
+      let h : Spent ≡ Holds t = sym g.spent.2 ∙ (ap (λ (x : Doing E). x.stage) same ∙ has) in cc
+
   module _ (s : State (Option S) (Doing E)) (k : Rule s) (id : ℕ) (d : Doing E) (at : get_elem? s.views id ≡ some d) (idle : d.stage ≡ Idle) (first : d.view.caller ≡ 0)
       (all : (c : ℕ) → 0 < c → c ≤ d.view.made → Contains (callers d.view.joined) c) where
     -- no seat has the turn
@@ -86,9 +91,8 @@ module _ {S E : Type 0} (entries : S → List E) (whose : E → ℕ) (legal : Li
         dite (ℕ_discrete j 0)
         (λ z. let same : d ≡ e = at_same s.views id j d e (is_first ∙ sym z) at there in
         let h : Idle ≡ Holds k.served = sym idle ∙ (ap (λ (x : Doing E). x.stage) same ∙ has) in cc)
-        (λ n. let c = all j (omega arith) (omega arith) in let r = record_at (IsGone whose legal k.log s.views) d.view.joined j c.0 o.joined c.1 c.2 in let g = r.2.spent in
-        let same : g.0 ≡ e = at_same s.views r.0.caller j g.0 e r.1 g.1 there in
-        let h : Spent ≡ Holds k.served = sym g.2 ∙ (ap (λ (x : Doing E). x.stage) same ∙ has) in cc)
+        (λ n. let c = all j (omega arith) (omega arith) in let r = record_at (IsGone whose legal k.log s.views) d.view.joined j c.0 o.joined c.1 c.2 in
+        gone_waits k.log s.views r.0 j k.served e r.2 r.1 there has)
 
     back_home : (p : Phase) → InPlace entries s.homes s.views k.log k.served p → (x : S) × (get_elem? s.homes 0 ≡ some (some (Some x))) × (entries x ≡ k.log)
     back_home home h = h
@@ -101,7 +105,7 @@ module _ {S E : Type 0} (entries : S → List E) (whose : E → ℕ) (legal : Li
         seen = subst (IsPrefix d.view.seen) (sym is) o.seen.0;
         mine = ap (λ c. own whose c (entries x)) o.caller ∙ (ap (own whose id) is ∙ o.mine);
       };
-      joined = λ i r l. ap (own whose _) is ∙ (o.joined i r l).mine;
+      theirs = λ i r l. ap (own whose _) is ∙ (o.joined i r l).mine;
       no_other = λ c n absent. ap (own whose c) is ∙ dite (dec_le c d.view.made) (λ (l : c ≤ d.view.made). absurd (absent (all c (omega arith) l))) (λ l. k.no_other c (omega arith));
     }
 

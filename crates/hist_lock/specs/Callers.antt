@@ -1,8 +1,9 @@
 -- The first caller, those whose passes are split from its pass, and those that have ended.
-use Rattle.std.specs.Prelude.{ℕ, ◌+◌, ◌<◌, ◌≤◌, List, [], ◌∷◌, map}
-use Rattle.std.specs.List.{Contains}
+use Rattle.std.specs.Prelude.{◌≡◌, ◌≢◌, ℕ, ◌+◌, ◌<◌, ◌≤◌, List, [], ◌∷◌, ◌++◌, map}
+use Rattle.std.specs.List.{All, Contains}
 use Rattle.hist_lock.specs.declared.view.View.{View}
 use Rattle.hist_lock.specs.declared.view.Joined.{Joined}
+use Rattle.hist_lock.specs.Entries.{own}
 
 module _ {E : Type 0} where
   -- the first caller has seen the opening list, which is its own
@@ -21,6 +22,10 @@ module _ {E : Type 0} where
   abbrev pub brings : View E → List (Joined E)
   brings u = record { caller = u.caller; mine = u.mine } ∷ u.joined
 
+  -- the caller after the other's pass was joined into its own
+  abbrev pub HasJoined : View E → View E → View E → Type 0
+  HasJoined v u w = w ≡ record v { seen = w.seen; joined = v.joined ++ brings u }
+
   -- the numbers of callers
   abbrev pub callers : List (Joined E) → List ℕ
   callers joined = map (λ r. r.caller) joined
@@ -28,3 +33,12 @@ module _ {E : Type 0} where
   -- each pass that was split was joined
   abbrev pub AllJoined : View E → Type 0
   AllJoined v = (c : ℕ) → 0 < c → c ≤ v.made → Contains (callers v.joined) c
+
+  module _ (whose : E → ℕ) (v : View E) (log : List E) where
+    -- each caller that was joined has just its own entries in the list
+    abbrev pub HasTheirs : Type 0
+    HasTheirs = All (λ (r : Joined E). own whose r.caller log ≡ r.mine) v.joined
+
+    -- the list has no entry of a caller that is neither this one nor was joined
+    abbrev pub HasNoOther : Type 0
+    HasNoOther = (c : ℕ) → c ≢ v.caller → (Contains (callers v.joined) c → ⊥) → own whose c log ≡ []

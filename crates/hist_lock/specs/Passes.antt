@@ -8,9 +8,11 @@ use Rattle.hist_lock.specs.declared.pass.Pass.{Pass}
 use Rattle.hist_lock.specs.declared.shared.Shared.{Shared}
 
 module _ {S E : Type 0} where
+  -- it is a seat at this lock's table
   abbrev pub IsSeatOf : Shared S E → Seat (Option S) (Doing E) → Type 0
   IsSeatOf lock place = place.table_id ≡ lock.table.shared.table_id
 
+  -- it is the same seat, whatever it knows and holds
   abbrev pub IsSameSeat : Seat (Option S) (Doing E) → Seat (Option S) (Doing E) → Type 0
   IsSameSeat old new = (new.table_id ≡ old.table_id) × (new.id ≡ old.id)
 

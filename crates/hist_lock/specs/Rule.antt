@@ -39,7 +39,8 @@ module _ {E : Type 0} where
   abbrev pub AtStage : List E → ℕ → ℕ → (ℕ → ℕ) → Phase → ℕ → List E → Stage → Type 0
   AtStage log drawn served owner phase j seen Idle = Unit {0}
   AtStage log drawn served owner phase j seen (Waits t) = (owner t ≡ j) × (served ≤ t) × (t < drawn)
-  AtStage log drawn served owner phase j seen (Holds t) = (owner t ≡ j) × (t ≡ served) × (t < drawn) × (phase ≡ out j) × (seen ≡ log)
+  AtStage log drawn served owner phase j seen (Holds t) = (owner t ≡ j) × (t ≡ served) × (t < drawn)
+      × (phase ≡ out j) × (seen ≡ log)
   AtStage log drawn served owner phase j seen Spent = Unit {0}
 
 module _ {E : Type 0} (whose : E → ℕ) (legal : List E → Type 0) (log : List E) (seats : List (Doing E)) where

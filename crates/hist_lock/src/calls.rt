@@ -1,11 +1,11 @@
 //! What callers do with the lock.
-ghost use Rattle.std.specs.Prelude.{◌≡◌, ◌^◌, ◌<◌, ◌≤◌, ◌+◌, ◌++◌, length};
+ghost use Rattle.std.specs.Prelude.{◌≡◌, ◌^◌, ◌<◌, ◌+◌, length};
 ghost use mathlib.Core.List.{IsPrefix};
 ghost use Rattle.hist_lock.specs.Entries.{own, IsLonger};
-ghost use Rattle.hist_lock.specs.Known.{Fits};
+ghost use Rattle.hist_lock.specs.Known.{SeesMore};
 ghost use Rattle.hist_lock.specs.Calls.{May, Turned};
 ghost use Rattle.hist_lock.specs.Passes.{view, IsPassOf};
-ghost use Rattle.hist_lock.specs.Callers.{parent, child, brings};
+ghost use Rattle.hist_lock.specs.Callers.{HasJoined, child, parent};
 
 use crate::pass::Pass;
 use crate::rule::TICKETS;
@@ -41,7 +41,7 @@ impl<S: State> Shared<S> {
         ensures more { length (view pass.old).seen < length (view pass.new).seen }
         ensures legal { S.legal (view pass.new).seen }
         ensures mine { own S.whose (view pass.new).caller (view pass.new).seen ≡ (view pass.new).mine }
-        ensures rest { view pass.new ≡ record (view pass.old) { seen = (view pass.new).seen } }
+        ensures rest { SeesMore (view pass.old) (view pass.new) }
     {
         let Pass { place, count } = pass;
         *count = self.watch(rt, place, *count);
@@ -69,7 +69,7 @@ impl<S: State> Shared<S> {
         ensures own { IsPassOf self.now pass.new }
         ensures seen { IsLonger (view pass.old).seen (view other).seen (view pass.new).seen }
         ensures legal { S.legal (view pass.new).seen }
-        ensures rest { view pass.new ≡ record (view pass.old) { seen = (view pass.new).seen; joined = (view pass.old).joined ++ brings (view other) } }
+        ensures rest { HasJoined (view pass.old) (view other) (view pass.new) }
     {
         let Pass { place, count } = pass;
         let Pass {

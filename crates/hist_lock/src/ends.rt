@@ -1,10 +1,9 @@
 //! How a lock begins and ends.
-ghost use Rattle.std.specs.Prelude.{◌≡◌, ◌≢◌, ℕ, ◌<◌, ◌≤◌, [], IfOk, IfErr};
-ghost use Rattle.std.specs.List.{All, Contains};
-ghost use Rattle.hist_lock.specs.Entries.{own};
+ghost use Rattle.std.specs.Prelude.{◌≡◌, IfOk, IfErr};
+ghost use Rattle.std.specs.List.{All};
 ghost use Rattle.hist_lock.specs.Known.{Fits};
 ghost use Rattle.hist_lock.specs.Passes.{view, IsPassOf};
-ghost use Rattle.hist_lock.specs.Callers.{callers, AllJoined, first_view};
+ghost use Rattle.hist_lock.specs.Callers.{AllJoined, HasNoOther, HasTheirs, first_view};
 
 use crate::pass::Pass;
 use crate::shared::Shared;
@@ -48,8 +47,8 @@ impl<S: State> Shared<S> {
         requires first { (view pass).caller ≡ 0 }
         requires all { AllJoined (view pass) }
         ensures fits { Fits S.entries S.whose S.legal (view pass) result }
-        ensures joined { All (λ r. own S.whose r.caller (S.entries result) ≡ r.mine) (view pass).joined }
-        ensures no_other { (c : ℕ) → c ≢ (view pass).caller → (Contains (callers (view pass).joined) c → ⊥) → own S.whose c (S.entries result) ≡ [] }
+        ensures theirs { HasTheirs S.whose (view pass) (S.entries result) }
+        ensures no_other { HasNoOther S.whose (view pass) (S.entries result) }
     {
         let Shared { table } = self;
         let Pass { place, count: _ } = pass;

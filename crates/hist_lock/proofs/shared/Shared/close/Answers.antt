@@ -13,10 +13,10 @@ returns-clause-fits g c = let p = c.args.pass in
     (closed_at g.S.State.entries g.S.State.whose g.S.State.legal _ p.place.me.0 _ _ _ p.ready.0 c.requires.first c.requires.all c.close_with-closed.ensures.values.2
     (c.take-state.ensures.value ∙ ap some c.unwrap.ensures)).fits
 
-pub returns-clause-joined : goal.returns-clause-joined
-returns-clause-joined g c = let p = c.args.pass in
+pub returns-clause-theirs : goal.returns-clause-theirs
+returns-clause-theirs g c = let p = c.args.pass in
     (closed_at g.S.State.entries g.S.State.whose g.S.State.legal _ p.place.me.0 _ _ _ p.ready.0 c.requires.first c.requires.all c.close_with-closed.ensures.values.2
-    (c.take-state.ensures.value ∙ ap some c.unwrap.ensures)).joined
+    (c.take-state.ensures.value ∙ ap some c.unwrap.ensures)).theirs
 
 pub returns-clause-no_other : goal.returns-clause-no_other
 returns-clause-no_other g c = let p = c.args.pass in
