@@ -30,9 +30,17 @@ module _ {E : Type 0} where
   abbrev pub callers : List (Joined E) → List ℕ
   callers joined = map (λ r. r.caller) joined
 
+  -- each caller above low and up to high was joined
+  abbrev pub HasJoinedUpTo : ℕ → ℕ → View E → Type 0
+  HasJoinedUpTo low high v = (c : ℕ) → low < c → c ≤ high → Contains (callers v.joined) c
+
   -- each pass that was split was joined
   abbrev pub AllJoined : View E → Type 0
-  AllJoined v = (c : ℕ) → 0 < c → c ≤ v.made → Contains (callers v.joined) c
+  AllJoined v = HasJoinedUpTo 0 v.made v
+
+  -- whoever was joined still is
+  abbrev pub KeepsJoined : View E → View E → Type 0
+  KeepsJoined v w = (c : ℕ) → Contains (callers v.joined) c → Contains (callers w.joined) c
 
   module _ (whose : E → ℕ) (v : View E) (log : List E) where
     -- each caller that was joined has just its own entries in the list

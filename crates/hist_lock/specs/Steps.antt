@@ -71,6 +71,10 @@ module _ {S E : Type 0} where
   abbrev pub HasSeen : Sat S E → Sat S E → Type 0
   HasSeen m m' = m' ≡ (saw m.0 m'.0.view.seen m.0.view.mine, m.1)
 
+  -- it has seen this list, and nothing else is known of it that was not
+  abbrev pub SeesList : Sat S E → List E → Sat S E → Type 0
+  SeesList m xs m' = (m'.0.view ≡ record m.0.view { seen = xs }) × (m'.0.told ≡ m.0.told)
+
   -- the draw of a ticket
   abbrev pub drew : Step (Option S) → Sat S E → ℕ → Sat S E → Type 0
   drew st m r m' = TakesTicket m r m'
@@ -106,6 +110,18 @@ module _ {S E : Type 0} (entries : S → List E) (whose : E → ℕ) (legal : Li
   -- the seat has seen all entries of the state that it holds, and the caller's own among them
   abbrev pub seeing : Doing E → S → Doing E
   seeing d y = saw d (entries y) (own whose d.view.caller (entries y))
+
+  -- the seat holds a state with one entry more
+  abbrev pub CarriesMore : Sat S E → Type 0
+  CarriesMore m = (y : S) × Carries m (Some y) × IsOneMore m.0.view y
+
+  -- the seat holds a state whose entries it has seen
+  abbrev pub CarriesSeen : Sat S E → Type 0
+  CarriesSeen m = (y : S) × Carries m (Some y) × (entries y ≡ m.0.view.seen)
+
+  -- it has then seen the entries of the state that it holds
+  abbrev pub SeesEntry : Sat S E → Sat S E → Type 0
+  SeesEntry m m' = (y : S) → Carries m (Some y) → m' ≡ (seeing m.0 y, m.1)
 
   -- the entry that the call made is appended
   abbrev pub appended : Step (Option S) → Sat S E → ℕ → Sat S E → Type 0

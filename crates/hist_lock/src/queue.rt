@@ -4,7 +4,8 @@ ghost use mathlib.Core.List.{IsPrefix};
 ghost use Rattle.hist_lock.specs.Known.{Fits};
 ghost use Rattle.hist_lock.specs.Entries.{own};
 ghost use Rattle.hist_lock.specs.Passes.{IsSameSeat, IsSeatOf};
-ghost use Rattle.hist_lock.specs.Steps.{Carries, HasSeen, HasTicket, HasTurn, IsOneMore, TakesTicket, TakesTurn, seeing, staged};
+ghost use Rattle.hist_lock.specs.Steps.{Carries, CarriesMore, CarriesSeen, HasSeen, HasTicket, HasTurn, IsOneMore};
+ghost use Rattle.hist_lock.specs.Steps.{SeesEntry, SeesList, TakesTicket, TakesTurn, seeing, staged};
 ghost use Rattle.hist_lock.specs.declared.view.Stage.TheVariants.{Idle};
 
 use crate::rule::{ENTRIES, Place, SERVED, TICKETS};
@@ -71,9 +72,9 @@ impl<S: State> Shared<S> {
     fn append(&self, place: &mut Place<S>)
         requires own { IsSeatOf self.now place.old }
         requires turn { HasTurn place.old.me }
-        requires adds { (y : S) × Carries place.old.me (Some y) × IsOneMore S.entries S.whose S.legal place.old.me.0.view y }
+        requires adds { CarriesMore S.entries S.whose S.legal place.old.me }
         ensures own { IsSameSeat place.old place.new }
-        ensures appended { (y : S) → Carries place.old.me (Some y) → place.new.me ≡ (seeing S.entries S.whose S.legal place.old.me.0 y, place.old.me.1) }
+        ensures appended { SeesEntry S.entries S.whose S.legal place.old.me place.new.me }
     {
         self.table.shared.fetch_add::<Append<S>>(place, ENTRIES, 1);
         self.table.shared.wake_all(ENTRIES);
@@ -82,7 +83,7 @@ impl<S: State> Shared<S> {
     fn pass_on(&self, place: &mut Place<S>)
         requires own { IsSeatOf self.now place.old }
         requires turn { HasTurn place.old.me }
-        requires holds { (y : S) × Carries place.old.me (Some y) × (S.entries y ≡ place.old.me.0.view.seen) }
+        requires holds { CarriesSeen S.entries S.whose S.legal place.old.me }
         ensures own { IsSameSeat place.old place.new }
         ensures passed { place.new.me ≡ (staged place.old.me.0 Idle, []) }
     {
@@ -97,7 +98,7 @@ impl<S: State> Shared<S> {
         ensures own { IsSameSeat place.old place.new }
         ensures fits { Fits S.entries S.whose S.legal place.old.me.0.view result }
         ensures turn { HasTurn place.new.me × Carries place.new.me None }
-        ensures seen { (place.new.me.0.view ≡ record place.old.me.0.view { seen = S.entries result }) × (place.new.me.0.told ≡ place.old.me.0.told) }
+        ensures seen { SeesList place.old.me (S.entries result) place.new.me }
     {
         let ticket = self.draw(place);
         self.wait_turn(rt, place, ticket);

@@ -1,9 +1,8 @@
 ghost use Rattle.std.specs.Prelude.{◌≡◌, ℕ, ◌+◌, ◌<◌, ◌≤◌, ◌^◌, ◌-◌, [], IfOk};
-ghost use Rattle.std.specs.List.{Contains};
 ghost use Rattle.std.specs.Thread.{IsSync};
 ghost use Rattle.hist_lock.specs.Known.{IsSameCaller};
 ghost use Rattle.hist_lock.specs.Passes.{view, IsPassOf};
-ghost use Rattle.hist_lock.specs.Callers.{callers, first_view};
+ghost use Rattle.hist_lock.specs.Callers.{HasJoinedUpTo, KeepsJoined, first_view};
 
 mod book;
 
@@ -113,8 +112,8 @@ fn crew<R: Threads + Wait + Sync>(
     requires room { made + more + 1 < 2 ^ 32 }
     ensures own { IsPassOf lock.now result }
     ensures first { ((view result).caller ≡ 0) × ((view result).made ≡ made + more) }
-    ensures kept { (c : ℕ) → Contains (callers (view first).joined) c → Contains (callers (view result).joined) c }
-    ensures joined { (c : ℕ) → made < c → c ≤ made + more → Contains (callers (view result).joined) c }
+    ensures kept { KeepsJoined (view first) (view result) }
+    ensures joined { HasJoinedUpTo made (made + more) (view result) }
 {
     if more == 0 {
         return work(rt, lock, first, 0, times);
@@ -124,12 +123,20 @@ fn crew<R: Threads + Wait + Sync>(
     let (mut first, next) = join(
         rt,
         move || -> Pass<Book>
-            requires { IsSync R.row × IsPassOf lock.now first × ((view first).caller ≡ 0) × ((view first).made ≡ by) × (0 < more) × (by + (more - 1) + 1 < 2 ^ 32) }
-            ensures { IsPassOf lock.entry.now result × ((view result).caller ≡ 0) × ((view result).made ≡ by + (more - 1)) × ((c : ℕ) → Contains (callers (view first).joined) c → Contains (callers (view result).joined) c) × ((c : ℕ) → by < c → c ≤ by + (more - 1) → Contains (callers (view result).joined) c) }
+            requires sync { IsSync R.row }
+            requires own { IsPassOf lock.now first }
+            requires first { ((view first).caller ≡ 0) × ((view first).made ≡ by) }
+            requires room { (0 < more) × (by + (more - 1) + 1 < 2 ^ 32) }
+            ensures own { IsPassOf lock.entry.now result }
+            ensures first { ((view result).caller ≡ 0) × ((view result).made ≡ by + (more - 1)) }
+            ensures kept { KeepsJoined (view first) (view result) }
+            ensures joined { HasJoinedUpTo by (by + (more - 1)) (view result) }
         { crew(rt, lock, first, by, more - 1, times) },
         move || -> Pass<Book>
-            requires { IsPassOf lock.now next × ((view next).caller ≡ by) }
-            ensures { IsPassOf lock.entry.now result × IsSameCaller (view next) (view result) }
+            requires own { IsPassOf lock.now next }
+            requires by { (view next).caller ≡ by }
+            ensures own { IsPassOf lock.entry.now result }
+            ensures same { IsSameCaller (view next) (view result) }
         { work(rt, lock, next, by, times) },
     );
     lock.join(&mut first, next);
@@ -238,12 +245,16 @@ fn a_wait_ends_with_another_threads_mark(rt: HostRuntime) -> Result<(), Fail> {
     let (mut first, next) = join(
         &rt,
         || -> Pass<Book>
-            requires { IsPassOf shared.now first × ((view first).caller ≡ 0) }
-            ensures { IsPassOf shared.entry.now result × IsSameCaller (view first) (view result) }
+            requires own { IsPassOf shared.now first }
+            requires by { (view first).caller ≡ 0 }
+            ensures own { IsPassOf shared.entry.now result }
+            ensures same { IsSameCaller (view first) (view result) }
         { ask(&rt, shared, first) },
         || -> Pass<Book>
-            requires { IsPassOf shared.now next × ((view next).caller ≡ 1) × ((view next).seen ≡ []) }
-            ensures { IsPassOf shared.entry.now result × IsSameCaller (view next) (view result) }
+            requires own { IsPassOf shared.now next }
+            requires by { ((view next).caller ≡ 1) × ((view next).seen ≡ []) }
+            ensures own { IsPassOf shared.entry.now result }
+            ensures same { IsSameCaller (view next) (view result) }
         { answer(&rt, shared, next) },
     );
     lock.join(&mut first, next);

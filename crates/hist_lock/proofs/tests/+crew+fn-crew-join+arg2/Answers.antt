@@ -22,10 +22,10 @@ module _ {E : Type 0} (v w u z : View E) (joined : z.joined ≡ w.joined ++ brin
 pub returns-clause-kept : goal.returns-clause-kept
 returns-clause-kept g t c k h = let a = c.join-first.ensures.first in
     kept (view c.args.first) (view c.join-first.result.0) (view c.join-first.result.1) (view c.join.new.pass) (ap (λ v. v.joined) c.join.ensures.rest) k
-    (a.3 k (subst (λ v. Contains (callers v.joined) k) (sym c.split-next.ensures.parent) h))
+    (a.1.1.0 k (subst (λ v. Contains (callers v.joined) k) (sym c.split-next.ensures.parent) h))
 
 pub returns-clause-joined : goal.returns-clause-joined
 returns-clause-joined g t c = let a = c.join-first.ensures.first in let b = c.join-first.ensures.second in let some_more = c.if-more-eq0.false in let made = c.requires.first.1 in
     let by = ap (λ v. v.caller) b.1 ∙ ap (λ v. v.caller) c.split-next.ensures.child in
     all (view c.args.first) (view c.join-first.result.0) (view c.join-first.result.1) (view c.join.new.pass) (ap (λ v. v.joined) c.join.ensures.rest) c.args.made c.args.more
-    (by ∙ ap (λ n. n + 1) made) (λ k low high. a.4 k low (omega arith))
+    (by ∙ ap (λ n. n + 1) made) (λ k low high. a.1.1.1 k low (omega arith))
