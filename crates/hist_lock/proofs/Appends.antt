@@ -9,7 +9,7 @@ use Rattle.hist_lock.specs.declared.view.Doing.{Doing}
 use Rattle.hist_lock.specs.declared.view.Stage.TheVariants.{Holds}
 use Rattle.hist_lock.specs.Entries.{own}
 use Rattle.hist_lock.specs.Rule.{out, AtStage, Kept}
-use Rattle.hist_lock.specs.Steps.{appended, saw, held}
+use Rattle.hist_lock.specs.Steps.{appended, saw, held, SeesEntry}
 use Rattle.hist_lock.proofs.Entries.{prefix_refl, prefix_trans, own_other}
 use Rattle.hist_lock.proofs.Seats.{at_inside, tickets_set}
 use Rattle.hist_lock.proofs.Kept.{holds_live, gone_stays, moved}
@@ -49,3 +49,7 @@ module _ {S E : Type 0} (entries : S → List E) (whose : E → ℕ) (legal : Li
             }),
         refl,
       )
+
+  -- what the step tells, at the state that the seat holds
+  pub sees_entry : (m m' : Me (Option S) (Doing E)) → m' ≡ (saw m.0 (held entries whose legal m.1) (own whose m.0.view.caller (held entries whose legal m.1)), m.1) → SeesEntry entries whose legal m m'
+  sees_entry m m' is y holds = is ∙ ap (λ (xs : List E). (saw m.0 xs (own whose m.0.view.caller xs), m.1)) (ap (held entries whose legal) holds)
