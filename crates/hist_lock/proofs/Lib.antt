@@ -1,0 +1,11 @@
+pub mod Entries
+pub mod Seats
+pub mod Kept
+pub mod Tickets
+pub mod Turns
+pub mod Appends
+pub mod Sights
+pub mod Splits
+pub mod Joins
+pub mod Bounds
+pub mod Joinings

@@ -1,0 +1,42 @@
+//! What the lock asks of a state and of a call.
+ghost use Rattle.std.specs.Prelude.{◌≡◌, ℕ, List, length};
+ghost use Rattle.hist_lock.specs.Entries.{Grows};
+
+/// A state that stands for a list of entries.
+pub trait State {
+    type Entry;
+
+    /// The list that a state stands for, oldest entry first.
+    ghost entries: { Self → List Self.Entry };
+
+    /// The number of the caller whose entry it is.
+    ghost whose: { Self.Entry → ℕ };
+
+    /// Which lists are legal.
+    ghost legal: { List Self.Entry → Type 0 };
+
+    /// Where a caller that has seen a list has nothing to do before another entry comes.
+    ghost idle: { List Self.Entry → ℕ → Type 0 };
+
+    /// How many entries the list has.
+    fn count(&self) -> u64
+        ensures { result ≡ length (entries self.now) };
+}
+
+/// A call on a state. It adds one entry at most; one that only looks adds none.
+pub trait Turn<S: State> {
+    type Answer;
+
+    /// What the call asks of the state that it finds.
+    ghost asks: { Self → S → Type 0 };
+
+    /// The answer that it may give on a state, and the state that it then leaves.
+    ghost gives: { Self → S → Self.Answer → S → Type 0 };
+
+    fn run(self, state: &mut S) -> Self::Answer
+        requires asks { asks self state.old }
+        requires legal { S.legal (S.entries state.old) }
+        ensures gives { gives self state.old result state.new }
+        ensures adds { Grows (S.entries state.old) (S.entries state.new) }
+        ensures legal { S.legal (S.entries state.new) };
+}
