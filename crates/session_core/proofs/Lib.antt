@@ -1,9 +1,9 @@
 mod Answered
 mod Digits
+mod ExampleHistory
 mod FirstVersions
 mod Inserted
 mod Reporting
 mod Short
 mod Taking
-mod Worked
 mod Working

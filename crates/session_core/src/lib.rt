@@ -32,7 +32,7 @@ pub use entry::Entry;
 pub use first_text::FirstText;
 pub use message::Message;
 pub use report::{Report, ReportKind};
-pub use session::{Session, Taken};
+pub use session::{Session, Taken, Worked};
 pub use version::{Assigned, Version};
 
 #[cfg(test)]

@@ -2,7 +2,7 @@
 use Rattle.std.proofs.Common.{refl}
 use Rattle.std.specs.Fmt.{digits}
 use Rattle.session_core.specs.Report.{report_body}
-use Rattle.session_core.proofs.Worked.{legal-ended}
+use Rattle.session_core.proofs.ExampleHistory.{legal-ended}
 use Rattle.session_core.proofs.tests.the_history_is_legal_and_made_alone.Goals as goal
 
 pub returns-clause-legal : goal.returns-clause-legal
