@@ -1,0 +1,138 @@
+-- The tokens are cut into spans in one way, and these join to the text.
+use Rattle.std.proofs.Common.{◌≡◌, ℕ, zero, suc, ◌+◌, ◌-◌, ◌<◌, ◌≤◌, Bool, true, Some, List, [], ◌∷◌, ◌++◌, length, get_or, take, drop, sym, refl, ap, ◌∙◌, subst, ⊎_elim, arith}
+use Rattle.std.specs.Prelude.{slice_get}
+use Rattle.std.specs.List.{flat_map}
+use Rattle.std.proofs.lemmas.Bool.{both_ways, cases_lt}
+use Rattle.std.proofs.lemmas.List.{drop-drop, take_all}
+use Rattle.std.proofs.Math.Seq.{take-add}
+use Rattle.symbols.specs.Joined.{text_between}
+use Rattle.outer_tokens.specs.Headings.{is_proper}
+use Rattle.outer_tokens.specs.Reading.{is_command}
+use Rattle.outer_tokens.specs.Tokens.{AreTokensBetween}
+use Rattle.outer_tokens.specs.Words.{names_at}
+use Rattle.outer_tokens.specs.declared.kind.Kind.{Kind}
+use Rattle.outer_tokens.specs.declared.kind.Kind.TheVariants as kind
+use Rattle.outer_tokens.specs.declared.token.Token.{Token}
+use Rattle.outer_tokens.proofs.TokenLaws.{one-tokens}
+use Rattle.command_spans.specs.Spans.{Is, proper_token, command_token, RunsTo, IsSpan, Covers, AreSpansOf, AreSpans}
+use Rattle.command_spans.specs.declared.span.SpanKind.{SpanKind}
+use Rattle.command_spans.specs.declared.span.SpanKind.TheVariants.{Command, Malformed, Ignored}
+use Rattle.command_spans.specs.declared.span.Span.{Span}
+use Rattle.command_spans.proofs.SpanLemmas.{span-within}
+
+some_token : Token
+some_token = record { kind = kind.Space; range = record { start = 0; stop = 0 } }
+
+command-proper : (k : Kind) → is_command k ≡ true → is_proper k ≡ true
+command-proper kind.Command e = refl
+command-proper _ e = cc
+
+run-not-less : (ts : List Token) (m n : ℕ) → RunsTo ts m → RunsTo ts n → m < n → ⊥
+run-not-less ts m n one other less =
+    let next = one.next in
+    ⊎_elim
+    (λ (before : n - 1 < next.0). both_ways (proper_token (get_or ts (n - 1) some_token)) (next.3 (n - 1) some_token (omega arith) before) (other.ends some_token))
+    (λ (past : next.0 ≤ n - 1).
+    both_ways (command_token (get_or ts next.0 some_token))
+    (other.no_other next.0 some_token (omega (arith, one.some, next.1)) (omega (arith, less, past)))
+    (next.4 (omega (arith, other.within, less, past)) some_token))
+    (cases_lt (n - 1) next.0)
+
+run-one : (ts : List Token) (m n : ℕ) → RunsTo ts m → RunsTo ts n → m ≡ n
+run-one ts m n one other =
+    ⊎_elim
+    (λ (less : m < n). absurd (run-not-less ts m n one other less))
+    (λ (above : n ≤ m). ⊎_elim (λ (less : n < m). absurd (run-not-less ts n m other one less)) (λ (below : m ≤ n). omega arith) (cases_lt n m))
+    (cases_lt m n)
+
+ignored-one : (ts : List Token) (m n : ℕ) → IsSpan Ignored ts m → IsSpan Ignored ts n → m ≡ n
+ignored-one ts m n one other =
+    ⊎_elim
+    (λ (less : m < n). absurd (both_ways (proper_token (get_or ts m some_token)) (other.2 m some_token (omega arith) less) (one.3 (omega (arith, less, other.1)) some_token)))
+    (λ (above : n ≤ m).
+    ⊎_elim
+    (λ (less : n < m). absurd (both_ways (proper_token (get_or ts n some_token)) (one.2 n some_token (omega arith) less) (other.3 (omega (arith, less, one.1)) some_token)))
+    (λ (below : m ≤ n). omega arith)
+    (cases_lt n m))
+    (cases_lt m n)
+
+not-ignored : (ts : List Token) (n : ℕ) → IsSpan Ignored ts n → Is proper_token true ts 0 → ⊥
+not-ignored ts n is proper = both_ways (proper_token (get_or ts 0 some_token)) (is.2 0 some_token (omega arith) is.0) (proper some_token)
+
+command-first : (ts : List Token) → Is command_token true ts 0 → Is proper_token true ts 0
+command-first ts is d = command-proper (get_or ts 0 d).kind (is d)
+
+span-one : (k q : SpanKind) (ts : List Token) (m n : ℕ) → IsSpan k ts m → IsSpan q ts n → (k ≡ q) × (m ≡ n)
+span-one Command Command ts m n one other = (refl, run-one ts m n one.1 other.1)
+span-one Command Malformed ts m n one other = absurd (both_ways (command_token (get_or ts 0 some_token)) (other.0 some_token) (one.0 some_token))
+span-one Command Ignored ts m n one other = absurd (not-ignored ts n other (command-first ts one.0))
+span-one Malformed Command ts m n one other = absurd (both_ways (command_token (get_or ts 0 some_token)) (one.0 some_token) (other.0 some_token))
+span-one Malformed Malformed ts m n one other = (refl, run-one ts m n one.2 other.2)
+span-one Malformed Ignored ts m n one other = absurd (not-ignored ts n other one.1)
+span-one Ignored Command ts m n one other = absurd (not-ignored ts m one (command-first ts other.0))
+span-one Ignored Malformed ts m n one other = absurd (not-ignored ts m one other.1)
+span-one Ignored Ignored ts m n one other = (refl, ignored-one ts m n one other)
+
+covered : (ts : List Token) (s u : Span) (m n : ℕ) → s.kind ≡ u.kind → m ≡ n → Covers s ts m → Covers u ts n → s ≡ u
+covered ts s u m n kinds sizes one other =
+    let first_same : Some one.0 ≡ Some other.0 = sym one.2 ∙ other.2 in
+    let last_same : Some one.1 ≡ Some other.1 = sym one.3 ∙ ap (λ k. slice_get ts (k - 1)) sizes ∙ other.3 in
+    let firsts : one.0 ≡ other.0 = cc (first_same) in
+    let lasts : one.1 ≡ other.1 = cc (last_same) in
+    let starts : s.range.start ≡ u.range.start = one.4 ∙ ap (λ (t : Token). t.range.start) firsts ∙ sym other.4 in
+    let stops : s.range.stop ≡ u.range.stop = one.5 ∙ ap (λ (t : Token). t.range.stop) lasts ∙ sym other.5 in
+    λ i. record { kind = kinds i; range = record { start = starts i; stop = stops i } }
+
+one-cut : (ts : List Token) (a b : List Span) → AreSpansOf ts a → AreSpansOf ts b → a ≡ b
+one-cut ts [] [] one other = refl
+one-cut ts [] (u ∷ us) one other = let within = span-within u.kind ts other.0 other.1 in absurd (omega (arith, within.0, within.1, ap length one))
+one-cut ts (s ∷ ss) [] one other = let within = span-within s.kind ts one.0 one.1 in absurd (omega (arith, within.0, within.1, ap length other))
+one-cut ts (s ∷ ss) (u ∷ us) one other =
+    let same = span-one s.kind u.kind ts one.0 other.0 one.1 other.1 in
+    let heads : s ≡ u = covered ts s u one.0 other.0 same.0 same.1 one.2 other.2 in
+    let tails : ss ≡ us = one-cut (drop one.0 ts) ss us one.3 (subst (λ n. AreSpansOf (drop n ts) us) (sym same.1) other.3) in
+    λ i. heads i ∷ tails i
+
+pub one-spans : (text : List ℕ) (aliases : List (List ℕ)) (a b : List Span) → AreSpans text aliases a → AreSpans text aliases b → a ≡ b
+one-spans text aliases a b (ts, tokens, cut) (us, tokens', cut') =
+    one-cut ts a b cut (subst (λ x. AreSpansOf x b) (sym (one-tokens text aliases ts us tokens tokens')) cut')
+
+-- after some tokens the next ones begin where the last of these ends
+tokens-after : (names : ℕ → List ℕ → Bool) (text : List ℕ) (from to : ℕ) (ts : List Token) (k : ℕ) (last : Token) → AreTokensBetween names text from to ts → slice_get ts k ≡ Some last → AreTokensBetween names text last.range.stop to (drop (suc k) ts) × (from < last.range.stop)
+tokens-after names text from to [] k last tokens at = absurd (cc)
+tokens-after names text from to (t ∷ ts) zero last (starts, token, rest) at =
+    let same : t ≡ last = cc (at) in
+    (subst (λ (x : Token). AreTokensBetween names text x.range.stop to ts) same rest, subst (λ (x : Token). from < x.range.stop) same (omega (arith, starts, token.1)))
+tokens-after names text from to (t ∷ ts) (suc k) last (starts, token, rest) at =
+    let more = tokens-after names text t.range.stop to ts k last rest at in (more.0, omega (arith, more.1, starts, token.1))
+
+tokens-first : (names : ℕ → List ℕ → Bool) (text : List ℕ) (from to : ℕ) (ts : List Token) (first : Token) → AreTokensBetween names text from to ts → slice_get ts 0 ≡ Some first → first.range.start ≡ from
+tokens-first names text from to [] first tokens at = absurd (cc)
+tokens-first names text from to (t ∷ ts) first (starts, token, rest) at = let same : t ≡ first = cc (at) in ap (λ (x : Token). x.range.start) (sym same) ∙ starts
+
+tokens-rise : (names : ℕ → List ℕ → Bool) (text : List ℕ) (from to : ℕ) (ts : List Token) → AreTokensBetween names text from to ts → from ≤ to
+tokens-rise names text from to [] same = omega arith
+tokens-rise names text from to (t ∷ ts) (starts, token, rest) = omega (arith, starts, token.1, tokens-rise names text t.range.stop to ts rest)
+
+joined-between : (names : ℕ → List ℕ → Bool) (text : List ℕ) (from to : ℕ) (ts : List Token) (ss : List Span) → AreTokensBetween names text from to ts → AreSpansOf ts ss → flat_map (λ s. text_between text s.range.start s.range.stop) ss ≡ take (to - from) (drop from text)
+joined-between names text from to ts [] tokens none =
+    let same : from ≡ to = subst (λ x. AreTokensBetween names text from to x) none tokens in
+    let empty : to - from ≡ 0 = omega arith in sym (ap (λ n. take n (drop from text)) empty)
+joined-between names text from to ts (s ∷ ss) tokens (n, is, covers, more) =
+    let within = span-within s.kind ts n is in
+    let starts : s.range.start ≡ from = covers.4 ∙ tokens-first names text from to ts covers.0 tokens covers.2 in
+    let count : suc (n - 1) ≡ n = omega (arith, within.0) in
+    let after = tokens-after names text from to ts (n - 1) covers.1 tokens covers.3 in
+    let next = subst (λ (p : ℕ × ℕ). AreTokensBetween names text p.0 to (drop p.1 ts)) (λ i. (sym covers.5 i, count i)) after.0 in
+    let upto : s.range.stop ≤ to = tokens-rise names text s.range.stop to (drop n ts) next in
+    let past : from < s.range.stop = omega (arith, after.1, covers.5) in
+    let rest : flat_map (λ u. text_between text u.range.start u.range.stop) ss ≡ take (to - s.range.stop) (drop (s.range.stop - from) (drop from text)) =
+    joined-between names text s.range.stop to (drop n ts) ss next more ∙ ap (λ r. take (to - s.range.stop) r) (ap (λ k. drop k text) (omega arith) ∙ sym (drop-drop (s.range.stop - from) from text)) in
+    let whole : s.range.stop - from + (to - s.range.stop) ≡ to - from = omega arith in
+    ap (λ x. text_between text x s.range.stop ++ flat_map (λ u. text_between text u.range.start u.range.stop) ss) starts
+    ∙ ap (λ r. take (s.range.stop - from) (drop from text) ++ r) rest
+    ∙ sym (take-add (s.range.stop - from) (to - s.range.stop) (drop from text))
+    ∙ ap (λ k. take k (drop from text)) whole
+
+pub joined-all : (text : List ℕ) (aliases : List (List ℕ)) (ss : List Span) → AreSpans text aliases ss → flat_map (λ s. text_between text s.range.start s.range.stop) ss ≡ text
+joined-all text aliases ss (ts, (base, end, under, ends, tokens), cut) = joined-between (names_at end aliases) text 0 (length text) ts ss tokens cut ∙ take_all _ text (omega arith)

@@ -1,0 +1,12 @@
+pub mod WordLemmas
+pub mod BracketLemmas
+pub mod EnclosedLemmas
+pub mod SpaceLemmas
+pub mod LongLemmas
+pub mod RowLemmas
+pub mod TokenLemmas
+pub mod HeadingLemmas
+pub mod HeaderLemmas
+pub mod TokenLaws
+pub mod SymbolLaw
+pub mod ContentLemmas

@@ -1,0 +1,216 @@
+-- No token ends within a symbol: by its row, its last scalar or its first symbol tells.
+use Rattle.std.proofs.Common.{◌≡◌, ℕ, zero, suc, ◌+◌, ◌-◌, ◌<◌, ◌≤◌, ◌||◌, ◌==◌, Bool, true, false, List, [], ◌∷◌, ◌++◌, length, get_or, take, drop, sym, refl, ap, ◌∙◌, subst, inl, inr, ⊎_elim, arith, length-take-le, length-drop, length-append, get_or-take, get_or-drop, append_assoc}
+use Rattle.std.specs.Prelude.{All}
+use Rattle.std.proofs.lemmas.Bool.{both_ways, or_cases, or_left, or_right, eqb-true, cases_lt}
+use Rattle.std.proofs.lemmas.List.{get_or_at, get_or_append_left, take_all}
+use Rattle.std.proofs.lemmas.List.Elements.{All-nil, All-cons, All-append, All-head, All-tail, All-weaker}
+use Rattle.symbols.specs.Names.{is_name_part, IsIdentifier, IsClosedName, IsMarkedName, IsNamedSymbol}
+use Rattle.symbols.specs.Symbols.{IsSymbolAt, IsInside}
+use Rattle.symbols.proofs.NameLemmas.{identifier-parts}
+use Rattle.outer_tokens.specs.Brackets.{opening, closing}
+use Rattle.outer_tokens.specs.Forms.{is_blank, dotted}
+use Rattle.outer_tokens.specs.Rows.{IsFirstRow}
+use Rattle.outer_tokens.specs.Words.{names_at}
+use Rattle.outer_tokens.specs.Tokens.{IsToken, AreTokensBetween}
+use Rattle.outer_tokens.specs.Headings.{AreTokens}
+use Rattle.outer_tokens.specs.declared.bracket.Bracket.{Bracket}
+use Rattle.outer_tokens.specs.declared.bracket.Bracket.TheVariants.{Comment, String, Cartouche}
+use Rattle.outer_tokens.specs.declared.row.Row.{Row}
+use Rattle.outer_tokens.specs.declared.row.Row.TheVariants.{Space, Enclosed, Error, Symbol, LongIdent, Word, Sym}
+use Rattle.outer_tokens.specs.declared.token.Token.{Token}
+use Rattle.outer_tokens.proofs.BracketLemmas.{closes-end}
+use Rattle.outer_tokens.proofs.EnclosedLemmas.{opens-whole}
+use Rattle.outer_tokens.proofs.TokenLemmas.{row-some}
+
+-- a scalar that a named symbol has before its last one
+abbrev is_inner : ℕ → Bool
+is_inner c = (c == 92 || c == 60) || (c == 94 || is_name_part c)
+
+part-inner : (c : ℕ) → is_name_part c ≡ true → is_inner c ≡ true
+part-inner c part = or_right (c == 92 || c == 60) (c == 94 || is_name_part c) (or_right (c == 94) (is_name_part c) part)
+
+closed-inner : (s : List ℕ) → IsClosedName s → (j : ℕ) → j + 1 < length s → is_inner (get_or s j 0) ≡ true
+closed-inner s (name, id, e) j before =
+    let inside : j < length name = omega (arith, ap length e, length-append name (62 ∷ [])) in
+    part-inner (get_or s j 0) (ap is_name_part (ap (λ r. get_or r j 0) e ∙ get_or_append_left name (62 ∷ []) 0 j inside) ∙ identifier-parts name id j 0 inside)
+
+marked-inner : (s : List ℕ) → IsMarkedName s → (j : ℕ) → j + 1 < length s → is_inner (get_or s j 0) ≡ true
+marked-inner s (inl closed) j before = closed-inner s closed j before
+marked-inner s (inr (closed, is, e)) zero before = ap is_inner (ap (λ r. get_or r 0 0) e)
+marked-inner s (inr (closed, is, e)) (suc j) before = ap is_inner (ap (λ r. get_or r (suc j) 0) e) ∙ closed-inner closed is j (omega (arith, ap length e))
+
+named-inner : (s : List ℕ) → IsNamedSymbol s → (j : ℕ) → j + 1 < length s → is_inner (get_or s j 0) ≡ true
+named-inner s (marked, is, e) zero before = ap is_inner (ap (λ r. get_or r 0 0) e)
+named-inner s (marked, is, e) (suc zero) before = ap is_inner (ap (λ r. get_or r 1 0) e)
+named-inner s (marked, is, e) (suc (suc j)) before = ap is_inner (ap (λ r. get_or r (suc (suc j)) 0) e) ∙ marked-inner marked is j (omega (arith, ap length e))
+
+marked-end : (s : List ℕ) → IsMarkedName s → (front : List ℕ) × (s ≡ front ++ 62 ∷ [])
+marked-end s (inl (name, id, e)) = (name, e)
+marked-end s (inr (closed, (name, id, e'), e)) = (94 ∷ name, e ∙ ap (λ r. 94 ∷ r) e')
+
+named-end : (s : List ℕ) → IsNamedSymbol s → (front : List ℕ) × (s ≡ front ++ 62 ∷ [])
+named-end s (marked, is, e) = let end = marked-end marked is in (92 ∷ 60 ∷ end.0, e ∙ ap (λ r. 92 ∷ 60 ∷ r) end.1)
+
+-- a symbol that goes over a place
+record Crosses (text : List ℕ) (start place : ℕ) : Type 0 where
+  len : ℕ
+  within : len ≤ length (drop start text)
+  longer : place < start + len
+  after : start < place
+  named : IsNamedSymbol (take len (drop start text))
+
+crossing : (text : List ℕ) (start stop place : ℕ) → IsSymbolAt text start stop → start < place → place < stop → Crosses text start place
+crossing text start stop place at after before = record {
+  len = stop - start;
+  within = at.1.within;
+  longer = omega arith;
+  after = after;
+  named = ⊎_elim (λ named. named) (λ (one : length (take (stop - start) (drop start text)) ≡ 1). absurd (omega (arith, one, length-take-le (stop - start) (drop start text) at.1.within))) at.1.fits;
+}
+
+module _ {text : List ℕ} {start place : ℕ} (x : Crosses text start place) where
+  reads : (j : ℕ) → j < x.len → get_or (take x.len (drop start text)) j 0 ≡ get_or text (start + j) 0
+  reads j below = get_or-take x.len (drop start text) j 0 below ∙ get_or-drop start text j 0
+
+  -- it begins with a backslash
+  first-is : get_or text start 0 ≡ 92
+  first-is =
+      let same : start + 0 ≡ start = omega arith in
+      ap (λ n. get_or text n 0) (sym same) ∙ sym (reads 0 (omega (arith, x.longer, x.after))) ∙ ap (λ r. get_or r 0 0) x.named.2
+
+  -- and the scalar before the place isn't its last
+  last-is : is_inner (get_or text (place - 1) 0) ≡ true
+  last-is =
+      let j : ℕ = place - 1 - start in
+      let same : start + j ≡ place - 1 = omega (arith, x.after) in
+      ap is_inner (ap (λ n. get_or text n 0) (sym same) ∙ sym (reads j (omega (arith, x.longer, x.after))))
+      ∙ named-inner (take x.len (drop start text)) x.named j (omega (arith, x.longer, x.after, length-take-le x.len (drop start text) x.within))
+
+blank-outer : (c : ℕ) → is_blank c ≡ true → is_inner c ≡ true → ⊥
+blank-outer c blank inner =
+    ⊎_elim
+    (λ (e : (c == 32 || c == 9) ≡ true). ⊎_elim (λ (f : (c == 32) ≡ true). out 32 f refl) (λ (f : (c == 9) ≡ true). out 9 f refl) (or_cases (c == 32) (c == 9) e))
+    (λ (e : (c == 10 || c == 13) ≡ true). ⊎_elim (λ (f : (c == 10) ≡ true). out 10 f refl) (λ (f : (c == 13) ≡ true). out 13 f refl) (or_cases (c == 10) (c == 13) e))
+    (or_cases (c == 32 || c == 9) (c == 10 || c == 13) blank)
+  where
+    out : (d : ℕ) → (c == d) ≡ true → is_inner d ≡ false → ⊥
+    out d same outer = both_ways (is_inner d) outer (ap is_inner (sym (eqb-true c d same)) ∙ inner)
+
+-- a scalar of an identifier or a dot
+abbrev is_word : ℕ → Bool
+is_word c = is_name_part c || c == 46
+
+identifier-word : (s : List ℕ) → IsIdentifier s → All (λ c. is_word c ≡ true) s
+identifier-word s id = All-weaker (λ c. is_name_part c ≡ true) (λ c. is_word c ≡ true) (λ c part. or_left (is_name_part c) (c == 46) part) s (identifier-parts s id)
+
+dotted-word : (names : List (List ℕ)) → All IsIdentifier names → All (λ c. is_word c ≡ true) (dotted names)
+dotted-word [] each = All-nil (λ c. is_word c ≡ true)
+dotted-word (x ∷ xs) each =
+    All-append (λ c. is_word c ≡ true) (46 ∷ x) (dotted xs)
+    (All-cons (λ c. is_word c ≡ true) 46 x refl (identifier-word x (All-head IsIdentifier x xs each)))
+    (dotted-word xs (All-tail IsIdentifier x xs each))
+
+last-of : Bracket → ℕ
+last-of Comment = 41
+last-of String = 34
+last-of Cartouche = 62
+
+closing-last : (b : Bracket) → (front : List ℕ) × (closing b ≡ front ++ last-of b ∷ [])
+unfolding last-of
+closing-last Comment = (42 ∷ [], refl)
+closing-last String = ([], refl)
+closing-last Cartouche = (92 ∷ 60 ∷ 99 ∷ 108 ∷ 111 ∷ 115 ∷ 101 ∷ [], refl)
+
+last-outer : (b : Bracket) → is_inner (last-of b) ≡ false
+unfolding last-of
+last-outer Comment = refl
+last-outer String = refl
+last-outer Cartouche = refl
+
+-- the last scalar of a list that ends with it
+last-read : (s front : List ℕ) (c n : ℕ) → s ≡ front ++ c ∷ [] → length s ≡ n → get_or s (n - 1) 0 ≡ c
+last-read s front c n e size = ap (λ r. get_or r (n - 1) 0) e ∙ get_or_at front c [] 0 (n - 1) (omega (arith, size, ap length e, length-append front (c ∷ [])))
+
+module _ (text : List ℕ) (from size : ℕ) where
+  tok : List ℕ
+  tok = take size (drop from text)
+
+  tok-is : tok ≡ take size (drop from text)
+  unfolding tok
+  tok-is = refl
+
+  tok-reads : (j : ℕ) → j < size → get_or tok j 0 ≡ get_or text (from + j) 0
+  tok-reads j below = ap (λ r. get_or r j 0) tok-is ∙ get_or-take size (drop from text) j 0 below ∙ get_or-drop from text j 0
+
+  -- a token that ends with a scalar that isn't within a symbol
+  ends-outer : (front : List ℕ) (c start : ℕ) → 0 < size → size ≤ length (drop from text) → tok ≡ front ++ c ∷ [] → is_inner c ≡ false → Crosses text start (from + size) → ⊥
+  ends-outer front c start some within e outer x =
+      let size_is : length tok ≡ size = ap length tok-is ∙ length-take-le size (drop from text) within in
+      let here : get_or text (from + size - 1) 0 ≡ c =
+      let same : from + (size - 1) ≡ from + size - 1 = omega arith in
+      ap (λ n. get_or text n 0) (sym same) ∙ sym (tok-reads (size - 1) (omega arith)) ∙ last-read tok front c size e size_is in
+      both_ways (is_inner c) outer (ap is_inner (sym here) ∙ last-is x)
+
+  -- a token without a backslash
+  word : All (λ c. is_word c ≡ true) (take size (drop from text)) → size ≤ length (drop from text) → (start : ℕ) → from ≤ start → Crosses text start (from + size) → ⊥
+  word each within start past x =
+      let j : ℕ = start - from in
+      let same : from + j ≡ start = omega arith in
+      let below : j < size = omega (arith, x.after) in
+      let here : get_or (take size (drop from text)) j 0 ≡ 92 =
+      get_or-take size (drop from text) j 0 below ∙ get_or-drop from text j 0 ∙ ap (λ n. get_or text n 0) same ∙ first-is x in
+      both_ways (is_word 92) refl (ap is_word (sym here) ∙ each j 0 (omega (arith, below, length-take-le size (drop from text) within)))
+
+  -- no symbol that begins in the token goes over its end
+  no-cross : (row : Row) → IsFirstRow (drop from text) row size → (start : ℕ) → from ≤ start → Crosses text start (from + size) → ⊥
+  no-cross Space first start past x =
+      let some = row-some Space (drop from text) size first in
+      let last : is_blank (get_or tok (size - 1) 0) ≡ true = ap (λ r. is_blank (get_or r (size - 1) 0)) tok-is ∙ first.longest.fits.1 (size - 1) 0 (omega (arith, some, length-take-le size (drop from text) first.longest.within)) in
+      let same : from + (size - 1) ≡ from + size - 1 = omega (arith, some) in
+      blank-outer (get_or text (from + size - 1) 0) (ap is_blank (ap (λ n. get_or text n 0) (sym same) ∙ sym (tok-reads (size - 1) (omega (arith, some)))) ∙ last) (last-is x)
+  no-cross (Enclosed b) first start past x =
+      let form = first.longest.fits in
+      let marks = form.2 in
+      let end = closes-end b form.0 marks.0 1 (omega arith) marks.1 marks.2 in
+      let last = closing-last b in
+      let whole : tok ≡ (opening b ++ (end.0 ++ last.0)) ++ last-of b ∷ [] =
+      tok-is ∙ form.1 ∙ ap (λ r. opening b ++ r) (end.1 ∙ ap (λ r. end.0 ++ r) last.1 ∙ sym (append_assoc end.0 last.0 (last-of b ∷ [])))
+      ∙ sym (append_assoc (opening b) (end.0 ++ last.0) (last-of b ∷ [])) in
+      ends-outer _ (last-of b) start (row-some (Enclosed b) (drop from text) size first) first.longest.within whole (last-outer b) x
+  no-cross Error first start past x =
+      let form = first.longest.fits in
+      let all : length (drop from text) ≤ size = first.longest.longest (length (drop from text)) (omega arith) (form.0, form.1 ++ drop size (drop from text), take_all (length (drop from text)) (drop from text) (omega arith) ∙ opens-whole (opening form.0) (drop from text) size form.1 form.2) in
+      omega (arith, all, x.within, x.longer, x.after, length-drop from text, length-drop start text)
+  no-cross Symbol first start past x =
+      let end = named-end (take size (drop from text)) first.longest.fits in
+      ends-outer end.0 62 start (row-some Symbol (drop from text) size first) first.longest.within (tok-is ∙ end.1) refl x
+  no-cross LongIdent first start past x =
+      let form = first.longest.fits in
+      let each : All (λ c. is_word c ≡ true) (take size (drop from text)) =
+      subst (All (λ c. is_word c ≡ true)) (sym form.5) (All-append (λ c. is_word c ≡ true) form.0 (dotted form.1) (identifier-word form.0 form.2) (dotted-word form.1 form.4)) in
+      word each first.longest.within start past x
+  no-cross Word first start past x = word (identifier-word (take size (drop from text)) first.longest.fits) first.longest.within start past x
+  no-cross Sym first start past x =
+      let one : size ≡ 1 = sym (length-take-le size (drop from text) first.longest.within) ∙ first.longest.fits in
+      let same : start ≡ from = omega (arith, one, past, x.after) in
+      first.first Symbol (omega arith) x.len (subst (λ n. x.len ≤ length (drop n text)) same x.within) (subst (λ n. IsNamedSymbol (take x.len (drop n text))) same x.named)
+
+stop-apart : (is_command : List ℕ → Bool) (text : List ℕ) (t : Token) → IsToken is_command text t → ((m : ℕ) → IsInside text m t.range.start → ⊥) → (m : ℕ) → IsInside text m t.range.stop → ⊥
+stop-apart is_command text t (row, some, first, kind) before m (start, stop, boundary, at, after, over) =
+    ⊎_elim
+    (λ (less : start < t.range.start). before m (start, stop, boundary, at, less, omega arith))
+    (λ (past : t.range.start ≤ start).
+    let same : t.range.stop ≡ t.range.start + (t.range.stop - t.range.start) = omega arith in
+    no-cross text t.range.start (t.range.stop - t.range.start) row first start past (subst (Crosses text start) same (crossing text start stop t.range.stop at after over)))
+    (cases_lt start t.range.start)
+
+apart : (names : ℕ → List ℕ → Bool) (text : List ℕ) (from to : ℕ) (ts : List Token) → AreTokensBetween names text from to ts → ((m : ℕ) → IsInside text m from → ⊥) → (m : ℕ) → All (λ (t : Token). (IsInside text m t.range.start → ⊥) × (IsInside text m t.range.stop → ⊥)) ts
+apart names text from to [] same before m = All-nil (λ (t : Token). (IsInside text m t.range.start → ⊥) × (IsInside text m t.range.stop → ⊥))
+apart names text from to (t ∷ ts) (starts, token, rest) before m =
+    let begins = subst (λ p. (k : ℕ) → IsInside text k p → ⊥) (sym starts) before in
+    let ends = stop-apart (names from) text t token begins in
+    All-cons (λ (t : Token). (IsInside text m t.range.start → ⊥) × (IsInside text m t.range.stop → ⊥)) t ts (begins m, ends m) (apart names text t.range.stop to ts rest ends m)
+
+pub tokens-apart : (text : List ℕ) (aliases : List (List ℕ)) (tokens : List Token) → AreTokens text aliases tokens → (m : ℕ) → All (λ (t : Token). (IsInside text m t.range.start → ⊥) × (IsInside text m t.range.stop → ⊥)) tokens
+tokens-apart text aliases tokens (base, end, under, ends, is) m =
+    apart (names_at end aliases) text 0 (length text) tokens is (λ k inside. omega (arith, inside.4)) m

@@ -1,0 +1,4 @@
+pub mod Longest
+pub mod Names
+pub mod Symbols
+pub mod Joined

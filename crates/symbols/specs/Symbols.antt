@@ -1,0 +1,30 @@
+-- The symbols of a text (after Isabelle's symbols, in ASCII).
+use Rattle.std.specs.Prelude.{◌≡◌, ◌⊎◌, ℕ, ◌<◌, ◌-◌, List, [], ◌∷◌, length, drop}
+use Rattle.symbols.specs.Longest.{IsLongest}
+use Rattle.symbols.specs.Names.{IsNamedSymbol}
+
+-- a named symbol, or one scalar
+abbrev pub IsSymbol : List ℕ → Type 0
+IsSymbol s = IsNamedSymbol s ⊎ (length s ≡ 1)
+
+-- the longest symbol at one place of the text ends at another
+abbrev pub IsSymbolAt : List ℕ → ℕ → ℕ → Type 0
+IsSymbolAt text start stop = (start < stop) × IsLongest IsSymbol (drop start text) (stop - start)
+
+-- the symbols of the text from one place to another, one after the other
+abbrev pub AreSymbolsBetween : List ℕ → ℕ → ℕ → List (ℕ × ℕ) → Type 0
+AreSymbolsBetween text from to [] = from ≡ to
+AreSymbolsBetween text from to (s ∷ ss) = (s.0 ≡ from) × IsSymbolAt text from s.1 × AreSymbolsBetween text s.1 to ss
+
+-- the start and stop of each symbol of the text, which join to it
+abbrev pub AreSymbols : List ℕ → List (ℕ × ℕ) → Type 0
+AreSymbols text symbols = AreSymbolsBetween text 0 (length text) symbols
+
+-- so many symbols end before the place or at it, where the next begins
+abbrev pub IsBoundary : List ℕ → ℕ → ℕ → Type 0
+IsBoundary text symbol place = (before : List (ℕ × ℕ)) × AreSymbolsBetween text 0 place before × (length before ≡ symbol)
+
+-- the place is inside of the symbol of this number
+abbrev pub IsInside : List ℕ → ℕ → ℕ → Type 0
+IsInside text symbol place =
+    (start : ℕ) × (stop : ℕ) × IsBoundary text symbol start × IsSymbolAt text start stop × (start < place) × (place < stop)
