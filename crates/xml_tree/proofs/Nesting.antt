@@ -3,15 +3,8 @@ use Rattle.std.proofs.Common.{◌≡◌, ℕ, ◌+◌, ◌-◌, ◌<◌, ◌≤�
 use Rattle.xml_tree.specs.declared.tree.Tree.{Tree}
 use Rattle.xml_tree.specs.declared.tree.Tree.TheOpen.{Tree-F}
 use Rattle.xml_tree.specs.declared.tree.Tree.TheFolds.{fold-roll-Tree, ind-Tree, map-Tree}
-use Rattle.xml_tree.specs.Marks.{Mark, opening, closing, words, marks, tree_marks, mark_step, concat}
+use Rattle.xml_tree.specs.Marks.{Mark, opening, closing, words, marks, tree_marks, mark_step, concat, open_after}
 use Rattle.xml_tree.specs.Normal.{height, tree_height, height_step, largest}
-
--- how many elements are open behind the marks, where d were open before them
-abbrev pub open_after : ℕ → List Mark → ℕ
-open_after d [] = d
-open_after d (opening name attributes ∷ ms) = open_after (d + 1) ms
-open_after d (closing ∷ ms) = open_after (d - 1) ms
-open_after d (words text ∷ ms) = open_after d ms
 
 -- no element opens where 200 are open
 abbrev pub IsWithin : ℕ → List Mark → Type 0

@@ -1,5 +1,5 @@
 -- A body read from the left: what stands in it, one after the other.
-use Rattle.std.specs.Prelude.{ℕ, List, [], ◌∷◌, ◌++◌, map}
+use Rattle.std.specs.Prelude.{ℕ, ◌+◌, ◌-◌, List, [], ◌∷◌, ◌++◌, map}
 use Rattle.xml_tree.specs.declared.tree.Attribute.{Attribute}
 use Rattle.xml_tree.specs.declared.tree.Tree.{Tree, fold-Tree}
 use Rattle.xml_tree.specs.declared.tree.Tree.TheOpen.{Tree-F}
@@ -26,3 +26,10 @@ tree_marks = fold-Tree (List Mark) mark_step
 -- the marks of a body, in document order
 abbrev pub marks : List Tree → List Mark
 marks body = concat (map tree_marks body)
+
+-- how many elements are open behind the marks, where d were open before them
+abbrev pub open_after : ℕ → List Mark → ℕ
+open_after d [] = d
+open_after d (opening name attributes ∷ ms) = open_after (d + 1) ms
+open_after d (closing ∷ ms) = open_after (d - 1) ms
+open_after d (words text ∷ ms) = open_after d ms
