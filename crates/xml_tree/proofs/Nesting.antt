@@ -6,11 +6,11 @@ use Rattle.xml_tree.specs.declared.tree.Tree.TheFolds.{fold-roll-Tree, ind-Tree,
 use Rattle.xml_tree.specs.Marks.{Mark, opening, closing, words, marks, tree_marks, mark_step, concat, open_after}
 use Rattle.xml_tree.specs.Normal.{height, tree_height, height_step, largest}
 
--- no element opens where 200 are open
+-- no element opens where 200 are open, and none closes where none is open
 abbrev pub IsWithin : ℕ → List Mark → Type 0
 IsWithin d [] = Unit {0}
 IsWithin d (opening name attributes ∷ ms) = (d < 200) × IsWithin (d + 1) ms
-IsWithin d (closing ∷ ms) = IsWithin (d - 1) ms
+IsWithin d (closing ∷ ms) = (0 < d) × IsWithin (d - 1) ms
 IsWithin d (words text ∷ ms) = IsWithin d ms
 
 -- what the marks of a tree mean for what follows them
@@ -48,12 +48,12 @@ back d = omega arith
 Nests-element : (name : List ℕ) (attributes : List _) (xs : List Mark) (h : ℕ) → Nests xs h → Nests (opening name attributes ∷ (xs ++ closing ∷ [])) (1 + h)
 Nests-element name attributes xs h p = record {
   balanced = λ d rest. rw append_assoc (p.balanced (d + 1) (closing ∷ rest) ∙ ap (λ n. open_after n rest) (back d));
-  within = λ d rest small w. (omega arith, subst (IsWithin (d + 1)) (sym (append_assoc xs (closing ∷ []) rest)) (p.within (d + 1) (closing ∷ rest) (omega arith) (subst (λ n. IsWithin n rest) (sym (back d)) w)));
+  within = λ d rest small w. (omega arith, subst (IsWithin (d + 1)) (sym (append_assoc xs (closing ∷ []) rest)) (p.within (d + 1) (closing ∷ rest) (omega arith) (omega arith, subst (λ n. IsWithin n rest) (sym (back d)) w)));
   low = λ d rest w small. let w' : IsWithin (d + 1) (xs ++ (closing ∷ rest)) = subst (IsWithin (d + 1)) (append_assoc xs (closing ∷ []) rest) w.1 in
     let first : d < 200 = w.0 in
     omega (arith, p.low (d + 1) (closing ∷ rest) w' (omega arith));
   later = λ d rest w. let w' : IsWithin (d + 1) (xs ++ (closing ∷ rest)) = subst (IsWithin (d + 1)) (append_assoc xs (closing ∷ []) rest) w.1 in
-    subst (λ n. IsWithin n rest) (back d) (p.later (d + 1) (closing ∷ rest) w');
+    subst (λ n. IsWithin n rest) (back d) (p.later (d + 1) (closing ∷ rest) w').1;
 }
 
 Nests-text : (text : List ℕ) → Nests (words text ∷ []) 0
