@@ -8,4 +8,6 @@ pub mod Pieces
 pub mod Progress
 pub mod Settled
 pub mod Spelled
+pub mod Spelt
 pub mod Tags
+pub mod Written

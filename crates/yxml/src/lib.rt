@@ -8,6 +8,7 @@
 mod builder;
 mod cut;
 mod fault;
+mod laws;
 mod reading;
 mod tag;
 mod writing;
@@ -16,5 +17,6 @@ mod writing;
 mod tests;
 
 pub use fault::YxmlFault;
+pub use laws::what_is_written_is_read_back;
 pub use reading::parse_body;
 pub use writing::write_body;
