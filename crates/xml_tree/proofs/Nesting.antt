@@ -36,9 +36,9 @@ Nests-append xs ys h k p q = record {
   balanced = λ d rest. rw append_assoc (p.balanced d (ys ++ rest) ∙ q.balanced d rest);
   within = λ d rest small w. rw append_assoc (p.within d (ys ++ rest) (omega arith) (q.within d rest (omega arith) w));
   low = λ d rest w small. let w' : IsWithin d (xs ++ (ys ++ rest)) = rw append_assoc at w in
-    omega (arith, p.low d (ys ++ rest) w' small, q.low d rest (p.later d (ys ++ rest) w') small);
+      omega (arith, p.low d (ys ++ rest) w' small, q.low d rest (p.later d (ys ++ rest) w') small);
   later = λ d rest w. let w' : IsWithin d (xs ++ (ys ++ rest)) = rw append_assoc at w in
-    q.later d rest (p.later d (ys ++ rest) w');
+      q.later d rest (p.later d (ys ++ rest) w');
 }
 
 -- one more element behind d and one less is d again
@@ -50,10 +50,10 @@ Nests-element name attributes xs h p = record {
   balanced = λ d rest. rw append_assoc (p.balanced (d + 1) (closing ∷ rest) ∙ ap (λ n. open_after n rest) (back d));
   within = λ d rest small w. (omega arith, subst (IsWithin (d + 1)) (sym (append_assoc xs (closing ∷ []) rest)) (p.within (d + 1) (closing ∷ rest) (omega arith) (omega arith, subst (λ n. IsWithin n rest) (sym (back d)) w)));
   low = λ d rest w small. let w' : IsWithin (d + 1) (xs ++ (closing ∷ rest)) = subst (IsWithin (d + 1)) (append_assoc xs (closing ∷ []) rest) w.1 in
-    let first : d < 200 = w.0 in
-    omega (arith, p.low (d + 1) (closing ∷ rest) w' (omega arith));
+      let first : d < 200 = w.0 in
+      omega (arith, p.low (d + 1) (closing ∷ rest) w' (omega arith));
   later = λ d rest w. let w' : IsWithin (d + 1) (xs ++ (closing ∷ rest)) = subst (IsWithin (d + 1)) (append_assoc xs (closing ∷ []) rest) w.1 in
-    subst (λ n. IsWithin n rest) (back d) (p.later (d + 1) (closing ∷ rest) w').1;
+      subst (λ n. IsWithin n rest) (back d) (p.later (d + 1) (closing ∷ rest) w').1;
 }
 
 Nests-text : (text : List ℕ) → Nests (words text ∷ []) 0

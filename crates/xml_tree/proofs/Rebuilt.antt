@@ -33,14 +33,18 @@ record Builds (ms : List Mark) (trees : List Tree) : Type 0 where
   builds : (rest : List Mark) (body : List Tree) (stack : List Frame) → built (ms ++ rest) body stack ≡ built rest (body ++ trees) stack
 
 Builds-append : (xs ys : List Mark) (ts us : List Tree) → Builds xs ts → Builds ys us → Builds (xs ++ ys) (ts ++ us)
-Builds-append xs ys ts us p q = record { builds = λ rest body stack.
-    ap (λ ms. built ms body stack) (append_assoc xs ys rest) ∙ p.builds (ys ++ rest) body stack ∙ q.builds rest (body ++ ts) stack
-    ∙ ap (λ b. built rest b stack) (append_assoc body ts us) }
+Builds-append xs ys ts us p q = record {
+  builds = λ rest body stack.
+      ap (λ ms. built ms body stack) (append_assoc xs ys rest) ∙ p.builds (ys ++ rest) body stack ∙ q.builds rest (body ++ ts) stack
+      ∙ ap (λ b. built rest b stack) (append_assoc body ts us);
+}
 
 Builds-element : (name : List ℕ) (attributes : List Attribute) (xs : List Mark) (ts : List Tree) → Builds xs ts → Builds (opening name attributes ∷ (xs ++ closing ∷ [])) (Elem name attributes ts ∷ [])
-Builds-element name attributes xs ts p = record { builds = λ rest body stack.
-    let stack' : List Frame = record { before = body; name = name; attributes = attributes } ∷ stack in
-    ap (λ ms. built ms [] stack') (append_assoc xs (closing ∷ []) rest) ∙ p.builds (closing ∷ rest) [] stack' }
+Builds-element name attributes xs ts p = record {
+  builds = λ rest body stack.
+      let stack' : List Frame = record { before = body; name = name; attributes = attributes } ∷ stack in
+      ap (λ ms. built ms [] stack') (append_assoc xs (closing ∷ []) rest) ∙ p.builds (closing ∷ rest) [] stack';
+}
 
 Builds-text : (text : List ℕ) → Builds (words text ∷ []) (Text text ∷ [])
 Builds-text text = record { builds = λ rest body stack. refl }

@@ -5,11 +5,10 @@
 #![tactic(auto)]
 
 mod laws;
-mod tree;
-mod xml_string;
-
 #[cfg(test)]
 mod tests;
+mod tree;
+mod xml_string;
 
 pub use laws::{marks_of_joined_bodies, marks_tell_the_body};
 pub use tree::{Attribute, Body, Tree};

@@ -3,7 +3,6 @@ use Rattle.std.proofs.Common.{◌≡◌, ◌≢◌, ℕ, ◌+◌, List, [], ◌�
 use Rattle.std.specs.List.{flat_map}
 use Rattle.std.proofs.Math.ListN.{length-append}
 use Rattle.std.proofs.lemmas.List.{append-nil}
-use Rattle.xml_tree.specs.declared.tree.Attribute.{Attribute}
 use Rattle.xml_tree.specs.declared.tree.Tree.{Tree}
 use Rattle.xml_tree.specs.declared.tree.Tree.TheVariants.{Elem, Text}
 use Rattle.xml_tree.specs.Marks.{Mark, opening, closing, words, marks, open_after}
@@ -61,9 +60,9 @@ takes-opening old mid new f is before stack body text =
     let held : marks f.before ≡ marks old.body ++ text_marks old.text = ap marks (before ∙ ap (λ (b : Builder). b.body) is) ∙ marks-with_text old.body old.text in
     let stack' : new.stack ≡ old.stack ++ f ∷ [] = stack ∙ ap (λ (b : Builder). b.stack ++ f ∷ []) is in
     let open_base : base new ≡ flat old ++ opened ∷ [] =
-      ap (λ fs. flat_map frame_marks fs ++ marks new.body) stack' ∙ ap (λ b. flat_map frame_marks (old.stack ++ f ∷ []) ++ marks b) body
-      ∙ ap (λ ms. ms ++ []) (frames-opened old.stack f ∙ ap (λ ms. flat_map frame_marks old.stack ++ (ms ++ opened ∷ [])) held)
-      ∙ regroup-opening (flat_map frame_marks old.stack) (marks old.body) (text_marks old.text) (opened ∷ []) in
+    ap (λ fs. flat_map frame_marks fs ++ marks new.body) stack' ∙ ap (λ b. flat_map frame_marks (old.stack ++ f ∷ []) ++ marks b) body
+    ∙ ap (λ ms. ms ++ []) (frames-opened old.stack f ∙ ap (λ ms. flat_map frame_marks old.stack ++ (ms ++ opened ∷ [])) held)
+    ∙ regroup-opening (flat_map frame_marks old.stack) (marks old.body) (text_marks old.text) (opened ∷ []) in
     takes-mark old new opened open_base (text ∙ ap (λ (b : Builder). b.text) is) (settled-opening _ _ _)
     (ap length stack' ∙ length-append old.stack (f ∷ []))
 
@@ -73,18 +72,18 @@ takes-closing old mid new f inner outer is stack held put body text =
     let stack' : old.stack ≡ new.stack ++ f ∷ [] = ap (λ (b : Builder). b.stack) (sym is) ∙ stack in
     let inside : marks inner ≡ marks old.body ++ text_marks old.text = ap marks (held ∙ ap (λ (b : Builder). b.body) is) ∙ marks-with_text old.body old.text in
     let outside : marks new.body ≡ marks f.before ++ ((opening f.name f.attributes ∷ ((marks old.body ++ text_marks old.text) ++ closing ∷ [])) ++ []) =
-      ap marks (body ∙ ap (λ ts. ts ++ Elem f.name f.attributes inner ∷ []) put) ∙ marks-append f.before _ ∙ ap (λ ms. marks f.before ++ (ms ++ [])) (tree_marks-Elem f.name f.attributes inner)
-      ∙ ap (λ ms. marks f.before ++ ((opening f.name f.attributes ∷ (ms ++ closing ∷ [])) ++ [])) inside in
+    ap marks (body ∙ ap (λ ts. ts ++ Elem f.name f.attributes inner ∷ []) put) ∙ marks-append f.before _ ∙ ap (λ ms. marks f.before ++ (ms ++ [])) (tree_marks-Elem f.name f.attributes inner)
+    ∙ ap (λ ms. marks f.before ++ ((opening f.name f.attributes ∷ (ms ++ closing ∷ [])) ++ [])) inside in
     let closed_base : base new ≡ flat old ++ closing ∷ [] =
-      ap (λ ms. flat_map frame_marks new.stack ++ ms) outside
-      ∙ regroup-closing (flat_map frame_marks new.stack) (marks f.before) (opening f.name f.attributes) (marks old.body) (text_marks old.text) (closing ∷ [])
-      ∙ ap (λ ms. ((ms ++ marks old.body) ++ text_marks old.text) ++ closing ∷ []) (sym (ap (flat_map frame_marks) stack' ∙ frames-opened new.stack f)) in
+    ap (λ ms. flat_map frame_marks new.stack ++ ms) outside
+    ∙ regroup-closing (flat_map frame_marks new.stack) (marks f.before) (opening f.name f.attributes) (marks old.body) (text_marks old.text) (closing ∷ [])
+    ∙ ap (λ ms. ((ms ++ marks old.body) ++ text_marks old.text) ++ closing ∷ []) (sym (ap (flat_map frame_marks) stack' ∙ frames-opened new.stack f)) in
     let sizes : length old.stack ≡ length new.stack + 1 = ap length stack' ∙ length-append new.stack (f ∷ []) in
     takes-mark old new closing closed_base (text ∙ ap (λ (b : Builder). b.text) is) (settled-closing _) (omega (arith, sizes))
 
 pub all-marks : (old mid : Builder) → mid ≡ ended old → length old.stack ≡ 0 → marks mid.body ≡ flat old
 all-marks old mid is none = ap (λ (b : Builder). marks b.body) is ∙ marks-with_text old.body old.text
     ∙ ap (λ ms. (ms ++ marks old.body) ++ text_marks old.text) (sym (frames-none old.stack none)) where
-  frames-none : (fs : List Frame) → length fs ≡ 0 → flat_map frame_marks fs ≡ []
-  frames-none [] e = refl
-  frames-none (f ∷ fs) e = absurd (omega (arith, e))
+      frames-none : (fs : List Frame) → length fs ≡ 0 → flat_map frame_marks fs ≡ []
+      frames-none [] e = refl
+      frames-none (f ∷ fs) e = absurd (omega (arith, e))

@@ -1,5 +1,5 @@
 -- What one cut of a text at its first separator says of the text's pieces.
-use Rattle.std.proofs.Common.{◌≡◌, ◌≢◌, ℕ, ◌+◌, ◌<◌, List, [], ◌∷◌, ◌++◌, length, get_or, true, false, Option, Some, None, refl, sym, ◌∙◌, ap, arith, All, MatchOption, eq-eqb}
+use Rattle.std.proofs.Common.{◌≡◌, ◌≢◌, ℕ, ◌<◌, List, [], ◌∷◌, length, get_or, false, Option, Some, None, refl, ◌∙◌, ap, arith, All, MatchOption, eq-eqb}
 use Rattle.std.specs.Borrow.{Bor}
 use Rattle.std.specs.List.{slice_split}
 use Rattle.std.proofs.Math.Dec.{eqb}

@@ -1,5 +1,5 @@
 -- The marks that chunks say are fit.
-use Rattle.std.proofs.Common.{◌≡◌, ◌≢◌, ℕ, ◌<◌, ◌+◌, List, [], ◌∷◌, ◌++◌, length, Bool, true, false, ◌&&◌, Option, Some, None, Result, Ok, Err, refl, sym, subst, ap, ◌∙◌, arith, nat_lt, ltb}
+use Rattle.std.proofs.Common.{◌≡◌, ℕ, ◌<◌, ◌+◌, List, [], ◌∷◌, length, Bool, true, false, ◌&&◌, Option, Some, None, refl, subst, ap, arith, nat_lt}
 use Rattle.std.specs.Bool.{if◌then◌else◌}
 use Rattle.std.specs.List.{AllByRecursion, slice_split, position_or_len, before_first, after_first}
 use Rattle.std.proofs.Math.ListN.{length-take}
@@ -7,9 +7,7 @@ use Rattle.std.proofs.lemmas.List.Splits.{slice_split_first}
 use Rattle.std.proofs.lemmas.List.Sums.{split_at_first}
 use Rattle.std.proofs.lemmas.Bool.{ltb-true}
 use Rattle.xml_tree.specs.declared.tree.Attribute.{Attribute}
-use Rattle.xml_tree.specs.Marks.{Mark, opening, closing, words}
 use Rattle.xml_tree.specs.Normal.{Lacks, IsPlain, IsFilled, IsAttribute, IsFit}
-use Rattle.yxml.specs.declared.fault.YxmlFault.{YxmlFault}
 use Rattle.yxml.specs.Reading.{said, tag_said, opened, attribute_of, attributes_of, with_attribute, marks_said, marks_from, marks_in, is_x, is_y, is_equals}
 use Rattle.yxml.proofs.Pieces.{All-append, All-parts, All-map, IsPiece, each-piece, all-true}
 

@@ -1,8 +1,8 @@
 -- What joining texts keeps, and what it gives.
-use Rattle.std.proofs.Common.{◌≡◌, ◌≢◌, ℕ, ◌+◌, ◌-◌, List, [], ◌∷◌, ◌++◌, refl}
+use Rattle.std.proofs.Common.{◌≢◌, ℕ, ◌+◌, ◌-◌, List, [], ◌∷◌, ◌++◌, refl}
 use Rattle.std.specs.List.{AllByRecursion}
-use Rattle.xml_tree.specs.Marks.{Mark, opening, closing, words, open_after}
-use Rattle.xml_tree.specs.Normal.{IsFilled, IsFit, IsApart, AreApart}
+use Rattle.xml_tree.specs.Marks.{Mark, opening, closing, words}
+use Rattle.xml_tree.specs.Normal.{IsFit, IsApart, AreApart}
 use Rattle.xml_tree.proofs.Nesting.{IsWithin}
 use Rattle.yxml.specs.Spelling.{onto, joined}
 use Rattle.yxml.proofs.Pieces.{All-append}

@@ -20,8 +20,10 @@ pub settled-none : IsSettled []
 settled-none = record { settled = λ rest. refl }
 
 pub settled-append : (xs ys : List Mark) → IsSettled xs → IsSettled ys → IsSettled (xs ++ ys)
-settled-append xs ys p q = record { settled = λ rest. ap joined (append_assoc xs ys rest) ∙ p.settled (ys ++ rest)
-    ∙ ap (λ zs. xs ++ zs) (q.settled rest) ∙ sym (append_assoc xs ys (joined rest)) }
+settled-append xs ys p q = record {
+  settled = λ rest. ap joined (append_assoc xs ys rest) ∙ p.settled (ys ++ rest)
+      ∙ ap (λ zs. xs ++ zs) (q.settled rest) ∙ sym (append_assoc xs ys (joined rest));
+}
 
 pub settled-opening : (text name : List ℕ) (attributes : List _) → IsSettled (text_marks text ++ opening name attributes ∷ [])
 settled-opening [] name attributes = record { settled = λ rest. refl }

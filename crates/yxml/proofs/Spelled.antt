@@ -1,9 +1,9 @@
 -- What a spelling says of its body.
-use Rattle.std.proofs.Common.{◌≡◌, ◌≢◌, ℕ, ◌+◌, ◌≤◌, List, [], ◌∷◌, ◌++◌, length, Option, Some, None, Result, Ok, Err, IfOk, IfErr, refl, sym, subst, ap, ◌∙◌, arith}
+use Rattle.std.proofs.Common.{◌≡◌, ◌≢◌, ℕ, ◌+◌, ◌≤◌, List, [], length, Option, Some, None, Result, Ok, Err, IfOk, IfErr, refl, sym, subst, ◌∙◌, arith}
 use Rattle.std.specs.List.{AllByRecursion, slice_split}
 use Rattle.std.proofs.lemmas.List.{append-nil}
 use Rattle.xml_tree.specs.declared.tree.Tree.{Tree}
-use Rattle.xml_tree.specs.Marks.{Mark, marks}
+use Rattle.xml_tree.specs.Marks.{marks}
 use Rattle.xml_tree.specs.Normal.{IsNormal, IsFit, AreApart, height}
 use Rattle.xml_tree.proofs.Nesting.{IsWithin, Nests-trees}
 use Rattle.xml_tree.proofs.Rebuilt.{same_from_marks}

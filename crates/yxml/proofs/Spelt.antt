@@ -1,5 +1,5 @@
 -- What the chunks of a spelling say.
-use Rattle.std.proofs.Common.{◌≡◌, ◌≢◌, ℕ, ◌<◌, ◌+◌, List, [], ◌∷◌, ◌++◌, length, map, cond, not, take, drop, Bool, true, false, ◌&&◌, Option, Some, None, Result, Ok, refl, sym, subst, ap, ◌∙◌, append_assoc, nat_lt, arith}
+use Rattle.std.proofs.Common.{◌≡◌, ◌≢◌, ℕ, ◌<◌, ◌+◌, List, [], ◌∷◌, ◌++◌, length, map, cond, not, take, drop, Bool, true, false, ◌&&◌, Option, Some, None, Ok, refl, sym, ap, ◌∙◌, nat_lt, arith}
 use Rattle.std.specs.Bool.{if◌then◌else◌}
 use Rattle.std.specs.List.{AllByRecursion, slice_split, onto_first, flat_map, position_or_len}
 use Rattle.std.proofs.Math.ListN.{length-append}
@@ -8,10 +8,10 @@ use Rattle.std.proofs.lemmas.Bool.{lt-ltb}
 use Rattle.std.proofs.lemmas.List.{append-nil}
 use Rattle.std.proofs.lemmas.List.Splits.{slice_split-cons_no}
 use Rattle.xml_tree.specs.declared.tree.Attribute.{Attribute}
-use Rattle.xml_tree.specs.Marks.{Mark, opening, closing, words}
-use Rattle.xml_tree.specs.Normal.{Lacks, IsPlain, IsFilled, IsAttribute, IsFit}
-use Rattle.yxml.specs.Reading.{said, tag_said, opened, attribute_of, attributes_of, with_attribute, is_x, is_y, is_equals}
-use Rattle.yxml.specs.Spelling.{attribute_spelling, spelling}
+use Rattle.xml_tree.specs.Marks.{opening, words}
+use Rattle.xml_tree.specs.Normal.{Lacks, IsFilled, IsAttribute}
+use Rattle.yxml.specs.Reading.{said, opened, attribute_of, attributes_of, with_attribute, is_y, is_equals}
+use Rattle.yxml.specs.Spelling.{attribute_spelling}
 use Rattle.yxml.proofs.Pieces.{All-append}
 
 -- what lacks the separator joins the first piece of what follows
@@ -42,9 +42,9 @@ attribute-read a h =
     ∙ ap (λ t. if t then Some (record { key = take n all; value = drop (n + 1) all }) else None) inside
     ∙ ap (λ k. Some (record { key = k; value = drop (n + 1) all })) (take-append_seam a.key (61 ∷ a.value))
     ∙ ap (λ v. Some (record { key = a.key; value = v })) (drop-append-add a.key (61 ∷ a.value) 1) where
-  filled-length : (bs : List ℕ) → bs ≢ [] → 0 < length bs
-  filled-length [] some = absurd (some refl)
-  filled-length (b ∷ bs) some = omega arith
+      filled-length : (bs : List ℕ) → bs ≢ [] → 0 < length bs
+      filled-length [] some = absurd (some refl)
+      filled-length (b ∷ bs) some = omega arith
 
 attributes-read : (list : List Attribute) → AllByRecursion IsAttribute list → attributes_of (map attribute_text list) ≡ Some list
 attributes-read [] h = refl
@@ -59,7 +59,7 @@ attributes-split : (list : List Attribute) → AllByRecursion IsAttribute list
 attributes-split [] h = refl
 attributes-split (a ∷ list) h =
     ap (λ ps. [] ∷ ps) (text-split is_y (attribute_text a) (flat_map attribute_spelling list) (map attribute_text list)
-      (attribute-lacks 6 a h.0.0.1.1 h.0.2.1 (refl, tt)) (attributes-split list h.1))
+    (attribute-lacks 6 a h.0.0.1.1 h.0.2.1 (refl, tt)) (attributes-split list h.1))
 
 -- the chunk of a start tag
 abbrev pub tag_chunk : List ℕ → List Attribute → List ℕ

@@ -1,5 +1,5 @@
 -- The text that is written for a normal body spells it.
-use Rattle.std.proofs.Common.{◌≡◌, ◌≢◌, ℕ, ◌<◌, ◌+◌, ◌-◌, ◌≤◌, List, [], ◌∷◌, ◌++◌, length, Bool, true, false, Option, Some, None, Result, Ok, refl, sym, subst, ap, ◌∙◌, append_assoc, nat_lt, arith}
+use Rattle.std.proofs.Common.{◌≡◌, ℕ, ◌<◌, ◌+◌, ◌≤◌, List, [], ◌∷◌, ◌++◌, length, true, false, Option, Some, None, Ok, refl, sym, subst, ap, ◌∙◌, append_assoc, nat_lt, arith}
 use Rattle.std.specs.Bool.{if◌then◌else◌, ◌==◌}
 use Rattle.std.specs.List.{AllByRecursion, slice_split}
 use Rattle.std.proofs.lemmas.Bool.{lt-ltb, ne_eqb}
@@ -52,11 +52,11 @@ say_mark : (m : Mark) (ms : List Mark) (chunk : List ℕ) (chunks : List (List �
 say_mark m ms chunk chunks says p = record {
   marks = λ at. ap (λ r. marks_said r ++ marks_from (at + length chunk + 1) chunks) (says at) ∙ ap (λ ns. m ∷ ns) (p.marks (at + length chunk + 1));
   fine = λ d at end w none.
-    let rest = at + length chunk + 1 in
-    let here = fine_mark d at m ms w in
-    ap (λ r. or_later (nesting_fault d at r) (first_fault (open_after d (marks_said r)) rest chunks end)) (says at)
-    ∙ ap (λ o. or_later o (first_fault (open_after d (m ∷ [])) rest chunks end)) here.0
-    ∙ p.fine (open_after d (m ∷ [])) rest end here.1 (sym (open_after-cons d m ms) ∙ none);
+      let rest = at + length chunk + 1 in
+      let here = fine_mark d at m ms w in
+      ap (λ r. or_later (nesting_fault d at r) (first_fault (open_after d (marks_said r)) rest chunks end)) (says at)
+      ∙ ap (λ o. or_later o (first_fault (open_after d (m ∷ [])) rest chunks end)) here.0
+      ∙ p.fine (open_after d (m ∷ [])) rest end here.1 (sym (open_after-cons d m ms) ∙ none);
 }
 
 -- the text with which the marks begin, and what stands behind it
@@ -83,10 +83,10 @@ chunked-opening : (name : List ℕ) (attributes : List _) (ms : List Mark) → A
 chunked-opening name attributes ms fit c = record {
   more = tag_chunk name attributes ∷ first_text ms ∷ c.more;
   split = ap (λ bs. [] ∷ slice_split is_x bs) (append_assoc (tag_chunk name attributes) (5 ∷ []) (spellings ms))
-    ∙ ap (λ ps. [] ∷ ps) (text-split is_x (tag_chunk name attributes) (5 ∷ spellings ms) (first_text ms ∷ c.more)
+      ∙ ap (λ ps. [] ∷ ps) (text-split is_x (tag_chunk name attributes) (5 ∷ spellings ms) (first_text ms ∷ c.more)
       (tag_chunk-lacks name attributes fit.0.0 fit.0.1) (ap (λ ps. [] ∷ ps) c.split));
   says = say_mark (opening name attributes) ms (tag_chunk name attributes) (first_text ms ∷ c.more)
-    (λ at. opening-said at name attributes fit.0.0 fit.0.1) (say_all ms fit.1 c);
+      (λ at. opening-said at name attributes fit.0.0 fit.0.1) (say_all ms fit.1 c);
 }
 
 chunked-closing : (ms : List Mark) → AllByRecursion IsFit ms → Chunked ms → Chunked (closing ∷ ms)

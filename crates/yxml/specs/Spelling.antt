@@ -1,5 +1,5 @@
 -- How a body is written, and which texts spell it.
-use Rattle.std.specs.Prelude.{◌≡◌, ℕ, List, [], ◌∷◌, ◌++◌, Option, None, Result, Ok, Err}
+use Rattle.std.specs.Prelude.{◌≡◌, ℕ, List, [], ◌∷◌, ◌++◌, None, Result, Ok, Err}
 use Rattle.std.specs.List.{flat_map}
 use Rattle.xml_tree.specs.declared.tree.Attribute.{Attribute}
 use Rattle.xml_tree.specs.declared.tree.Tree.{Tree}

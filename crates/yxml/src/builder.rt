@@ -46,7 +46,7 @@ impl Builder {
     }
 
     /// The text that went on ends here.
-    fn end_text(&mut self, alloc: Global) -> Result<(), AllocError>
+    pub(crate) fn end_text(&mut self, alloc: Global) -> Result<(), AllocError>
         ensures { OnOk result (self.new
             ≡ record self.old { body = with_text self.old.body self.old.text; text = [] }) }
     {

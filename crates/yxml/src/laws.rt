@@ -10,5 +10,4 @@ pub fn what_is_written_is_read_back()
     ensures normal { (text : List ℕ) (body : List Tree) → Spells text body → IsNormal body }
     ensures one { (text : List ℕ) (body other : List Tree)
         → Spells text body → Spells text other → body ≡ other }
-{
-}
+{}

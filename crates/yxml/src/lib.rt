@@ -11,10 +11,9 @@ mod fault;
 mod laws;
 mod reading;
 mod tag;
-mod writing;
-
 #[cfg(test)]
 mod tests;
+mod writing;
 
 pub use fault::YxmlFault;
 pub use laws::what_is_written_is_read_back;

@@ -51,12 +51,7 @@ fn read_all(alloc: Global, text: &str) -> Result<Body, YxmlFault>
 }
 
 /// Reads one chunk, which begins at `at`.
-fn take_chunk(
-    alloc: Global,
-    builder: &mut Builder,
-    chunk: &str,
-    at: usize,
-) -> Result<(), YxmlFault>
+fn take_chunk(alloc: Global, builder: &mut Builder, chunk: &str, at: usize) -> Result<(), YxmlFault>
     ensures taken { OnOk result (Takes builder.old builder.new
         (marks_said (said at (slice_split is_y chunk.now)))) }
     ensures fine { OnOk result

@@ -2,7 +2,7 @@ ghost use Rattle.std.specs.Prelude.{◌≡◌, ◌++◌, IfOk, OnOk, string_byte
 ghost use Rattle.std.specs.List.{flat_map};
 ghost use Rattle.xml_tree.specs.Marks.{marks, tree_marks, opening};
 ghost use Rattle.xml_tree.specs.Normal.{IsNormal};
-ghost use Rattle.yxml.specs.Spelling.{yxml, spelling, spellings, attribute_spelling};
+ghost use Rattle.yxml.specs.Spelling.{yxml, spelling, spellings, attribute_spelling, Spells};
 
 use std::alloc::{AllocError, Global};
 use xml_tree::{Attribute, Body, Tree};
@@ -10,7 +10,8 @@ use xml_tree::{Attribute, Body, Tree};
 /// The YXML text of a normal body, which `parse_body` reads back.
 pub fn write_body(alloc: Global, body: &Body) -> Result<String, AllocError>
     requires { IsNormal body.now }
-    ensures { IfOk result (λ text. string_bytes text ≡ yxml body.now) }
+    ensures text { IfOk result (λ text. string_bytes text ≡ yxml body.now) }
+    ensures spells { IfOk result (λ text. Spells (string_bytes text) body.now) }
 {
     let mut text = String::new(alloc);
     write_trees(&mut text, body.as_slice())?;

@@ -1,5 +1,5 @@
 -- Y stands inside a text.
-use Rattle.std.proofs.Common.{rules, ◌≢◌, []}
+use Rattle.std.proofs.Common.{rules}
 use Rattle.yxml.proofs.Tags.{bad-text}
 use Rattle.yxml.proofs.reading.take_chunk.Goals as goal
 

@@ -9,4 +9,4 @@ use Rattle.yxml.proofs.builder.Builder.add_text.Goals as goal
 pub returns : goal.returns
 returns c = on_ok_weaker c.push_str.result
     (λ e. subst (λ t. Takes c.args.self.now (record c.args.self.now { text = t }) (words c.args.text.now ∷ [])) (sym e)
-      (takes-text c.args.self.now c.args.text.now c.requires)) c.push_str.ensures.ok
+    (takes-text c.args.self.now c.args.text.now c.requires)) c.push_str.ensures.ok
