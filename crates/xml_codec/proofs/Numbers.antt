@@ -12,15 +12,15 @@ use lib.Signed.{mag}
 use mir.Val.{to_z, of_z, SFits}
 use Rattle.xml_codec.specs.Data.{IsShort}
 
-short-small : (n : ℤ) → IsShort n → mag n < 2 ^ 63
-short-small (pos n) short = omega (arith, ints, short.1)
-short-small (negsuc n) short = omega (arith, ints, short.0)
+pub short_small : (n : ℤ) → IsShort n → mag n < 2 ^ 63
+short_small (pos n) short = omega (arith, ints, short.1)
+short_small (negsuc n) short = omega (arith, ints, short.0)
 
 short-fits : (n : ℤ) → IsShort n → SFits w64 n
 short-fits n short = omega (arith, ints, short.0, short.1)
 
 pub int_read : {E : Type 0} (n : ℤ) (text : List ℕ) (r : Result ℤ E) → IsShort n → text ≡ signed_decimal n → ParsesSigned w64 10 text r → r ≡ Ok n
-int_read n text r short e h = parse-signed_decimal w64 n text r (short-fits n short) (short-small n short) e h
+int_read n text r short e h = parse-signed_decimal w64 n text r (short-fits n short) (short_small n short) e h
 
 -- the number that was read, as it is passed on
 pub passed_on : {E : Type 0} (m n : ℤ) (r : Result ℤ E) → IsShort n → r ≡ Ok n → r ≡ Ok m → to_z w64 (of_z w64 m) ≡ n

@@ -6,12 +6,19 @@
 #![tactic(auto)]
 
 mod fault;
+mod laws;
 mod leaf;
 mod node;
 mod number;
 mod variant;
 
+#[cfg(test)]
+mod tests;
+
 pub use fault::DataFault;
+pub use laws::{
+    a_body_encodes_one_value, a_faulty_body_encodes_no_value, bodies_are_normal, bodies_nest,
+};
 pub use leaf::{get_bool, get_int, get_string, put_bool, put_int, put_string};
 pub use node::{get_list, get_option, get_pair, put_list, put_option, put_pair};
 pub use number::is_short;
