@@ -1,8 +1,7 @@
 -- A body whose children are read from the last.
-use Rattle.std.proofs.Common.{◌≡◌, ◌≢◌, ℕ, ◌+◌, List, [], ◌∷◌, ◌++◌, length, Option, Some, None, refl, sym, ap, ◌∙◌, subst, append_assoc, reverse, arith}
+use Rattle.std.proofs.Common.{◌≡◌, ◌≢◌, ℕ, ◌+◌, List, [], ◌∷◌, ◌++◌, length, Option, Some, None, sym, ap, ◌∙◌, append_assoc, reverse, arith}
 use Rattle.xml_tree.specs.declared.tree.Tree.{Tree}
 use Rattle.xml_codec.specs.Data.{node, list_body}
-use Rattle.xml_codec.specs.Faults.{IsFirstOther}
 
 -- what stands behind the nodes that are read: nothing, or the child at this place, which is no node
 abbrev pub IsBehind : Option ℕ → List Tree → ℕ → Type 0

@@ -1,5 +1,5 @@
 -- Attributes that are numbered from 0.
-use Rattle.std.proofs.Common.{◌≡◌, ◌≢◌, ℕ, ◌+◌, List, [], ◌∷◌, ◌++◌, length, refl, sym, ap, ◌∙◌, subst, append_assoc, reverse, arith, decimal}
+use Rattle.std.proofs.Common.{◌≡◌, ◌≢◌, ℕ, ◌+◌, List, [], ◌∷◌, ◌++◌, length, sym, ap, ◌∙◌, append_assoc, reverse, arith, decimal}
 use Rattle.std.proofs.lemmas.List.{reverse-append}
 use Rattle.xml_tree.specs.declared.tree.Attribute.{Attribute}
 use Rattle.xml_codec.specs.Data.{numbered_from}
@@ -17,7 +17,7 @@ number_last whole left front reversed pushed a is last push key =
     let numbered : record { key = decimal (0 + length front); value = a.value } ≡ a = ap (λ (k : List ℕ). record { key = k; value = a.value }) (ap decimal (omega arith) ∙ sym key) in
     ap (λ rs. numbered_from 0 front ++ reverse rs) push ∙ ap (λ rs. numbered_from 0 front ++ rs) (reverse-append reversed (a ∷ []))
     ∙ sym (ap (λ l. numbered_from 0 l ++ reverse reversed) last ∙ ap (λ made. made ++ reverse reversed) (numbered-append 0 front a.value)
-      ∙ append_assoc (numbered_from 0 front) _ (reverse reversed) ∙ ap (λ b. numbered_from 0 front ++ b ∷ reverse reversed) numbered) ∙ is
+    ∙ append_assoc (numbered_from 0 front) _ (reverse reversed) ∙ ap (λ b. numbered_from 0 front ++ b ∷ reverse reversed) numbered) ∙ is
 
 key-at : (n : ℕ) (values : List (List ℕ)) (front : List Attribute) (a : Attribute) (rest : List Attribute)
     → numbered_from n values ≡ front ++ a ∷ rest → a.key ≡ decimal (n + length front)

@@ -1,5 +1,5 @@
 -- A printed number is read as itself.
-use Rattle.std.proofs.Common.{◌≡◌, ℕ, ◌<◌, ◌^◌, List, [], ◌∷◌, Bool, true, false, ◌&&◌, Result, Ok, refl, sym, ap, ◌∙◌, subst, arith, w64, decimal}
+use Rattle.std.proofs.Common.{◌≡◌, ℕ, ◌<◌, ◌^◌, List, [], ◌∷◌, true, ◌&&◌, Result, Ok, refl, sym, ap, ◌∙◌, subst, arith, w64, decimal}
 use Rattle.std.specs.Prelude.{ℤ, pos, negsuc}
 use Rattle.std.specs.Fmt.{signed_decimal}
 use Rattle.std.specs.Str.Parse.{ParsesSigned, ParsesUnsigned}

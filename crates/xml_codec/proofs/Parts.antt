@@ -1,5 +1,5 @@
 -- The bodies of values are normal.
-use Rattle.std.proofs.Common.{◌≡◌, ◌≢◌, ℕ, ◌<◌, ◌≤◌, ◌+◌, ◌^◌, ◌/◌, ◌%◌, max, Bool, true, false, List, [], ◌∷◌, ◌++◌, length, map, Option, Some, None, ◌⊎◌, inl, inr, suc, refl, sym, ap, ◌∙◌, subst, append_assoc, arith, decimal}
+use Rattle.std.proofs.Common.{◌≡◌, ◌≢◌, ℕ, ◌<◌, ◌≤◌, ◌+◌, ◌^◌, ◌%◌, max, Bool, true, false, List, [], ◌∷◌, ◌++◌, length, Some, ◌⊎◌, inl, inr, suc, refl, sym, ap, subst, append_assoc, arith, decimal}
 use Rattle.std.specs.Bool.{◌==◌}
 use Rattle.std.specs.Prelude.{ℤ, pos, negsuc}
 use Rattle.std.specs.Fmt.{signed_decimal}
@@ -174,7 +174,7 @@ pub variant_normal : (index : ℕ) (values : List (List ℕ)) (argument : List T
     → IsNormal (variant_body index values argument)
 variant_normal index values argument small plain n =
     normal _ (part-both _ [] (part-element (decimal index) (numbered_from 0 values) argument (filled-graphic (decimal index) (graphic-decimal index (omega (arith, small))))
-      (numbered-fit 0 values (omega (arith, small)) plain) n.normal) part-none)
+    (numbered-fit 0 values (omega (arith, small)) plain) n.normal) part-none)
     (omega (arith, variant_height index values argument, n.room))
 
 pub int_height : (n : ℤ) → height (int_body n) ≡ 0

@@ -1,7 +1,6 @@
 -- A body encodes at most one value.
-use Rattle.std.proofs.Common.{◌≡◌, ◌≢◌, ℕ, ◌<◌, ◌≤◌, ◌+◌, ◌^◌, Bool, true, false, List, [], ◌∷◌, ◌++◌, length, Option, Some, None, IsTrue, MatchBool, refl, sym, ap, ◌∙◌, subst, arith, decimal}
-use Rattle.std.specs.Prelude.{ℤ, pos, negsuc}
-use Rattle.std.specs.Fmt.{signed_decimal}
+use Rattle.std.proofs.Common.{◌≡◌, ◌≢◌, ℕ, ◌<◌, ◌+◌, ◌^◌, Bool, true, false, List, [], ◌∷◌, ◌++◌, length, Option, Some, None, MatchBool, refl, sym, ap, ◌∙◌, decimal}
+use Rattle.std.specs.Prelude.{ℤ}
 use Rattle.std.proofs.lemmas.Fmt.{signed_decimal_injective, decimal_is_IsNumeral}
 use Rattle.std.proofs.lemmas.List.{length-map, append_cancel_right}
 use Rattle.std.specs.Str.Parse.{digits_value}
@@ -13,8 +12,8 @@ use Rattle.xml_tree.proofs.Joined.{tree_marks-Elem}
 use Rattle.xml_tree.proofs.Rebuilt.{same_from_marks}
 use Rattle.xml_codec.specs.declared.fault.DataFault.{DataFault}
 use Rattle.xml_codec.specs.declared.fault.DataFault.TheVariants.{Wrong, NoMemory}
-use Rattle.xml_codec.specs.Data.{IsShort, node, int_body, bool_body, string_body, pair_body, list_body, option_body, numbered_from, variant_body}
-use Rattle.xml_codec.specs.Faults.{IsFirstOther, IsNodesFault, any_number, two, at_most_one}
+use Rattle.xml_codec.specs.Data.{IsShort, node, int_body, pair_body, list_body, option_body, numbered_from, variant_body}
+use Rattle.xml_codec.specs.Faults.{IsFirstOther, IsNodesFault, two, at_most_one}
 use Rattle.xml_codec.proofs.Numbers.{short_small}
 
 text_same : (s t : List ℕ) → Text s ∷ [] ≡ Text t ∷ [] → s ≡ t
@@ -24,7 +23,7 @@ text_same s t e = cc
 inside_same : (one other : List ℕ) (some more : List Attribute) (a b : List Tree) → Elem one some a ≡ Elem other more b → a ≡ b
 inside_same one other some more a b e =
     let alike : opening one some ∷ (marks a ++ closing ∷ []) ≡ opening other more ∷ (marks b ++ closing ∷ []) =
-      sym (tree_marks-Elem one some a) ∙ ap tree_marks e ∙ tree_marks-Elem other more b in
+    sym (tree_marks-Elem one some a) ∙ ap tree_marks e ∙ tree_marks-Elem other more b in
     let tails : marks a ++ closing ∷ [] ≡ marks b ++ closing ∷ [] = cc in
     same_from_marks a b (append_cancel_right (marks a) (marks b) (closing ∷ []) tails)
 
@@ -52,12 +51,16 @@ option_one None (Some y) e = absurd (cc)
 option_one (Some x) None e = absurd (cc)
 option_one (Some x) (Some y) e = let h = list_one (x ∷ []) (y ∷ []) e in cc
 
+-- the attribute with this number
+abbrev numbered : ℕ → List ℕ → Attribute
+numbered n value = record { key = decimal n; value = value }
+
 numbered_one : (n : ℕ) (s t : List (List ℕ)) → numbered_from n s ≡ numbered_from n t → s ≡ t
 numbered_one n [] [] e = refl
 numbered_one n [] (y ∷ ys) e = absurd (cc)
 numbered_one n (x ∷ xs) [] e = absurd (cc)
 numbered_one n (x ∷ xs) (y ∷ ys) e =
-    let first : record { key = decimal n; value = x } ≡ record { key = decimal n; value = y } = cc in
+    let first : numbered n x ≡ numbered n y = cc in
     let others : numbered_from (n + 1) xs ≡ numbered_from (n + 1) ys = cc in
     let value : x ≡ y = ap (λ (a : Attribute). a.value) first in
     let k = numbered_one (n + 1) xs ys others in cc
@@ -89,8 +92,8 @@ faulty_none may body (Wrong path) some fault items allowed e = go (may (length b
   go : (b : Bool) → may (length body) ≡ b → MatchBool b ((place : ℕ) × IsFirstOther body place × (path ≡ place ∷ [])) (path ≡ []) → ⊥
   go true m h = other_none h.1.before h.1.child h.1.behind h.1.other items (sym h.1.whole ∙ e)
   go false m h =
-    let same : length body ≡ length items = ap length e ∙ length-map items node in
-    let no : may (length items) ≡ false = ap may (sym same) ∙ m in cc
+      let same : length body ≡ length items = ap length e ∙ length-map items node in
+      let no : may (length items) ≡ false = ap may (sym same) ∙ m in cc
 
 pub pair_none : (body : List Tree) (f : DataFault) → f ≢ NoMemory → IsNodesFault two body f → (first second : List Tree) → body ≢ pair_body first second
 pair_none body f some fault first second = faulty_none two body f some fault (first ∷ second ∷ []) refl

@@ -20,8 +20,7 @@ pub fn bodies_are_normal()
     ensures variant { (index : ℕ) (values : List (List ℕ)) (argument : List Tree)
         → index + length values < 2 ^ 64 → AllByRecursion IsPlain values → IsNestable argument
         → IsNormal (variant_body index values argument) }
-{
-}
+{}
 
 /// How many elements the body of a value nests.
 pub fn bodies_nest()
@@ -35,8 +34,7 @@ pub fn bodies_nest()
     ensures option { (item : List Tree) → height (option_body (Some item)) ≡ 1 + height item }
     ensures variant { (index : ℕ) (values : List (List ℕ)) (argument : List Tree)
         → height (variant_body index values argument) ≡ 1 + height argument }
-{
-}
+{}
 
 /// A body encodes at most one value of a shape, so what is read is the value that was put.
 pub fn a_body_encodes_one_value()
@@ -48,8 +46,7 @@ pub fn a_body_encodes_one_value()
     ensures option { (a b : Option (List Tree)) → option_body a ≡ option_body b → a ≡ b }
     ensures variant { (i j : ℕ) (s t : List (List ℕ)) (a b : List Tree) → i < 2 ^ 64 → j < 2 ^ 64
         → variant_body i s a ≡ variant_body j t b → (i ≡ j) × (s ≡ t) × (a ≡ b) }
-{
-}
+{}
 
 /// A body at fault encodes no value of the shape.
 pub fn a_faulty_body_encodes_no_value()
@@ -59,5 +56,4 @@ pub fn a_faulty_body_encodes_no_value()
         → IsNodesFault two body f → (first second : List Tree) → body ≢ pair_body first second }
     ensures option { (body : List Tree) (f : DataFault) → f ≢ DataFault.NoMemory
         → IsNodesFault at_most_one body f → (item : Option (List Tree)) → body ≢ option_body item }
-{
-}
+{}

@@ -10,10 +10,9 @@ mod laws;
 mod leaf;
 mod node;
 mod number;
-mod variant;
-
 #[cfg(test)]
 mod tests;
+mod variant;
 
 pub use fault::DataFault;
 pub use laws::{

@@ -108,7 +108,7 @@ pub fn get_pair(alloc: Global, body: Body) -> Result<(Body, Body), DataFault>
     }
     let mut items = get_list(alloc, body)?;
     let (Some(second), Some(first)) = (items.pop(), items.pop()) else {
-        return Err(DataFault::here(alloc));
+        unreachable!()
     };
     Ok((first, second))
 }

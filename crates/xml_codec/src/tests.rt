@@ -1,6 +1,6 @@
 use crate::{
-    DataFault, get_bool, get_int, get_list, get_option, get_pair, get_string, get_variant, put_bool,
-    put_int, put_list, put_option, put_pair, put_string, put_variant,
+    DataFault, get_bool, get_int, get_list, get_option, get_pair, get_string, get_variant,
+    put_bool, put_int, put_list, put_option, put_pair, put_string, put_variant,
 };
 use sqlite_items::Items;
 use std::alloc::{AllocError, Global};
@@ -46,18 +46,35 @@ fn a_list_of_integers_is_read_or_its_wrong_child_named(rt: HostRuntime) -> Resul
     let numbers = ints(alloc, list(alloc, &["1", "2"])?)?;
     assert_eq!(rt; numbers.as_slice(), [1, 2].as_slice());
     let fault = ints(alloc, list(alloc, &["1", "x"])?).err();
-    assert_eq!(rt; shown(alloc, fault)?.as_str(), "Some(Wrong { path: Items { items: [1] } })");
+    assert_eq!(rt;
+        shown(alloc, fault)?.as_str(),
+        "Some(Wrong { path: Items { items: [1] } })"
+    );
     let fault = get_list(alloc, text(alloc, "1")?).err();
-    assert_eq!(rt; shown(alloc, fault)?.as_str(), "Some(Wrong { path: Items { items: [0] } })");
+    assert_eq!(rt;
+        shown(alloc, fault)?.as_str(),
+        "Some(Wrong { path: Items { items: [0] } })"
+    );
     Ok(())
 }
 
 #[test]
 fn an_integer_has_one_spelling_of_at_most_18_digits(rt: HostRuntime) -> Result<(), Fail> {
     let alloc = rt.alloc();
-    for wrong in ["", "-0", "01", "+1", "1000000000000000000", "-1000000000000000000", "1x"] {
+    for wrong in [
+        "",
+        "-0",
+        "01",
+        "+1",
+        "1000000000000000000",
+        "-1000000000000000000",
+        "1x",
+    ] {
         let fault = get_int(alloc, text(alloc, wrong)?).err();
-        assert_eq!(rt; shown(alloc, fault)?.as_str(), "Some(Wrong { path: Items { items: [] } })");
+        assert_eq!(rt;
+            shown(alloc, fault)?.as_str(),
+            "Some(Wrong { path: Items { items: [] } })"
+        );
     }
     let rows = [
         ("0", 0),
@@ -78,7 +95,10 @@ fn truth_values_and_texts_come_back(rt: HostRuntime) -> Result<(), Fail> {
     assert_eq!(rt; get_bool(alloc, put_bool(alloc, false)?).ok(), Some(false));
     assert!(rt; get_bool(alloc, text(alloc, "2")?).is_err());
     assert_eq!(rt; get_string(alloc, put_string(alloc, "")?)?.as_str(), "");
-    assert_eq!(rt; get_string(alloc, put_string(alloc, "a b")?)?.as_str(), "a b");
+    assert_eq!(rt;
+        get_string(alloc, put_string(alloc, "a b")?)?.as_str(),
+        "a b"
+    );
     assert!(rt; get_string(alloc, text(alloc, "")?).is_err());
     Ok(())
 }
@@ -91,7 +111,10 @@ fn pairs_and_options_come_back_and_more_children_do_not(rt: HostRuntime) -> Resu
     assert_eq!(rt; get_int(alloc, first).ok(), Some(1));
     assert_eq!(rt; get_string(alloc, second)?.as_str(), "y");
     let fault = get_pair(alloc, list(alloc, &["1", "2", "3"])?).err();
-    assert_eq!(rt; shown(alloc, fault)?.as_str(), "Some(Wrong { path: Items { items: [] } })");
+    assert_eq!(rt;
+        shown(alloc, fault)?.as_str(),
+        "Some(Wrong { path: Items { items: [] } })"
+    );
     let some = put_option(alloc, Some(put_int(alloc, 7)?))?;
     let Some(item) = get_option(alloc, some)? else {
         panic!(rt; "no item");
@@ -116,6 +139,9 @@ fn a_variant_comes_back_with_its_attributes(rt: HostRuntime) -> Result<(), Fail>
     assert_eq!(rt; values.as_slice()[1].as_str(), "b");
     assert_eq!(rt; get_int(alloc, argument).ok(), Some(5));
     let fault = get_variant(alloc, list(alloc, &["1"])?).err();
-    assert_eq!(rt; shown(alloc, fault)?.as_str(), "Some(Wrong { path: Items { items: [0] } })");
+    assert_eq!(rt;
+        shown(alloc, fault)?.as_str(),
+        "Some(Wrong { path: Items { items: [0] } })"
+    );
     Ok(())
 }

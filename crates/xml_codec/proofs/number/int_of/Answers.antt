@@ -1,5 +1,5 @@
 -- A text that is printed for a number is read as that number.
-use Rattle.std.proofs.Common.{◌≡◌, true, false, sym, ap, subst, ◌∙◌}
+use Rattle.std.proofs.Common.{◌≡◌, true, sym, ap, subst, ◌∙◌}
 use Rattle.std.specs.Fmt.{signed_decimal}
 use Rattle.xml_codec.specs.Data.{IsShort}
 use Rattle.xml_codec.proofs.Numbers.{int_read, passed_on, same_text}
