@@ -1,0 +1,23 @@
+use crate::xml_string::XmlString;
+use sqlite_items::Items;
+
+/// An attribute of an element. Keys may repeat.
+#[derive(Debug, Drop)]
+pub struct Attribute {
+    pub key: XmlString,
+    pub value: XmlString,
+}
+
+/// An element with what stands in it, or a text.
+#[derive(Debug, Drop)]
+pub enum Tree {
+    Elem {
+        name: XmlString,
+        attributes: Items<Attribute>,
+        body: Items<Tree>,
+    },
+    Text(XmlString),
+}
+
+/// What stands in a document or in an element: trees, one after the other.
+pub type Body = Items<Tree>;

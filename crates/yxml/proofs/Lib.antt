@@ -1,0 +1,13 @@
+pub mod Attributes
+pub mod Builders
+pub mod Cuts
+pub mod Depths
+pub mod Fit
+pub mod Joining
+pub mod Pieces
+pub mod Progress
+pub mod Settled
+pub mod Spelled
+pub mod Spelt
+pub mod Tags
+pub mod Written

@@ -1,0 +1,4 @@
+pub mod Builder
+pub mod Cut
+pub mod Reading
+pub mod Spelling

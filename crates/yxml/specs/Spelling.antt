@@ -1,0 +1,44 @@
+-- How a body is written, and which texts spell it.
+use Rattle.std.specs.Prelude.{◌≡◌, ℕ, List, [], ◌∷◌, ◌++◌, None, Result, Ok, Err}
+use Rattle.std.specs.List.{flat_map}
+use Rattle.xml_tree.specs.declared.tree.Attribute.{Attribute}
+use Rattle.xml_tree.specs.declared.tree.Tree.{Tree}
+use Rattle.xml_tree.specs.Marks.{Mark, opening, closing, words, marks}
+use Rattle.yxml.specs.declared.fault.YxmlFault.{YxmlFault}
+use Rattle.yxml.specs.declared.fault.YxmlFault.TheVariants.{NoMemory}
+use Rattle.yxml.specs.Reading.{marks_in, fault_in}
+
+abbrev pub attribute_spelling : Attribute → List ℕ
+attribute_spelling a = 6 ∷ (a.key ++ 61 ∷ a.value)
+
+-- X Y name, Y key=value for each attribute, X; the body; X Y X; texts verbatim (The Isabelle System Manual, "YXML")
+abbrev pub spelling : Mark → List ℕ
+spelling (opening name attributes) = 5 ∷ 6 ∷ (name ++ flat_map attribute_spelling attributes ++ 5 ∷ [])
+spelling closing = 5 ∷ 6 ∷ 5 ∷ []
+spelling (words text) = text
+
+abbrev pub spellings : List Mark → List ℕ
+spellings ms = flat_map spelling ms
+
+-- the one text that is written for a body
+abbrev pub yxml : List Tree → List ℕ
+yxml body = spellings (marks body)
+
+abbrev pub onto : Mark → List Mark → List Mark
+onto (words text) (words next ∷ ms) = words (text ++ next) ∷ ms
+onto m ms = m ∷ ms
+
+-- texts side by side are one text
+abbrev pub joined : List Mark → List Mark
+joined [] = []
+joined (m ∷ ms) = onto m (joined ms)
+
+-- the text has no fault, and its marks are the body's, once texts side by side are joined
+pub record Spells (text : List ℕ) (body : List Tree) : Type 0 where
+  pub faultless : fault_in text ≡ None
+  pub same : joined (marks_in text) ≡ marks body
+
+-- the answer is the body, or want of memory
+abbrev pub ReadsAs : List Tree → Result (List Tree) YxmlFault → Type 0
+ReadsAs body (Ok read) = read ≡ body
+ReadsAs body (Err fault) = fault ≡ NoMemory
