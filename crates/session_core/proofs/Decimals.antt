@@ -12,12 +12,14 @@ pub record Writes (n : ℕ) (digits : List ℕ) : Type 0 where
   pub number : number_after 0 digits ≡ n
   pub high : AllByRecursion (λ digit. 48 ≤ digit) digits
 
-number_after-push : (n : ℕ) (digits : List ℕ) (d : ℕ) → number_after n (digits ++ d ∷ []) ≡ number_after n digits * 10 + min (d - 48) 9
+number_after-push : (n : ℕ) (digits : List ℕ) (d : ℕ)
+    → number_after n (digits ++ d ∷ []) ≡ number_after n digits * 10 + min (d - 48) 9
 number_after-push n [] d = refl
 number_after-push n (x ∷ digits) d = number_after-push (n * 10 + min (x - 48) 9) digits d
 
 -- each is at least the bound where two lists are joined
-pub high-append : (k : ℕ) (xs ys : List ℕ) → AllByRecursion (λ x. k ≤ x) xs → AllByRecursion (λ x. k ≤ x) ys → AllByRecursion (λ x. k ≤ x) (xs ++ ys)
+pub high-append : (k : ℕ) (xs ys : List ℕ) → AllByRecursion (λ x. k ≤ x) xs → AllByRecursion (λ x. k ≤ x) ys
+    → AllByRecursion (λ x. k ≤ x) (xs ++ ys)
 high-append k [] ys a b = b
 high-append k (x ∷ xs) ys a b = (a.0, high-append k xs ys a.1 b)
 

@@ -8,10 +8,12 @@ use Rattle.session_core.specs.Guess.{BeginsWith, guess}
 use Rattle.session_core.specs.Stream.{IsMessage, IsPlain, IsStreamOf, header_line, spelling, stream}
 
 -- it begins so, and what follows is plain
-pub begins_plain : (bytes : List ℕ) → IsPlain bytes → 0 < length bytes → (rest : List ℕ) × (BeginsWith bytes (guess bytes) rest × IsPlain rest)
+pub begins_plain : (bytes : List ℕ) → IsPlain bytes → 0 < length bytes
+    → (rest : List ℕ) × (BeginsWith bytes (guess bytes) rest × IsPlain rest)
 begins_plain bytes plain some = go plain.0 plain.1
   where
-    go : (messages : List (List (List ℕ))) → IsStreamOf bytes messages → (rest : List ℕ) × (BeginsWith bytes (guess bytes) rest × IsPlain rest)
+    go : (messages : List (List (List ℕ))) → IsStreamOf bytes messages
+        → (rest : List ℕ) × (BeginsWith bytes (guess bytes) rest × IsPlain rest)
     go [] read = absurd (omega (arith, ap length read.spelled))
     go (message ∷ messages) read =
         let fits : IsMessage message = read.messages_all.0 in
@@ -32,13 +34,14 @@ plain_after bytes rest some found plain =
     subst IsPlain same begins.1.1
 
 -- one more message
-pub stream-push : (messages : List (List (List ℕ))) (message : List (List ℕ)) → stream (messages ++ message ∷ []) ≡ stream messages ++ spelling message
+pub stream-push : (messages : List (List (List ℕ))) (message : List (List ℕ))
+    → stream (messages ++ message ∷ []) ≡ stream messages ++ spelling message
 stream-push [] message = append-nil (spelling message)
 stream-push (first ∷ messages) message =
     ap (λ rest. spelling first ++ rest) (stream-push messages message) ∙ sym (append_assoc (spelling first) (stream messages) (spelling message))
 
-pub messages_all-push : (messages : List (List (List ℕ))) (message : List (List ℕ)) → AllByRecursion IsMessage messages → IsMessage message
-    → AllByRecursion IsMessage (messages ++ message ∷ [])
+pub messages_all-push : (messages : List (List (List ℕ))) (message : List (List ℕ))
+    → AllByRecursion IsMessage messages → IsMessage message → AllByRecursion IsMessage (messages ++ message ∷ [])
 messages_all-push [] message all fits = (fits, tt)
 messages_all-push (first ∷ messages) message all fits = (all.0, messages_all-push messages message all.1 fits)
 
@@ -46,7 +49,8 @@ messages_all-push (first ∷ messages) message all fits = (all.0, messages_all-p
 pub read_on : (messages : List (List (List ℕ))) (chunks : List (List ℕ)) (bytes left rest : List ℕ)
     → stream messages ++ left ≡ bytes → left ≡ spelling chunks ++ rest → stream (messages ++ chunks ∷ []) ++ rest ≡ bytes
 read_on messages chunks bytes left rest whole front =
-    rw (stream-push messages chunks) (rw (append_assoc (stream messages) (spelling chunks) rest) (ap (λ l. stream messages ++ l) (sym front) ∙ whole))
+    rw (stream-push messages chunks)
+    (rw (append_assoc (stream messages) (spelling chunks) rest) (ap (λ l. stream messages ++ l) (sym front) ∙ whole))
 
 -- a message takes at least a byte
 pub shorter : (bytes : List ℕ) (chunks : List (List ℕ)) (rest : List ℕ) → BeginsWith bytes chunks rest → length rest < length bytes
@@ -57,7 +61,8 @@ shorter bytes chunks rest found =
     omega arith
 
 -- the prefix that is stripped is the message
-pub stripped : (bytes spelled : List ℕ) (chunks : List (List ℕ)) (found : Option (Bor (List ℕ))) → IsMessage chunks → spelled ≡ spelling chunks
+pub stripped : (bytes spelled : List ℕ) (chunks : List (List ℕ)) (found : Option (Bor (List ℕ)))
+    → IsMessage chunks → spelled ≡ spelling chunks
     → MatchOption found ((rest : List ℕ) → bytes ≢ spelled ++ rest) (λ rest. bytes ≡ spelled ++ rest.now)
     → MatchOption found ((rest : List ℕ) → ¬ (BeginsWith bytes chunks rest)) (λ rest. BeginsWith bytes chunks rest.now)
 stripped bytes spelled chunks None fits same none = λ rest begins. none rest (begins.spelled ∙ ap (λ s. s ++ rest) (sym same))
