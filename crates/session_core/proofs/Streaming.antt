@@ -1,11 +1,10 @@
 -- A plain stream that is not over begins with the message that is guessed.
-use Rattle.std.proofs.Common.{◌≡◌, ◌≢◌, Bor, MatchOption, None, Option, Some, ◌<◌, ℕ, List, [], ◌∷◌, ◌++◌, arith, length, map, refl, ◌∙◌, ap, sym, subst, append_assoc}
-use Rattle.std.proofs.lemmas.List.{append-nil, append_cancel_left, length-append}
-use Rattle.std.specs.Fmt.{decimal}
-use Rattle.std.specs.List.{AllByRecursion, concat, join_with_byte}
+use Rattle.std.proofs.Common.{◌≡◌, ◌≢◌, Bor, MatchOption, None, Option, Some, ◌<◌, ℕ, List, [], ◌∷◌, ◌++◌, arith, length, refl, ◌∙◌, ap, sym, subst, append_assoc}
+use Rattle.std.proofs.lemmas.List.{append-nil, append_cancel_left}
+use Rattle.std.specs.List.{AllByRecursion}
 use Rattle.session_core.proofs.Guessing.{guess-spelling}
 use Rattle.session_core.specs.Guess.{BeginsWith, guess}
-use Rattle.session_core.specs.Stream.{IsMessage, IsPlain, IsStreamOf, header_line, spelling, stream}
+use Rattle.session_core.specs.Stream.{IsMessage, IsPlain, IsStreamOf, spelling, stream}
 
 -- it begins so, and what follows is plain
 pub begins_plain : (bytes : List ℕ) → IsPlain bytes → 0 < length bytes
@@ -51,14 +50,6 @@ pub read_on : (messages : List (List (List ℕ))) (chunks : List (List ℕ)) (by
 read_on messages chunks bytes left rest whole front =
     rw (stream-push messages chunks)
     (rw (append_assoc (stream messages) (spelling chunks) rest) (ap (λ l. stream messages ++ l) (sym front) ∙ whole))
-
--- a message takes at least a byte
-pub shorter : (bytes : List ℕ) (chunks : List (List ℕ)) (rest : List ℕ) → BeginsWith bytes chunks rest → length rest < length bytes
-shorter bytes chunks rest found =
-    let parts = ap length found.spelled ∙ length-append (spelling chunks) rest in
-    let head = length-append (header_line chunks) (concat chunks) in
-    let line = length-append (join_with_byte 44 (map (λ chunk. decimal (length chunk)) chunks)) (10 ∷ []) in
-    omega arith
 
 -- the prefix that is stripped is the message
 pub stripped : (bytes spelled : List ℕ) (chunks : List (List ℕ)) (found : Option (Bor (List ℕ)))
