@@ -1,9 +1,12 @@
 mod Answered
+mod Decimals
 mod Digits
 mod ExampleHistory
 mod FirstVersions
+mod Guessing
 mod Inserted
 mod Reporting
 mod Short
+mod Streaming
 mod Taking
 mod Working

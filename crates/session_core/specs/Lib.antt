@@ -4,6 +4,7 @@ pub mod Commands
 pub mod Document
 pub mod Example
 pub mod FirstText
+pub mod Guess
 pub mod Kept
 pub mod Legal
 pub mod Parts

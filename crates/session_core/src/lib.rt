@@ -21,6 +21,7 @@ mod report;
 mod session;
 mod shown;
 mod sources;
+mod stream;
 mod update;
 mod version;
 mod words;
@@ -33,7 +34,10 @@ pub use first_text::FirstText;
 pub use message::Message;
 pub use report::{Report, ReportKind};
 pub use session::{Session, Taken, Worked};
+pub use stream::read_stream;
 pub use version::{Assigned, Version};
 
+#[cfg(test)]
+mod stream_tests;
 #[cfg(test)]
 mod tests;
