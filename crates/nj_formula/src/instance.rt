@@ -1,5 +1,6 @@
-ghost use Rattle.std.specs.Prelude.{◌≡◌, ◌+◌, map, IfOk};
+ghost use Rattle.std.specs.Prelude.{◌≡◌, ◌+◌, map, IsTrue, IfOk};
 ghost use Rattle.nj_formula.specs.Meaning.{meaning};
+ghost use Rattle.nj_formula.specs.Closed.{is_closed};
 ghost use Rattle.nj_formula.specs.Instance.{filled_argument, filled, instance};
 
 use crate::argument::Argument;
@@ -53,7 +54,8 @@ impl Formula {
     /// The instance of a quantifier's body at a term: the term stands in the place that the quantifier binds.
     /// No name is captured, since bound places are numbers.
     pub fn instance(&self, alloc: Global, term: &ObjTerm) -> Result<Formula, AllocError>
-        ensures { IfOk result (λ f. meaning f ≡ instance term.now (meaning self.now)) }
+        ensures value { IfOk result (λ f. meaning f ≡ instance term.now (meaning self.now)) }
+        ensures closed { IsTrue (is_closed term.now) }
     {
         self.filled(alloc, 0, term.argument())
     }

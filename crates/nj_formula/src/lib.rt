@@ -13,6 +13,8 @@ mod instance;
 mod name;
 mod obj_term;
 mod same;
+#[cfg(test)]
+mod tests;
 
 pub use argument::Argument;
 pub use formula::Formula;

@@ -1,0 +1,23 @@
+use Rattle.std.proofs.Common.{rules, ◌≡◌, IsTrue, false, ◌++◌, [], ◌∷◌, map, ap, refl, sym, subst, ◌∙◌}
+use Rattle.nj_formula.specs.declared.formula.Formula.TheVariants as F
+use Rattle.nj_formula.specs.declared.argument.Argument.TheVariants.{Free}
+use Rattle.nj_formula.specs.Statement.{falsity, neg, conj, disj, implies, every, exists}
+use Rattle.nj_formula.specs.Meaning.{meaning}
+use Rattle.nj_formula.specs.Instance.{instance}
+use Rattle.nj_formula.specs.Free.{is_free}
+use Rattle.nj_formula.specs.Closed.{is_closed}
+use Rattle.nj_formula.proofs.MeaningLemmas.{meaning-False, meaning-Not, meaning-And, meaning-Or, meaning-Implies, meaning-All, meaning-Exists}
+use Rattle.nj_kernel.specs.Sets.{members, Lists, ◌∪◌, ◌∖◌, IsFreshIn}
+use Rattle.nj_kernel.specs.Theorem.{assumed, shown}
+use Rattle.nj_kernel.specs.Nj as Nj
+use Rattle.sqlite_items.specs.contracts.items.Items as Items
+use Rattle.nj_formula.specs.contracts.formula.Formula as Formula
+use Rattle.nj_kernel.proofs.SetsLemmas as Sets
+use Rattle.nj_kernel.proofs.DeriveLemmas.{along, by_one, by_two, by_three}
+use Rattle.nj_kernel.proofs.rules.assume.Goals as goal
+
+pub derived-requires : goal.derived-requires
+derived-requires c =
+    let formula : c.in_ok-copy-2.field-0 ≡ c.args.a.now = search rules in
+    let hyps : map meaning (Items.the_view Formula.the_row c.hyps-2.inside) ≡ meaning c.args.a.now ∷ [] = search rules in
+    along (sym hyps) (ap meaning (sym formula)) ∣ Nj.assume ∣₁
