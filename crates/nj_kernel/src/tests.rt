@@ -1,5 +1,5 @@
 use crate::{
-    Rule, RuleError, RuleFault, Thm, all_e, all_i, assume, conj_e1, conj_e2, conj_i, disj_e,
+    Rule, RuleError, Thm, all_e, all_i, assume, conj_e1, conj_e2, conj_i, disj_e,
     disj_i1, disj_i2, ex_e, ex_i, false_e, imp_e, imp_i, not_e, not_i,
 };
 use nj_formula::{Argument, Formula, Name, ObjTerm};
@@ -11,48 +11,56 @@ fn atom(alloc: Global, name: &str) -> Result<Formula, AllocError> {
     Ok(Formula::Atom(Name::new(alloc, name)?, Items::new(alloc)))
 }
 
-fn at(alloc: Global, argument: Argument) -> Result<Formula, AllocError> {
+/// P(argument)
+fn holds_of(alloc: Global, argument: Argument) -> Result<Formula, AllocError> {
     let mut arguments = Items::new(alloc);
     arguments.push(argument)?;
     Ok(Formula::Atom(Name::new(alloc, "P")?, arguments))
 }
 
 /// P(name)
-fn of(alloc: Global, name: &str) -> Result<Formula, AllocError> {
-    at(alloc, Argument::Free(Name::new(alloc, name)?))
+fn p(alloc: Global, name: &str) -> Result<Formula, AllocError> {
+    holds_of(alloc, Argument::Free(Name::new(alloc, name)?))
 }
 
 /// ALL y. P(y)
 fn every(alloc: Global) -> Result<Formula, AllocError> {
-    Ok(Formula::All(
-        Name::new(alloc, "y")?,
-        Boxed::new(alloc, at(alloc, Argument::Bound(0))?)?,
-    ))
+    let body = Boxed::new(alloc, holds_of(alloc, Argument::Bound(0))?)?;
+    Ok(Formula::All(Name::new(alloc, "y")?, body))
 }
 
 /// EX y. P(y)
 fn some(alloc: Global) -> Result<Formula, AllocError> {
-    Ok(Formula::Exists(
-        Name::new(alloc, "y")?,
-        Boxed::new(alloc, at(alloc, Argument::Bound(0))?)?,
-    ))
+    let body = Boxed::new(alloc, holds_of(alloc, Argument::Bound(0))?)?;
+    Ok(Formula::Exists(Name::new(alloc, "y")?, body))
 }
 
-fn implies(alloc: Global, a: Formula, b: Formula) -> Result<Formula, AllocError> {
-    Ok(Formula::Implies(Boxed::new(alloc, a)?, Boxed::new(alloc, b)?))
+fn and(alloc: Global, a: &str, b: &str) -> Result<Formula, AllocError> {
+    let a = Boxed::new(alloc, atom(alloc, a)?)?;
+    Ok(Formula::And(a, Boxed::new(alloc, atom(alloc, b)?)?))
+}
+
+fn or(alloc: Global, a: &str, b: &str) -> Result<Formula, AllocError> {
+    let a = Boxed::new(alloc, atom(alloc, a)?)?;
+    Ok(Formula::Or(a, Boxed::new(alloc, atom(alloc, b)?)?))
+}
+
+fn implies(alloc: Global, a: &str, b: &str) -> Result<Formula, AllocError> {
+    let a = Boxed::new(alloc, atom(alloc, a)?)?;
+    Ok(Formula::Implies(a, Boxed::new(alloc, atom(alloc, b)?)?))
 }
 
 fn not(alloc: Global, a: Formula) -> Result<Formula, AllocError> {
     Ok(Formula::Not(Boxed::new(alloc, a)?))
 }
 
-fn or(alloc: Global, a: Formula, b: Formula) -> Result<Formula, AllocError> {
-    Ok(Formula::Or(Boxed::new(alloc, a)?, Boxed::new(alloc, b)?))
+fn given(alloc: Global, a: Formula) -> Result<Thm, RuleError> {
+    Ok(assume(alloc, &a)?)
 }
 
 fn faults(answer: Result<Thm, RuleError>, rule: Rule, premise: usize) -> bool {
     match answer {
-        Err(RuleError::Fault(fault)) => fault == RuleFault { rule, premise },
+        Err(RuleError::Fault(fault)) => fault.rule == rule && fault.premise == premise,
         _ => false,
     }
 }
@@ -64,128 +72,155 @@ fn shows(answer: Result<Thm, RuleError>, hyps: usize, concl: &Formula) -> bool {
     }
 }
 
+fn conj(alloc: Global) -> Result<Thm, RuleError> {
+    let t = given(alloc, atom(alloc, "A")?)?;
+    conj_i(alloc, &t, &given(alloc, atom(alloc, "B")?)?)
+}
+
+fn cases(alloc: Global, last: &str) -> Result<Thm, RuleError> {
+    let left = disj_i2(alloc, &given(alloc, atom(alloc, "A")?)?, &atom(alloc, "B")?)?;
+    let right = disj_i1(alloc, &given(alloc, atom(alloc, "B")?)?, &atom(alloc, last)?)?;
+    disj_e(alloc, &given(alloc, or(alloc, "A", "B")?)?, &left, &right)
+}
+
+fn modus_ponens(alloc: Global, minor: &str) -> Result<Thm, RuleError> {
+    let major = given(alloc, implies(alloc, "A", "B")?)?;
+    imp_e(alloc, &major, &given(alloc, atom(alloc, minor)?)?)
+}
+
+fn contradiction(alloc: Global, minor: &str) -> Result<Thm, RuleError> {
+    let major = given(alloc, not(alloc, atom(alloc, "A")?)?)?;
+    not_e(alloc, &major, &given(alloc, atom(alloc, minor)?)?)
+}
+
+/// From ALL y. P(y) to P(x), and back by `variable`.
+fn generalized(alloc: Global, variable: &str) -> Result<Thm, RuleError> {
+    let at_x = all_e(alloc, &given(alloc, every(alloc)?)?, &ObjTerm::name(alloc, "x")?)?;
+    all_i(alloc, variable, &at_x, &every(alloc)?)
+}
+
+fn witnessed(alloc: Global, name: &str) -> Result<Thm, RuleError> {
+    ex_i(alloc, &ObjTerm::name(alloc, name)?, &given(alloc, p(alloc, "c")?)?, &some(alloc)?)
+}
+
+/// P(c) and ~P(c) show EX y. P(y)
+fn with_another(alloc: Global) -> Result<Thm, RuleError> {
+    let other = given(alloc, not(alloc, p(alloc, "c")?)?)?;
+    conj_e1(alloc, &conj_i(alloc, &witnessed(alloc, "c")?, &other)?)
+}
+
+fn opened(alloc: Global, second: &Thm) -> Result<Thm, RuleError> {
+    ex_e(alloc, "c", &given(alloc, some(alloc)?)?, second)
+}
+
+#[test]
+fn a_conjunction_gives_its_parts(rt: HostRuntime) -> Result<(), Fail> {
+    let alloc = rt.alloc();
+    assert!(rt; shows(conj(alloc), 2, &and(alloc, "A", "B")?));
+    assert!(rt; shows(conj_e1(alloc, &conj(alloc)?), 2, &atom(alloc, "A")?));
+    assert!(rt; shows(conj_e2(alloc, &conj(alloc)?), 2, &atom(alloc, "B")?));
+    Ok(())
+}
+
+#[test]
+fn an_atom_has_no_parts(rt: HostRuntime) -> Result<(), Fail> {
+    let alloc = rt.alloc();
+    let a = given(alloc, atom(alloc, "A")?)?;
+    assert!(rt; faults(conj_e1(alloc, &a), Rule::ConjE1, 1));
+    assert!(rt; faults(conj_e2(alloc, &a), Rule::ConjE2, 1));
+    assert!(rt; faults(disj_e(alloc, &a, &a, &a), Rule::DisjE, 1));
+    assert!(rt; faults(imp_e(alloc, &a, &a), Rule::ImpE, 1));
+    assert!(rt; faults(not_e(alloc, &a, &a), Rule::NotE, 1));
+    Ok(())
+}
+
+#[test]
+fn cases_discharge_what_they_assume(rt: HostRuntime) -> Result<(), Fail> {
+    let alloc = rt.alloc();
+    assert!(rt; shows(cases(alloc, "A"), 1, &or(alloc, "B", "A")?));
+    assert!(rt; faults(cases(alloc, "C"), Rule::DisjE, 3));
+    Ok(())
+}
+
 #[test]
 fn an_implication_discharges_its_assumption(rt: HostRuntime) -> Result<(), Fail> {
     let alloc = rt.alloc();
     let a = atom(alloc, "A")?;
-    let b = atom(alloc, "B")?;
-    let a_a = implies(alloc, a.copy(alloc)?, a.copy(alloc)?)?;
-    let thm = assume(alloc, &a)?;
-    assert!(rt; shows(imp_i(alloc, &a, &thm), 0, &a_a));
-    // nothing to discharge: the assumption stays
-    let b_a = implies(alloc, b.copy(alloc)?, a.copy(alloc)?)?;
-    assert!(rt; shows(imp_i(alloc, &b, &thm), 1, &b_a));
-    let major = assume(alloc, &a_a)?;
-    assert!(rt; shows(imp_e(alloc, &major, &thm), 2, &a));
-    assert!(rt; faults(imp_e(alloc, &thm, &thm), Rule::ImpE, 1));
-    assert!(rt; faults(imp_e(alloc, &major, &assume(alloc, &b)?), Rule::ImpE, 2));
+    assert!(rt; shows(imp_i(alloc, &a, &assume(alloc, &a)?), 0, &implies(alloc, "A", "A")?));
     Ok(())
 }
 
 #[test]
-fn conjunctions_and_disjunctions(rt: HostRuntime) -> Result<(), Fail> {
+fn an_implication_may_discharge_nothing(rt: HostRuntime) -> Result<(), Fail> {
+    let alloc = rt.alloc();
+    let a = given(alloc, atom(alloc, "A")?)?;
+    assert!(rt; shows(imp_i(alloc, &atom(alloc, "B")?, &a), 1, &implies(alloc, "B", "A")?));
+    Ok(())
+}
+
+#[test]
+fn an_implication_is_applied_to_its_left_part(rt: HostRuntime) -> Result<(), Fail> {
+    let alloc = rt.alloc();
+    assert!(rt; shows(modus_ponens(alloc, "A"), 2, &atom(alloc, "B")?));
+    assert!(rt; faults(modus_ponens(alloc, "B"), Rule::ImpE, 2));
+    Ok(())
+}
+
+#[test]
+fn a_negation_comes_from_false(rt: HostRuntime) -> Result<(), Fail> {
     let alloc = rt.alloc();
     let a = atom(alloc, "A")?;
-    let b = atom(alloc, "B")?;
-    let thm_a = assume(alloc, &a)?;
-    let thm_b = assume(alloc, &b)?;
-    let both = conj_i(alloc, &thm_a, &thm_b).map_err(|_| "conj_i")?;
-    assert_eq!(rt; both.hyps().len(), 2);
-    assert!(rt; shows(conj_e1(alloc, &both), 2, &a));
-    assert!(rt; shows(conj_e2(alloc, &both), 2, &b));
-    assert!(rt; faults(conj_e1(alloc, &thm_a), Rule::ConjE1, 1));
-    assert!(rt; faults(conj_e2(alloc, &thm_a), Rule::ConjE2, 1));
-    let either = or(alloc, a.copy(alloc)?, b.copy(alloc)?)?;
-    assert!(rt; shows(disj_i1(alloc, &thm_a, &b), 1, &either));
-    assert!(rt; shows(disj_i2(alloc, &thm_b, &a), 1, &either));
-    let cases = assume(alloc, &either)?;
-    let left = disj_i2(alloc, &thm_a, &b).map_err(|_| "disj_i2")?;
-    let right = disj_i1(alloc, &thm_b, &a).map_err(|_| "disj_i1")?;
-    let turned = or(alloc, b.copy(alloc)?, a.copy(alloc)?)?;
-    assert!(rt; shows(disj_e(alloc, &cases, &left, &right), 1, &turned));
-    assert!(rt; faults(disj_e(alloc, &thm_a, &left, &right), Rule::DisjE, 1));
-    assert!(rt; faults(disj_e(alloc, &cases, &left, &thm_b), Rule::DisjE, 3));
+    assert!(rt; shows(not_i(alloc, &a, &contradiction(alloc, "A")?), 1, &not(alloc, a.copy(alloc)?)?));
+    assert!(rt; faults(not_i(alloc, &a, &assume(alloc, &a)?), Rule::NotI, 1));
     Ok(())
 }
 
 #[test]
-fn negations_and_false(rt: HostRuntime) -> Result<(), Fail> {
+fn anything_comes_from_false(rt: HostRuntime) -> Result<(), Fail> {
     let alloc = rt.alloc();
-    let a = atom(alloc, "A")?;
-    let not_a = not(alloc, a.copy(alloc)?)?;
-    let thm_a = assume(alloc, &a)?;
-    let thm_not_a = assume(alloc, &not_a)?;
-    let wrong = not_e(alloc, &thm_not_a, &thm_a).map_err(|_| "not_e")?;
-    assert_eq!(rt; wrong.hyps().len(), 2);
-    assert!(rt; wrong.concl().same(&Formula::False));
-    assert!(rt; faults(not_e(alloc, &thm_a, &thm_not_a), Rule::NotE, 1));
-    assert!(rt; faults(not_e(alloc, &thm_not_a, &thm_not_a), Rule::NotE, 2));
-    assert!(rt; shows(not_i(alloc, &a, &wrong), 1, &not_a));
-    assert!(rt; faults(not_i(alloc, &a, &thm_a), Rule::NotI, 1));
-    assert!(rt; shows(false_e(alloc, &wrong, &a), 2, &a));
-    assert!(rt; faults(false_e(alloc, &thm_a, &a), Rule::FalseE, 1));
+    let c = atom(alloc, "C")?;
+    assert!(rt; faults(contradiction(alloc, "B"), Rule::NotE, 2));
+    assert!(rt; shows(false_e(alloc, &contradiction(alloc, "A")?, &c), 2, &c));
+    assert!(rt; faults(false_e(alloc, &assume(alloc, &c)?, &c), Rule::FalseE, 1));
     Ok(())
 }
 
 #[test]
-fn a_variable_is_generalized_only_where_it_is_fresh(rt: HostRuntime) -> Result<(), Fail> {
+fn a_fresh_name_is_generalized(rt: HostRuntime) -> Result<(), Fail> {
     let alloc = rt.alloc();
-    let all = every(alloc)?;
-    let of_x = of(alloc, "x")?;
-    let assumed = assume(alloc, &of_x)?;
-    assert!(rt;
-        faults(all_i(alloc, "x", &assumed, &all), Rule::AllI, 1),
-        "x is free in an assumption"
-    );
-    let at_x = all_e(alloc, &assume(alloc, &all)?, &ObjTerm::name(alloc, "x")?).map_err(
-        |_| "all_e",
-    )?;
-    assert!(rt; at_x.concl().same(&of_x));
-    assert!(rt; shows(all_i(alloc, "x", &at_x, &all), 1, &all));
-    assert!(rt;
-        faults(all_i(alloc, "z", &at_x, &all), Rule::AllI, 1),
-        "it is no instance at z"
-    );
-    assert!(rt; faults(all_i(alloc, "x", &at_x, &of_x), Rule::AllI, 1));
-    assert!(rt;
-        faults(
-            all_e(alloc, &assumed, &ObjTerm::name(alloc, "x")?),
-            Rule::AllE,
-            1
-        )
-    );
+    assert!(rt; shows(generalized(alloc, "x"), 1, &every(alloc)?));
+    assert!(rt; faults(generalized(alloc, "z"), Rule::AllI, 1));
     Ok(())
 }
 
 #[test]
-fn a_witness_is_used_only_where_it_is_fresh(rt: HostRuntime) -> Result<(), Fail> {
+fn a_name_that_is_assumed_is_not_generalized(rt: HostRuntime) -> Result<(), Fail> {
     let alloc = rt.alloc();
-    let exists = some(alloc)?;
-    let c = ObjTerm::name(alloc, "c")?;
-    let of_c = assume(alloc, &of(alloc, "c")?)?;
-    assert!(rt; shows(ex_i(alloc, &c, &of_c, &exists), 1, &exists));
-    assert!(rt; faults(ex_i(alloc, &c, &of_c, &of(alloc, "c")?), Rule::ExI, 1));
-    assert!(rt;
-        faults(
-            ex_i(alloc, &ObjTerm::name(alloc, "d")?, &of_c, &exists),
-            Rule::ExI,
-            1
-        )
-    );
-    let major = assume(alloc, &exists)?;
-    let minor = ex_i(alloc, &c, &of_c, &exists).map_err(|_| "ex_i")?;
-    assert!(rt; shows(ex_e(alloc, "c", &major, &minor), 1, &exists));
-    assert!(rt; faults(ex_e(alloc, "c", &of_c, &minor), Rule::ExE, 1));
-    assert!(rt;
-        faults(ex_e(alloc, "c", &major, &of_c), Rule::ExE, 2),
-        "c is free in the conclusion"
-    );
-    let other = assume(alloc, &not(alloc, of(alloc, "c")?)?)?;
-    let both = conj_i(alloc, &minor, &other).map_err(|_| "conj_i")?;
-    let kept = conj_e1(alloc, &both).map_err(|_| "conj_e1")?;
-    assert!(rt;
-        faults(ex_e(alloc, "c", &major, &kept), Rule::ExE, 2),
-        "c is free in what remains"
-    );
+    let of_x = given(alloc, p(alloc, "x")?)?;
+    assert!(rt; faults(all_i(alloc, "x", &of_x, &every(alloc)?), Rule::AllI, 1));
+    assert!(rt; faults(all_e(alloc, &of_x, &ObjTerm::name(alloc, "x")?), Rule::AllE, 1));
+    Ok(())
+}
+
+#[test]
+fn a_witness_shows_that_there_is_one(rt: HostRuntime) -> Result<(), Fail> {
+    let alloc = rt.alloc();
+    assert!(rt; shows(witnessed(alloc, "c"), 1, &some(alloc)?));
+    assert!(rt; faults(witnessed(alloc, "d"), Rule::ExI, 1));
+    Ok(())
+}
+
+#[test]
+fn a_fresh_witness_is_opened(rt: HostRuntime) -> Result<(), Fail> {
+    let alloc = rt.alloc();
+    assert!(rt; shows(opened(alloc, &witnessed(alloc, "c")?), 1, &some(alloc)?));
+    Ok(())
+}
+
+#[test]
+fn a_witness_that_stays_is_not_opened(rt: HostRuntime) -> Result<(), Fail> {
+    let alloc = rt.alloc();
+    assert!(rt; faults(opened(alloc, &with_another(alloc)?), Rule::ExE, 2));
+    assert!(rt; faults(opened(alloc, &given(alloc, p(alloc, "c")?)?), Rule::ExE, 2));
     Ok(())
 }
