@@ -1,10 +1,10 @@
 -- What NJ derives is true in each model with one element.
-use Rattle.std.proofs.Common.{◌≡◌, ◌≢◌, ◌⊎◌, ℕ, ◌+◌, Bool, true, false, not, ◌&&◌, ◌||◌, List, [], ◌∷◌, IsTrue, refl, ap, sym, subst, ◌∙◌, inl, inr, ⊎_elim}
+use Rattle.std.proofs.Common.{◌≡◌, ◌⊎◌, ℕ, ◌+◌, Bool, true, false, not, ◌&&◌, ◌||◌, List, IsTrue, refl, ap, sym, ◌∙◌, inl, inr, ⊎_elim}
 use Rattle.nj_formula.specs.declared.argument.Argument.{Argument}
 use Rattle.nj_formula.specs.declared.argument.Argument.TheVariants.{Free}
 use Rattle.nj_formula.specs.Statement.{Statement, falsity, atom, neg, conj, disj, implies, every, exists}
 use Rattle.nj_formula.specs.Instance.{filled, instance}
-use Rattle.nj_kernel.specs.Sets.{members, Lists, ◌∪◌, ◌∖◌}
+use Rattle.nj_kernel.specs.Sets.{members, Lists, ◌∖◌}
 use Rattle.nj_kernel.specs.Nj.{Nj, assume, same_set, conj_i, conj_e1, conj_e2, disj_i1, disj_i2, disj_e, imp_i, imp_e, not_i, not_e, false_e, all_i, all_e, ex_i, ex_e}
 use Rattle.nj_kernel.specs.Truth.{truth}
 

@@ -1,5 +1,5 @@
 -- What each rule answers, by cases on the shapes of its premises (Gentzen 1935; the faults are this project's own).
-use Rattle.std.specs.Prelude.{◌≡◌, ◌≢◌, ⊤, ℕ, false, List, Result, Ok, Err}
+use Rattle.std.specs.Prelude.{◌≡◌, ⊤, ℕ, false, List, Result, Ok, Err}
 use Rattle.nj_formula.specs.declared.argument.Argument.{Argument}
 use Rattle.nj_formula.specs.declared.argument.Argument.TheVariants.{Free}
 use Rattle.nj_formula.specs.Statement.{Statement, falsity, neg, conj, disj, implies, every, exists}

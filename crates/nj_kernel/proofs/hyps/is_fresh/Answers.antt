@@ -1,8 +1,5 @@
 -- At the end nothing is left in which the name could be free.
-use Rattle.std.proofs.Common.{rules, arith, ◌≡◌, [], map, drop, ap, subst, refl, length}
-use Rattle.std.proofs.lemmas.List.{drop_all}
-use Rattle.nj_formula.specs.Meaning.{meaning}
-use Rattle.nj_kernel.specs.Sets.{members, IsFreshIn}
+use Rattle.std.proofs.Common.{arith, refl}
 use Rattle.nj_kernel.proofs.SetsLemmas.{fresh_in_none}
 use Rattle.nj_kernel.proofs.hyps.is_fresh.Goals as goal
 

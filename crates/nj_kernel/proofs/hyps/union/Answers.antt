@@ -1,5 +1,5 @@
 -- The list grows by the formula, or had what it says.
-use Rattle.std.proofs.Common.{rules, arith, ◌≡◌, ◌++◌, ◌∷◌, [], ◌<◌, ◌+◌, sym, length, IsTrue, map, take, subst}
+use Rattle.std.proofs.Common.{rules, arith, ◌≡◌, ◌++◌, ◌∷◌, [], ◌+◌, sym, map, take, subst}
 use Rattle.nj_formula.specs.Meaning.{meaning}
 use Rattle.nj_kernel.specs.Sets.{members, Lists, ◌∪◌}
 use Rattle.nj_kernel.proofs.SetsLemmas.{mapped_snoc, mapped_take, all_taken, union_had, union_more}

@@ -1,5 +1,5 @@
 -- The list grows by a formula that says something else.
-use Rattle.std.proofs.Common.{rules, arith, ◌≡◌, ◌≢◌, ◌++◌, ◌∷◌, [], ◌<◌, ◌+◌, length, map, take, sym, subst}
+use Rattle.std.proofs.Common.{rules, arith, ◌≡◌, ◌≢◌, ◌++◌, ◌∷◌, [], ◌+◌, map, take, sym, subst}
 use Rattle.nj_formula.specs.Meaning.{meaning}
 use Rattle.nj_kernel.specs.Sets.{members, Lists, ◌∖◌}
 use Rattle.nj_kernel.proofs.SetsLemmas.{mapped_snoc, mapped_take, all_taken, without_dropped, without_kept}
