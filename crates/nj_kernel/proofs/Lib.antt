@@ -1,0 +1,3 @@
+pub mod SetsLemmas
+pub mod DeriveLemmas
+pub mod TruthLemmas

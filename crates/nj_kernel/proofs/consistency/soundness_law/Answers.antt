@@ -1,0 +1,5 @@
+use Rattle.nj_kernel.proofs.TruthLemmas.{sound}
+use Rattle.nj_kernel.proofs.consistency.soundness_law.Goals as goal
+
+pub returns : goal.returns
+returns c = λ v s a d all. sound v d all

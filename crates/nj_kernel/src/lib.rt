@@ -1,0 +1,23 @@
+//! The kernel of natural deduction: a theorem comes only from a rule of Gentzen's NJ
+//! (Untersuchungen über das logische Schließen, 1935), here with negation as a connective of its own.
+//!
+//! To know what a `Thm` is worth, read `thm.rt`, `specs/Nj.antt` and `specs/Sets.antt`; what each
+//! rule answers stands in `specs/Rules.antt`. It must not know text, theories or proof terms.
+#![tactic(auto)]
+
+mod consistency;
+mod fault;
+mod hyps;
+mod quantifiers;
+mod rules;
+#[cfg(test)]
+mod tests;
+mod thm;
+
+pub use consistency::{consistency_law, soundness_law};
+pub use fault::{Rule, RuleError, RuleFault};
+pub use quantifiers::{all_e, all_i, ex_e, ex_i};
+pub use rules::{
+    assume, conj_e1, conj_e2, conj_i, disj_e, disj_i1, disj_i2, false_e, imp_e, imp_i, not_e, not_i,
+};
+pub use thm::Thm;

@@ -1,0 +1,155 @@
+//! The propositional rules.
+
+ghost use Rattle.std.specs.Prelude.{◌≡◌, IfOk, [], ◌∷◌};
+ghost use Rattle.nj_formula.specs.Meaning.{meaning};
+ghost use Rattle.nj_kernel.specs.Theorem.{assumed, shown};
+ghost use Rattle.nj_kernel.specs.Rules.{ConjI, ConjE1, ConjE2, DisjI1, DisjI2, DisjE, ImpI, ImpE, NotI, NotE, FalseE};
+
+use crate::fault::{Rule, RuleError, misfit};
+use crate::hyps::{copied, union, without};
+use crate::thm::Thm;
+use nj_formula::Formula;
+use sqlite_items::{Boxed, Items};
+use std::alloc::{AllocError, Global};
+
+/// A from A.
+pub fn assume(alloc: Global, a: &Formula) -> Result<Thm, AllocError>
+    ensures assumed { IfOk result (λ t. assumed t ≡ meaning a.now ∷ []) }
+    ensures shown { IfOk result (λ t. shown t ≡ meaning a.now) }
+{
+    let mut hyps = Items::new(alloc);
+    hyps.push(a.copy(alloc)?)?;
+    Ok(Thm::derived(hyps, a.copy(alloc)?))
+}
+
+/// From A and B to A & B.
+pub fn conj_i(alloc: Global, t: &Thm, u: &Thm) -> Result<Thm, RuleError>
+    ensures { ConjI (assumed t.now) (shown t.now) (assumed u.now) (shown u.now) result }
+{
+    let hyps = union(alloc, t.hyps(), u.hyps())?;
+    let a = Boxed::new(alloc, t.concl().copy(alloc)?)?;
+    let b = Boxed::new(alloc, u.concl().copy(alloc)?)?;
+    Ok(Thm::derived(hyps, Formula::And(a, b)))
+}
+
+/// From A & B to A.
+pub fn conj_e1(alloc: Global, t: &Thm) -> Result<Thm, RuleError>
+    ensures { ConjE1 (assumed t.now) (shown t.now) result }
+{
+    match t.concl() {
+        Formula::And(a, _) => Ok(Thm::derived(copied(alloc, t.hyps())?, a.get().copy(alloc)?)),
+        _ => Err(misfit(Rule::ConjE1, 1)),
+    }
+}
+
+/// From A & B to B.
+pub fn conj_e2(alloc: Global, t: &Thm) -> Result<Thm, RuleError>
+    ensures { ConjE2 (assumed t.now) (shown t.now) result }
+{
+    match t.concl() {
+        Formula::And(_, b) => Ok(Thm::derived(copied(alloc, t.hyps())?, b.get().copy(alloc)?)),
+        _ => Err(misfit(Rule::ConjE2, 1)),
+    }
+}
+
+/// From A to A | B, where B is `other`.
+pub fn disj_i1(alloc: Global, t: &Thm, other: &Formula) -> Result<Thm, RuleError>
+    ensures { DisjI1 (assumed t.now) (shown t.now) (meaning other.now) result }
+{
+    let a = Boxed::new(alloc, t.concl().copy(alloc)?)?;
+    let b = Boxed::new(alloc, other.copy(alloc)?)?;
+    Ok(Thm::derived(copied(alloc, t.hyps())?, Formula::Or(a, b)))
+}
+
+/// From B to A | B, where A is `other`.
+pub fn disj_i2(alloc: Global, t: &Thm, other: &Formula) -> Result<Thm, RuleError>
+    ensures { DisjI2 (assumed t.now) (shown t.now) (meaning other.now) result }
+{
+    let a = Boxed::new(alloc, other.copy(alloc)?)?;
+    let b = Boxed::new(alloc, t.concl().copy(alloc)?)?;
+    Ok(Thm::derived(copied(alloc, t.hyps())?, Formula::Or(a, b)))
+}
+
+/// From A | B, from C with A assumed and from C with B assumed, to C.
+pub fn disj_e(alloc: Global, t: &Thm, u: &Thm, v: &Thm) -> Result<Thm, RuleError>
+    ensures { DisjE (assumed t.now) (shown t.now) (assumed u.now) (shown u.now) (assumed v.now) (shown v.now) result }
+{
+    match t.concl() {
+        Formula::Or(a, b) => {
+            if !u.concl().same(v.concl()) {
+                return Err(misfit(Rule::DisjE, 3));
+            }
+            let left = without(alloc, u.hyps(), a.get())?;
+            let right = without(alloc, v.hyps(), b.get())?;
+            let both = union(alloc, t.hyps(), left.as_slice())?;
+            let hyps = union(alloc, both.as_slice(), right.as_slice())?;
+            Ok(Thm::derived(hyps, u.concl().copy(alloc)?))
+        }
+        _ => Err(misfit(Rule::DisjE, 1)),
+    }
+}
+
+/// From B, with A assumed, to A --> B.
+pub fn imp_i(alloc: Global, a: &Formula, t: &Thm) -> Result<Thm, RuleError>
+    ensures { ImpI (meaning a.now) (assumed t.now) (shown t.now) result }
+{
+    let hyps = without(alloc, t.hyps(), a)?;
+    let a = Boxed::new(alloc, a.copy(alloc)?)?;
+    let b = Boxed::new(alloc, t.concl().copy(alloc)?)?;
+    Ok(Thm::derived(hyps, Formula::Implies(a, b)))
+}
+
+/// From A --> B and A to B.
+pub fn imp_e(alloc: Global, t: &Thm, u: &Thm) -> Result<Thm, RuleError>
+    ensures { ImpE (assumed t.now) (shown t.now) (assumed u.now) (shown u.now) result }
+{
+    match t.concl() {
+        Formula::Implies(a, b) => {
+            if !a.get().same(u.concl()) {
+                return Err(misfit(Rule::ImpE, 2));
+            }
+            let hyps = union(alloc, t.hyps(), u.hyps())?;
+            Ok(Thm::derived(hyps, b.get().copy(alloc)?))
+        }
+        _ => Err(misfit(Rule::ImpE, 1)),
+    }
+}
+
+/// From False, with A assumed, to ~A.
+pub fn not_i(alloc: Global, a: &Formula, t: &Thm) -> Result<Thm, RuleError>
+    ensures { NotI (meaning a.now) (assumed t.now) (shown t.now) result }
+{
+    match t.concl() {
+        Formula::False => {
+            let hyps = without(alloc, t.hyps(), a)?;
+            let a = Boxed::new(alloc, a.copy(alloc)?)?;
+            Ok(Thm::derived(hyps, Formula::Not(a)))
+        }
+        _ => Err(misfit(Rule::NotI, 1)),
+    }
+}
+
+/// From ~A and A to False.
+pub fn not_e(alloc: Global, t: &Thm, u: &Thm) -> Result<Thm, RuleError>
+    ensures { NotE (assumed t.now) (shown t.now) (assumed u.now) (shown u.now) result }
+{
+    match t.concl() {
+        Formula::Not(a) => {
+            if !u.concl().same(a.get()) {
+                return Err(misfit(Rule::NotE, 2));
+            }
+            Ok(Thm::derived(union(alloc, t.hyps(), u.hyps())?, Formula::False))
+        }
+        _ => Err(misfit(Rule::NotE, 1)),
+    }
+}
+
+/// From False to C.
+pub fn false_e(alloc: Global, t: &Thm, c: &Formula) -> Result<Thm, RuleError>
+    ensures { FalseE (assumed t.now) (shown t.now) (meaning c.now) result }
+{
+    match t.concl() {
+        Formula::False => Ok(Thm::derived(copied(alloc, t.hyps())?, c.copy(alloc)?)),
+        _ => Err(misfit(Rule::FalseE, 1)),
+    }
+}

@@ -1,0 +1,3 @@
+pub mod LexisLemmas
+pub mod TokensLemmas
+pub mod ReadingLemmas
