@@ -3,7 +3,7 @@ use Rattle.std.proofs.Common.{◌≡◌, ◌<◌, ◌≤◌, ◌==◌, ℕ, Bool
 use Rattle.std.proofs.lemmas.Grind.{common_steps}
 use Rattle.std.specs.Option.{option_to_list}
 use Rattle.pide_base.specs.declared.part.Part.{Part}
-use Rattle.session_core.specs.declared.editor_message.EditorMessage.TheVariants.{Update, Settle}
+use Rattle.session_core.specs.declared.editor_message.EditorMessage.TheVariants.{Update}
 use Rattle.session_core.specs.declared.first_text.FirstText.{FirstText}
 use Rattle.session_core.specs.declared.version.Version.{Version}
 use Rattle.session_core.specs.Answers.{IsFirst}

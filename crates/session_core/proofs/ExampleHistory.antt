@@ -1,5 +1,5 @@
 -- The worked example's history is legal.
-use Rattle.std.proofs.Common.{◌≡◌, ℕ, false, List, ◌∷◌, None, Some, refl, lit≤}
+use Rattle.std.proofs.Common.{◌≡◌, false, List, ◌∷◌, None, Some, refl, lit≤}
 use Rattle.std.specs.Fmt.{digits}
 use Rattle.session_core.specs.Report.{report_body}
 use Rattle.pide_base.specs.declared.part.Part.{Part}

@@ -1,5 +1,5 @@
 -- What holds of the first version of a text.
-use Rattle.std.proofs.Common.{◌≡◌, ◌+◌, ◌*◌, ◌<◌, ◌≤◌, ℕ, zero, suc, arith, refl, length, List, [], ◌∷◌, ◌++◌, false, true, ◌==◌, Bool, subst, sym, ap, append_assoc}
+use Rattle.std.proofs.Common.{◌≡◌, ◌+◌, ◌*◌, ◌≤◌, ℕ, zero, suc, arith, refl, length, ◌==◌, subst, sym}
 use Rattle.std.proofs.lemmas.List.{length-append}
 use Rattle.std.specs.List.{AllByRecursion}
 use Rattle.session_core.specs.declared.first_text.FirstText.{FirstText}

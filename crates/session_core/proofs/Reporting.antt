@@ -1,8 +1,7 @@
 -- The work on the first ready part.
-use Rattle.std.proofs.Common.{◌≡◌, ◌∷◌, [], ◌++◌, ◌+◌, ◌<◌, ◌≤◌, ◌==◌, false, true, Bool, List, ℕ, Option, None, Some, is_some, sym, ap, ◌∙◌, subst, arith, reverse, refl, append-nil}
+use Rattle.std.proofs.Common.{◌≡◌, ◌∷◌, [], ◌++◌, ◌+◌, ◌<◌, ◌==◌, false, true, Bool, List, ℕ, Option, None, Some, is_some, sym, ap, ◌∙◌, subst, arith, reverse, refl, append-nil}
 use Rattle.std.specs.Prelude.{find}
-use Rattle.std.specs.Option.{option_to_list}
-use Rattle.std.specs.Io.KnownBytes.{Appends, Keeps}
+use Rattle.std.specs.Io.KnownBytes.{Appends}
 use Rattle.pide_base.specs.Moves.{AppendsFront}
 use Rattle.pide_base.specs.declared.part.Part.{Part}
 use Rattle.session_core.specs.declared.entry.Entry.{Entry}

@@ -1,5 +1,5 @@
 -- The names of a text that a message brings are short.
-use Rattle.std.proofs.Common.{◌≡◌, ◌≤◌, ◌&&◌, ℕ, Bool, true, false, List, Option, None, Some, length, refl, arith, cond, not}
+use Rattle.std.proofs.Common.{◌≡◌, ◌≤◌, ◌&&◌, ℕ, Bool, true, false, List, Option, None, Some, length, refl, arith, cond}
 use Rattle.std.proofs.lemmas.Grind.{common_steps}
 use Rattle.std.specs.Prelude.{nat_le, bytes_eq}
 use Rattle.std.specs.Cmp.Lexicographic.{pointwise}
@@ -8,7 +8,7 @@ use Rattle.session_core.specs.declared.editor_message.EditorMessage.{EditorMessa
 use Rattle.session_core.specs.declared.editor_message.EditorMessage.TheVariants as asks
 use Rattle.session_core.specs.declared.first_text.FirstText.{FirstText}
 use Rattle.session_core.specs.Answers.{BringsShort}
-use Rattle.session_core.specs.FirstText.{IsShort, is_name, is_atom, is_among, keywords, logical_words, is_first_text}
+use Rattle.session_core.specs.FirstText.{IsShort, is_name, is_atom, is_first_text}
 use Rattle.session_core.specs.Reading.{asked, candidate, chunks_of, fitting, is_fit, is_id, written_as}
 
 left : (a b : Bool) → (a && b) ≡ true → a ≡ true

@@ -1,5 +1,5 @@
 -- A message that a session takes.
-use Rattle.std.proofs.Common.{◌≡◌, ◌∷◌, [], ◌++◌, ◌+◌, ◌≤◌, false, true, Bool, List, ℕ, Option, None, Some, IfSome, sym, ap, ◌∙◌, subst, arith, reverse, cond, refl}
+use Rattle.std.proofs.Common.{◌≡◌, ◌∷◌, [], ◌++◌, false, Bool, List, ℕ, Option, None, Some, IfSome, sym, ap, ◌∙◌, subst, reverse, refl}
 use Rattle.std.proofs.lemmas.List.{reverse-append}
 use Rattle.std.specs.Option.{option_to_list}
 use Rattle.std.specs.Io.KnownBytes.{Keeps}
@@ -14,7 +14,7 @@ use Rattle.session_core.specs.declared.version.Version.{Version}
 use Rattle.session_core.specs.Answers.{AnswersSo, IsFirst}
 use Rattle.session_core.specs.Document.{versions, versions_after}
 use Rattle.session_core.specs.Kept.{IsKept}
-use Rattle.session_core.specs.Legal.{AnswersInTime, awaited, awaited_among, has_ended}
+use Rattle.session_core.specs.Legal.{AnswersInTime, awaited, awaited_among}
 use Rattle.session_core.specs.Parts.{are_all_finished, is_finished, is_settled}
 use Rattle.session_core.specs.Progress.{is_done}
 use Rattle.session_core.specs.Reading.{asked}

@@ -10,7 +10,7 @@ use Rattle.session_core.specs.declared.version.Version.{Version}
 use Rattle.session_core.specs.Answers.{IsFirst}
 use Rattle.session_core.specs.Document.{first_version, home, versions, versions_after}
 use Rattle.session_core.specs.Kept.{IsKept}
-use Rattle.session_core.specs.Legal.{AnswersInTime, IsLegal, awaited_among}
+use Rattle.session_core.specs.Legal.{AnswersInTime, awaited_among}
 use Rattle.session_core.specs.Parts.{all_tasks, first_among, first_ready, held_by, is_finished, is_gone, is_held, is_same_part}
 use Rattle.session_core.specs.Progress.{is_done, nth_part}
 use Rattle.session_core.specs.Reading.{asked}

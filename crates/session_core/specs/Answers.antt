@@ -1,5 +1,5 @@
 -- What one message is answered, from the live versions and what is finished.
-use Rattle.std.specs.Prelude.{◌≡◌, ℕ, Bool, true, false, List, [], ◌∷◌, Option, None, Some, ⊤}
+use Rattle.std.specs.Prelude.{◌≡◌, ℕ, Bool, false, List, [], ◌∷◌, Option, None, Some, ⊤}
 use Rattle.pide_base.specs.declared.part.Part.{Part}
 use Rattle.session_core.specs.declared.answer.Answer.{Answer}
 use Rattle.session_core.specs.declared.answer.Answer.TheVariants as answer

@@ -1,5 +1,5 @@
 -- The commands of a text with what checking it from nothing reports.
-use Rattle.std.specs.Prelude.{ℕ, ◌+◌, ◌*◌, List, [], ◌∷◌, ◌++◌, Option, None, Some, length, codes}
+use Rattle.std.specs.Prelude.{ℕ, ◌+◌, List, [], ◌∷◌, None, Some, length, codes}
 use Rattle.session_core.specs.declared.first_text.FirstText.{FirstText}
 use Rattle.session_core.specs.FirstText.{theory_source, lemma_source, by_source, formula}
 use Rattle.session_core.specs.declared.command.Command.{Command}

@@ -1,5 +1,5 @@
 -- The document after messages, and which messages are refused.
-use Rattle.std.specs.Prelude.{ℕ, ◌+◌, Bool, true, false, ◌==◌, not, bytes_eq, if◌then◌else◌, List, [], ◌∷◌, ◌++◌, Option, None, Some, length, find}
+use Rattle.std.specs.Prelude.{ℕ, ◌+◌, ◌==◌, bytes_eq, if◌then◌else◌, List, [], ◌∷◌, ◌++◌, Option, None, Some, length, find}
 use Rattle.session_core.specs.declared.entry.Entry.{Entry}
 use Rattle.session_core.specs.declared.entry.Entry.TheVariants as entry
 use Rattle.session_core.specs.declared.editor_message.EditorMessage.{EditorMessage}

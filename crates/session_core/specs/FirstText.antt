@@ -1,5 +1,5 @@
 -- The texts that a document may have for now: one theory with one lemma.
-use Rattle.std.specs.Prelude.{ℕ, ◌≤◌, Bool, true, false, ◌&&◌, not, nat_le, bytes_eq, List, [], ◌∷◌, ◌++◌, length, codes}
+use Rattle.std.specs.Prelude.{ℕ, ◌≤◌, Bool, ◌&&◌, not, bytes_eq, List, [], ◌∷◌, ◌++◌, length, codes}
 use Rattle.std.specs.List.{list_any, join_with_byte}
 use Rattle.pide_base.specs.Identifier.{is_node_name}
 use Rattle.session_core.specs.declared.first_text.FirstText.{FirstText}

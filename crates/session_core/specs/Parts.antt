@@ -6,7 +6,6 @@ use Rattle.pide_base.specs.declared.part.PartKind.{PartKind}
 use Rattle.pide_base.specs.declared.part.PartKind.TheVariants as kind
 use Rattle.session_core.specs.declared.entry.Entry.{Entry}
 use Rattle.session_core.specs.declared.entry.Entry.TheVariants as entry
-use Rattle.session_core.specs.declared.command.Command.{Command}
 use Rattle.session_core.specs.declared.version.Assigned.{Assigned}
 use Rattle.session_core.specs.declared.version.Version.{Version}
 use Rattle.session_core.specs.Document.{versions, home}

@@ -2,7 +2,6 @@
 use Rattle.std.specs.Prelude.{ℕ, Bool, ◌&&◌, ◌||◌, not, is_some, if◌then◌else◌, List, [], ◌∷◌, ◌++◌, Option, None, Some, map}
 use Rattle.pide_base.specs.declared.part.Part.{Part}
 use Rattle.session_core.specs.declared.entry.Entry.{Entry}
-use Rattle.session_core.specs.declared.command.Command.{Command}
 use Rattle.session_core.specs.declared.version.Assigned.{Assigned}
 use Rattle.session_core.specs.declared.version.Version.{Version}
 use Rattle.session_core.specs.Parts.{evaluation, fork, is_finished}

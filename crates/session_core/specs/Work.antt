@@ -1,5 +1,5 @@
 -- How much work a history leaves.
-use Rattle.std.specs.Prelude.{◌≡◌, ℕ, not, List, ◌∷◌, length, filter}
+use Rattle.std.specs.Prelude.{ℕ, not, List, ◌∷◌, length, filter}
 use Rattle.session_core.specs.declared.entry.Entry.{Entry}
 use Rattle.session_core.specs.declared.entry.Entry.TheVariants as entry
 use Rattle.pide_base.specs.declared.part.Part.{Part}

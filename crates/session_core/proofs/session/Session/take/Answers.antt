@@ -1,5 +1,5 @@
 -- The message's entry joins the history; what is kept beside it stays true.
-use Rattle.std.proofs.Common.{rules, ◌≡◌, ◌∷◌, ◌++◌, [], false, List, ℕ, sym, ap, ◌∙◌, subst, reverse}
+use Rattle.std.proofs.Common.{rules, ◌≡◌, ◌∷◌, ◌++◌, [], false, List, sym, ap, ◌∙◌, subst, reverse}
 use Rattle.std.specs.Option.{option_to_list}
 use Rattle.session_core.specs.declared.entry.Entry.{Entry}
 use Rattle.session_core.specs.declared.entry.Entry.TheVariants.{Call}

@@ -1,8 +1,8 @@
 -- The part's two entries join the history; what is kept beside it stays true.
-use Rattle.std.proofs.Common.{rules, arith, ◌≡◌, ◌<◌, ◌+◌, Bool, ◌∷◌, ◌++◌, [], false, List, ℕ, Option, Some, sym, ap, ◌∙◌, subst, reverse}
+use Rattle.std.proofs.Common.{rules, arith, ◌≡◌, ◌<◌, ◌+◌, Bool, ◌∷◌, ◌++◌, [], false, List, Option, Some, sym, ap, ◌∙◌, subst, reverse}
 use Rattle.pide_base.specs.declared.part.Part.{Part}
 use Rattle.session_core.specs.declared.entry.Entry.{Entry}
-use Rattle.session_core.specs.declared.entry.Entry.TheVariants.{Claimed, Finished}
+use Rattle.session_core.specs.declared.entry.Entry.TheVariants.{Claimed}
 use Rattle.session_core.specs.declared.version.Version.{Version}
 use Rattle.session_core.specs.Kept.{IsKept}
 use Rattle.session_core.specs.Work.{worked}
