@@ -1,0 +1,32 @@
+//! The program `pide`: standard input and output, handed to the one call.
+#![tactic(auto)]
+
+use pide_base::Status;
+use pide_io::{StdSink, StdSource};
+use pide_serve::pide;
+use std::env;
+use std::process::ExitCode;
+
+fn main(rt: HostRuntime) -> ExitCode {
+    let status = match env::args(&rt) {
+        Ok(args) => match args.skip(1).collect::<Vec<String>>(rt.alloc()) {
+            Ok(args) => run(&rt, &args),
+            Err(_) => Status::NoMemory,
+        },
+        Err(_) => Status::Usage,
+    };
+    ExitCode::from(status.exit_number())
+}
+
+/// Runs the program on the words after its name.
+fn run(rt: &HostRuntime, args: &Vec<String>) -> Status {
+    let mut words = Vec::new(rt.alloc());
+    for arg in args {
+        if words.push(arg.as_str()).is_err() {
+            return Status::NoMemory;
+        }
+    }
+    let source = StdSource::new(rt.stdin());
+    let sink = StdSink::new(rt.stdout());
+    pide(rt.alloc(), words.as_slice(), source, sink).status
+}

@@ -1,0 +1,16 @@
+//! The program's one call: the words of the command line, a source and a sink in; a status and the history out.
+//!
+//! It is this project's own. It must not know the real streams, nor how a document is kept.
+#![tactic(auto)]
+
+mod outcome;
+mod program;
+mod reading;
+mod serving;
+mod words;
+
+pub use outcome::Outcome;
+pub use program::pide;
+
+#[cfg(test)]
+mod tests;
