@@ -1,0 +1,8 @@
+mod Scanning
+mod Headings
+mod Cutting
+mod Reaching
+mod Spelled
+mod Advancing
+mod Ending
+mod Written
