@@ -1,6 +1,6 @@
 -- How a stream ends, and that it has one reading.
 use Rattle.std.proofs.Common.{◌≡◌, ℕ, ◌+◌, ◌<◌, ◌≤◌, List, [], ◌∷◌, ◌++◌, length, sum, map, take, drop, Option, Some, None, Result, Ok, Err, ◌⊎◌, inl, inr, refl, ap, sym, ◌∙◌, arith, append_assoc, subst}
-use Rattle.std.proofs.lemmas.List.{length-append, append-nil, append_cancel_right}
+use Rattle.std.proofs.lemmas.List.{length-append, append-nil, append_cancel_left}
 use Rattle.std.proofs.Math.Seq.{drop-append_seam}
 use Rattle.std.specs.List.{concat}
 use Rattle.byte_message.specs.Chunks.{cut}
@@ -132,3 +132,8 @@ first-read front after m (n ∷ ns) e one a =
     let whole : s.0 ++ (s.1 ++ a.rest) ≡ front ++ after = sym (append_assoc s.0 s.1 a.rest) ∙ ap (λ z. z ++ a.rest) (sym s.2) ∙ sym a.whole in
     let p = fronts_same s.0 front (s.1 ++ a.rest) after n m s.3 one whole in
     (ns, ap (λ z. z ∷ ns) p.0)
+
+pub same-read : (stream : List ℕ) (taken : List (List (List ℕ))) (now other : Framing) → Stands stream taken now → Stands stream taken other → (now.waiting ≡ other.waiting) × (ending_of now ≡ ending_of other)
+same-read stream taken now other a b =
+    let p = one-reading stream (taken ++ now.waiting) (taken ++ other.waiting) (ending_of now) (ending_of other) (reads stream taken now a) (reads stream taken other b) in
+    (append_cancel_left taken now.waiting other.waiting p.0, p.1)

@@ -25,7 +25,8 @@ impl Model for Frames {
 }
 
 impl Frames {
-    ghost use Rattle.std.specs.Prelude.{◌≡◌, ℕ, List, [], ◌++◌, option_to_list};
+    ghost use Rattle.std.specs.Prelude.{◌≡◌, ℕ, List, [], ◌++◌, Err, option_to_list, IfSome};
+    ghost use Rattle.byte_message.specs.declared.fault.FeedError.{FeedError};
     ghost use Rattle.byte_message.specs.Kept.{Stands};
     ghost use Rattle.byte_message.specs.Stream.{IsReadAs};
     ghost use Rattle.byte_message.specs.Feeding.{Feeds, Takes, ending_of, cut_off};
@@ -52,7 +53,8 @@ impl Frames {
     /// The first fault is the answer from then on, and whole messages before it can still be
     /// taken. Where memory runs out nothing has changed.
     pub fn feed(&mut self, piece: &[u8]) -> Result<usize, FeedError>
-        ensures { Feeds self.old piece.now self.new result }
+        ensures feeds { Feeds self.old piece.now self.new result }
+        ensures faulted { IfSome self.old.fault (λ fault. (result ≡ Err (FeedError.Frame fault)) × (self.new ≡ self.old)) }
     {
         if let Some(fault) = self.state.part.fault() {
             return Err(FeedError::Frame(fault));

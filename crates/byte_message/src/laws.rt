@@ -1,5 +1,7 @@
 //! Laws over the definitions, as contracts of functions that do nothing.
 ghost use Rattle.std.specs.Prelude.{◌≡◌, ℕ, List, ◌∷◌, ◌++◌};
+ghost use Rattle.byte_message.specs.Feeding.{ending_of};
+ghost use Rattle.byte_message.specs.Kept.{Framing, Stands};
 ghost use Rattle.byte_message.specs.Stream.{Ending, IsMessage, IsReadAs, IsSpelling, plain_spelling};
 
 /// A stream has one list of messages and one ending, so no two lists of messages have one stream.
@@ -15,5 +17,13 @@ pub fn written_is_read()
     ensures first { (message : List (List ℕ)) (after : List ℕ) (read : List (List (List ℕ))) (ending : Ending)
         → IsMessage message → IsReadAs (plain_spelling message ++ after) read ending
         → (others : List (List (List ℕ))) × (read ≡ message ∷ others) }
+{
+}
+
+/// However a stream was cut into pieces: decoders that have read it, and handed out the same
+/// messages, have the same messages waiting and the same ending.
+pub fn any_pieces()
+    ensures { (stream : List ℕ) (taken : List (List (List ℕ))) (now other : Framing) → Stands stream taken now
+        → Stands stream taken other → (now.waiting ≡ other.waiting) × (ending_of now ≡ ending_of other) }
 {
 }
