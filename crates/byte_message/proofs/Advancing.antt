@@ -1,9 +1,9 @@
 -- A piece leads a decoder on.
-use Rattle.std.proofs.Common.{◌≡◌, ℕ, ◌+◌, List, [], ◌∷◌, ◌++◌, length, Option, Some, None, Result, Ok, Err, ◌<◌, ◌^◌, take, drop, inl, inr, ◌⊎◌, refl, ap, sym, ◌∙◌, arith, append_assoc}
+use Rattle.std.proofs.Common.{◌≡◌, ℕ, ◌+◌, List, [], ◌∷◌, ◌++◌, length, Option, Some, None, Result, Ok, Err, ◌<◌, ◌^◌, refl, ap, sym, ◌∙◌, append_assoc}
 use Rattle.std.proofs.lemmas.List.{append-nil}
 use Rattle.std.specs.Prelude.{OnOk}
-use Rattle.byte_message.specs.Heading.{Heading, heading}
-use Rattle.byte_message.specs.Heading.Heading.{Fit, Faulty, Unended}
+use Rattle.byte_message.specs.Heading.{heading}
+use Rattle.byte_message.specs.Heading.Heading.{Faulty}
 use Rattle.byte_message.specs.Stream.{IsSpelling, IsShort, told, placed}
 use Rattle.byte_message.specs.Feeding.{Continues}
 use Rattle.byte_message.specs.declared.line_fault.LineFault.{LineFault}
@@ -34,23 +34,23 @@ on-ok (Err e) P Q f p = tt
 pub keeps-all : (old : Framing) (piece rest : List ℕ) → old.at < 2 ^ 64 → old.rest ++ piece ≡ rest → IsShort rest
     → Advances old piece (record { waiting = old.waiting; at = old.at; rest = rest; fault = None })
 keeps-all old piece rest n e short = record {
-    made = [];
-    rest = rest;
-    reached = rw e (reached-same [] old.at rest n);
-    waiting = sym (append-nil old.waiting);
-    kept = (refl, short);
-  }
+  made = [];
+  rest = rest;
+  reached = rw e (reached-same [] old.at rest n);
+  waiting = sym (append-nil old.waiting);
+  kept = (refl, short);
+}
 
 -- a line is at fault
 pub turns-bad : (old : Framing) (piece : List ℕ) (wrong : LineFault) (fault : FrameFault) → old.at < 2 ^ 64 → heading (old.rest ++ piece) ≡ Faulty wrong → fault ≡ placed old.at wrong
     → Advances old piece (record { waiting = old.waiting; at = old.at; rest = []; fault = Some fault })
 turns-bad old piece wrong fault n bad at = record {
-    made = [];
-    rest = old.rest ++ piece;
-    reached = reached-same [] old.at (old.rest ++ piece) n;
-    waiting = sym (append-nil old.waiting);
-    kept = (wrong, bad, at);
-  }
+  made = [];
+  rest = old.rest ++ piece;
+  reached = reached-same [] old.at (old.rest ++ piece) n;
+  waiting = sym (append-nil old.waiting);
+  kept = (wrong, bad, at);
+}
 
 -- the message in progress is whole, and what follows was read
 pub reads-on : (old new : Framing) (piece front after rest : List ℕ) (m : List (List ℕ)) (before made : List (List (List ℕ))) (from to : ℕ) (kept : List ℕ) (fault : Option FrameFault)
@@ -84,4 +84,4 @@ continues old new piece e a = λ stream taken s. advanced old new piece stream t
 pub cut_there : (r l b t d piece : List ℕ) → r ≡ l ++ b → t ++ d ≡ piece → r ++ piece ≡ (l ++ (b ++ t)) ++ d
 cut_there r l b t d piece e f =
     ap (λ x. x ++ piece) e ∙ append_assoc l b piece ∙ ap (λ x. l ++ (b ++ x)) (sym f)
-      ∙ ap (λ x. l ++ x) (sym (append_assoc b t d)) ∙ sym (append_assoc l (b ++ t) d)
+    ∙ ap (λ x. l ++ x) (sym (append_assoc b t d)) ∙ sym (append_assoc l (b ++ t) d)

@@ -1,18 +1,18 @@
 -- How a stream ends, and that it has one reading.
-use Rattle.std.proofs.Common.{◌≡◌, ℕ, ◌+◌, ◌<◌, ◌≤◌, List, [], ◌∷◌, ◌++◌, length, sum, map, take, drop, Option, Some, None, Result, Ok, Err, ◌⊎◌, inl, inr, refl, ap, sym, ◌∙◌, arith, append_assoc, subst}
-use Rattle.std.proofs.lemmas.List.{length-append, append-nil, append_cancel_left}
+use Rattle.std.proofs.Common.{◌≡◌, ℕ, ◌<◌, List, [], ◌∷◌, ◌++◌, length, sum, map, drop, Option, Some, None, inl, inr, refl, ap, sym, ◌∙◌, arith, append_assoc, subst}
+use Rattle.std.proofs.lemmas.List.{length-append, append_cancel_left}
 use Rattle.std.proofs.Math.Seq.{drop-append_seam}
 use Rattle.std.specs.List.{concat}
 use Rattle.byte_message.specs.Chunks.{cut}
 use Rattle.byte_message.specs.Heading.{Heading, heading}
 use Rattle.byte_message.specs.Heading.Heading.{Fit, Faulty, Unended}
-use Rattle.byte_message.specs.Kept.{Framing, Reached, Keeps, Stands}
+use Rattle.byte_message.specs.Kept.{Framing, Keeps, Stands}
 use Rattle.byte_message.specs.Stream.{IsSpelling, AreSpelled, IsShort, IsReadAs, EndsAs, Ending, told, placed}
 use Rattle.byte_message.specs.Stream.Ending.{Whole, Bad, Short}
 use Rattle.byte_message.specs.Feeding.{ending_by, ending_of}
 use Rattle.byte_message.specs.declared.line_fault.LineFault.{LineFault}
 use Rattle.byte_message.specs.declared.frame_fault.FrameFault.{FrameFault}
-use Rattle.byte_message.proofs.Headings.{heading-more, faulty-more}
+use Rattle.byte_message.proofs.Headings.{heading-more}
 use Rattle.byte_message.proofs.Cutting.{cut-concat, sum-lengths}
 
 ends_by : (fault : Option FrameFault) (at place : ℕ) (rest kept : List ℕ) → at ≡ told place → Keeps fault at rest kept → EndsAs place rest (ending_by fault at kept)
@@ -22,12 +22,12 @@ ends_by None at place rest (b ∷ kept) e k = let l : length rest ≡ length (b 
 
 pub reads : (stream : List ℕ) (taken : List (List (List ℕ))) (now : Framing) → Stands stream taken now → IsReadAs stream (taken ++ now.waiting) (ending_of now)
 reads stream taken now s = let p = s.reached.place in let at : now.at ≡ told (length s.reached.front) = omega arith in record {
-    front = s.reached.front;
-    rest = s.rest;
-    whole = s.reached.whole;
-    spelled = subst (λ (x : List (List (List ℕ))). AreSpelled s.reached.front x) (sym s.reached.made) s.reached.spelled;
-    ends = ends_by now.fault now.at (length s.reached.front) s.rest now.rest at s.kept;
-  }
+  front = s.reached.front;
+  rest = s.rest;
+  whole = s.reached.whole;
+  spelled = subst (λ (x : List (List (List ℕ))). AreSpelled s.reached.front x) (sym s.reached.made) s.reached.spelled;
+  ends = ends_by now.fault now.at (length s.reached.front) s.rest now.rest at s.kept;
+}
 
 -- a message's front and what follows it
 fronts_same : (f g x y : List ℕ) (m n : List (List ℕ)) → IsSpelling f m → IsSpelling g n → f ++ x ≡ g ++ y → (m ≡ n) × (x ≡ y)

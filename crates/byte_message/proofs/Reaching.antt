@@ -1,5 +1,5 @@
 -- From place to place in a stream.
-use Rattle.std.proofs.Common.{◌≡◌, ℕ, ◌+◌, ◌-◌, ◌^◌, ◌<◌, ◌≤◌, min, List, [], ◌∷◌, ◌++◌, length, refl, ap, sym, ◌∙◌, arith, append_assoc, subst, take, drop}
+use Rattle.std.proofs.Common.{◌≡◌, ℕ, ◌+◌, ◌^◌, ◌<◌, ◌≤◌, List, [], ◌∷◌, ◌++◌, length, refl, ap, sym, ◌∙◌, arith, append_assoc, subst, take, drop}
 use Rattle.std.proofs.lemmas.List.{length-append, append-nil, length-take-le, take-append-drop}
 use Rattle.byte_message.specs.Stream.{IsSpelling, AreSpelled, told}
 use Rattle.byte_message.specs.Kept.{Reached}

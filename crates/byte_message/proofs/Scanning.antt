@@ -1,13 +1,12 @@
 -- Reading byte by byte gives the numbers of the text, as far as they matter.
-use Rattle.std.proofs.Common.{◌≡◌, ℕ, ◌+◌, ◌-◌, ◌*◌, ◌<◌, ◌≤◌, min, Bool, true, false, cond, ◌&&◌, ◌==◌, nat_lt, nat_le, List, [], ◌∷◌, length, map, Option, Some, None, option_map, ◌^◌, refl, ap, sym, ◌∙◌, arith, sum, Result, Ok, Err}
+use Rattle.std.proofs.Common.{◌≡◌, ℕ, ◌+◌, ◌-◌, ◌*◌, ◌<◌, ◌≤◌, Bool, true, false, cond, ◌&&◌, ◌==◌, nat_lt, List, [], ◌∷◌, length, map, Option, Some, None, option_map, ◌^◌, refl, ap, sym, ◌∙◌, arith, sum, Ok, Err}
 use Rattle.std.proofs.lemmas.List.{length-map}
 use Rattle.std.specs.List.{list_all}
 use Rattle.byte_message.proofs.Cutting.{sum-cons}
 use Rattle.std.specs.Option.{unwrap_or}
 use Rattle.byte_message.specs.Line.{is_digit, is_numeral, value_on, onto_first, between_commas, numbers, too_long, judge_lengths, judge_numbers, judge, without_cr}
-use Rattle.byte_message.specs.Scan.{clamp, grown, ended, scan}
-use Rattle.byte_message.specs.declared.line_fault.LineFault.{LineFault}
-use Rattle.byte_message.specs.declared.line_fault.LineFault.TheVariants.{BadHeader, TooMany, TooLong}
+use Rattle.byte_message.specs.Scan.{clamp, grown, scan}
+use Rattle.byte_message.specs.declared.line_fault.LineFault.TheVariants.{BadHeader, TooMany}
 
 -- the numbers of texts, where the first goes on after digits of this value
 abbrev pub numbers_on : Option ℕ → List (List ℕ) → Option (List ℕ)

@@ -1,14 +1,12 @@
 -- Messages that are spelled, from their lines and bodies.
-use Rattle.std.proofs.Common.{◌≡◌, ℕ, ◌+◌, ◌-◌, ◌<◌, ◌≤◌, List, [], ◌∷◌, ◌++◌, length, take, drop, map, sum, Result, Ok, Err, refl, ap, sym, ◌∙◌, arith, append_assoc}
-use Rattle.std.proofs.lemmas.List.{length-append, take-append-drop, length-take-le, length-drop, take_rest}
+use Rattle.std.proofs.Common.{◌≡◌, ℕ, ◌+◌, ◌<◌, ◌≤◌, List, ◌++◌, length, take, drop, map, sum, Result, Ok, Err, ap, sym, ◌∙◌, arith, append_assoc}
+use Rattle.std.proofs.lemmas.List.{take-append-drop, length-take-le, length-drop}
 use Rattle.std.proofs.Math.Seq.{take-append-add}
 use Rattle.std.specs.Prelude.{IfOk}
-use Rattle.std.specs.List.{concat}
 use Rattle.byte_message.specs.Chunks.{cut}
-use Rattle.byte_message.specs.Heading.{Heading, heading}
-use Rattle.byte_message.specs.Heading.Heading.{Fit, Faulty, Unended}
+use Rattle.byte_message.specs.Heading.{heading}
+use Rattle.byte_message.specs.Heading.Heading.{Fit}
 use Rattle.byte_message.specs.Stream.{IsSpelling}
-use Rattle.byte_message.specs.Begun.{BeginsAs}
 use Rattle.byte_message.specs.declared.begin.Begun.{Begun}
 use Rattle.byte_message.proofs.Cutting.{lengths-cut, concat-cut}
 

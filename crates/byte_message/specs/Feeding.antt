@@ -10,11 +10,13 @@ use Rattle.byte_message.specs.declared.fault.Truncated.{Truncated}
 
 -- the stream so far is the one before and the piece
 abbrev pub Continues : Framing → List ℕ → Framing → Type 0
-Continues old piece new = (stream : List ℕ) (taken : List (List (List ℕ))) → Stands stream taken old → Stands (stream ++ piece) taken new
+Continues old piece new = (stream : List ℕ) (taken : List (List (List ℕ)))
+    → Stands stream taken old → Stands (stream ++ piece) taken new
 
 -- by the answer: how many messages were made, the fault, or nothing has changed
 abbrev pub Feeds : Framing → List ℕ → Framing → Result ℕ FeedError → Type 0
-Feeds old piece new (Ok made) = Continues old piece new × (new.fault ≡ None) × (length new.waiting ≡ length old.waiting + made)
+Feeds old piece new (Ok made) =
+    Continues old piece new × (new.fault ≡ None) × (length new.waiting ≡ length old.waiting + made)
 Feeds old piece new (Err (Frame fault)) = Continues old piece new × (new.fault ≡ Some fault)
 Feeds old piece new (Err NoMemory) = new ≡ old
 

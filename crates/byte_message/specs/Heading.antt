@@ -1,5 +1,5 @@
 -- How bytes begin: with a line that is fit, that isn't, or that hasn't ended.
-use Rattle.std.specs.Prelude.{◌==◌, ℕ, Bool, cond, nat_lt, List, [], ◌∷◌, length, Option, Some, None, Result, Ok, Err}
+use Rattle.std.specs.Prelude.{◌==◌, ℕ, cond, nat_lt, List, [], ◌∷◌, length, Option, Some, None, Result, Ok, Err}
 use Rattle.byte_message.specs.Line.{judge}
 use Rattle.byte_message.specs.declared.line_fault.LineFault.{LineFault}
 use Rattle.byte_message.specs.declared.line_fault.LineFault.TheVariants.{BadHeader}
@@ -28,6 +28,7 @@ abbrev pub heading_of : List ℕ → Option (List ℕ) → Heading
 heading_of line None = cond (nat_lt 200 (length line)) (Faulty BadHeader) Unended
 heading_of line (Some body) = judged (judge line) body
 
--- a line is judged when its newline is there, or when a 201st byte without one is (this project's own)
+-- a line is judged when its newline is there, or when a 201st byte without one is
+-- (this project's own)
 abbrev pub heading : List ℕ → Heading
 heading bytes = heading_of (line_of bytes) (after_line bytes)

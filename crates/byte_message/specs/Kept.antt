@@ -1,12 +1,13 @@
 -- What a decoder stands for, after a stream of which these messages were taken.
-use Rattle.std.specs.Prelude.{◌≡◌, ℕ, ◌+◌, ◌<◌, List, [], ◌∷◌, ◌++◌, length, sum, Option, Some, None, ◌⊎◌}
-use Rattle.byte_message.specs.Heading.{Heading, heading}
-use Rattle.byte_message.specs.Heading.Heading.{Fit, Faulty, Unended}
+use Rattle.std.specs.Prelude.{◌≡◌, ℕ, ◌+◌, List, [], ◌++◌, length, Option, Some, None}
+use Rattle.byte_message.specs.Heading.{heading}
+use Rattle.byte_message.specs.Heading.Heading.{Faulty}
 use Rattle.byte_message.specs.Stream.{AreSpelled, told, placed, IsShort}
 use Rattle.byte_message.specs.declared.line_fault.LineFault.{LineFault}
 use Rattle.byte_message.specs.declared.frame_fault.FrameFault.{FrameFault}
 
--- whole messages that wait to be taken, the place after them, the bytes of the message in progress, and the fault
+-- whole messages that wait to be taken, the place after them, the bytes of the message in
+-- progress, and the fault (this project's own)
 pub record Framing : Type 0 where
   pub waiting : List (List (List ℕ))
   pub at : ℕ
@@ -14,7 +15,8 @@ pub record Framing : Type 0 where
   pub fault : Option FrameFault
 
 -- from bytes with these messages before them, to a rest with more messages before it
-pub record Reached (before : List (List (List ℕ))) (from : ℕ) (bytes : List ℕ) (after : List (List (List ℕ))) (to : ℕ) (rest : List ℕ) : Type 0 where
+pub record Reached (before : List (List (List ℕ))) (from : ℕ) (bytes : List ℕ)
+    (after : List (List (List ℕ))) (to : ℕ) (rest : List ℕ) : Type 0 where
   pub front : List ℕ
   pub more : List (List (List ℕ))
   pub whole : bytes ≡ front ++ rest
@@ -25,9 +27,11 @@ pub record Reached (before : List (List (List ℕ))) (from : ℕ) (bytes : List 
 -- a rest is kept, less than a message, or judged as a fault
 abbrev pub Keeps : Option FrameFault → ℕ → List ℕ → List ℕ → Type 0
 Keeps None at rest kept = (rest ≡ kept) × IsShort rest
-Keeps (Some fault) at rest kept = (wrong : LineFault) × (heading rest ≡ Faulty wrong) × (fault ≡ placed at wrong)
+Keeps (Some fault) at rest kept =
+    (wrong : LineFault) × (heading rest ≡ Faulty wrong) × (fault ≡ placed at wrong)
 
--- the decoder has read this stream, and handed out the messages that were taken: those that wait come next
+-- the decoder has read this stream, and handed out the messages that were taken: those that
+-- wait come next (this project's own)
 pub record Stands (stream : List ℕ) (taken : List (List (List ℕ))) (now : Framing) : Type 0 where
   pub rest : List ℕ
   pub reached : Reached [] 0 stream (taken ++ now.waiting) now.at rest

@@ -1,5 +1,5 @@
 -- A header line: which lines are fit, and what is wrong with the others.
-use Rattle.std.specs.Prelude.{◌==◌, ℕ, ◌+◌, ◌-◌, ◌*◌, Bool, true, false, cond, nat_lt, nat_le, ◌&&◌, List, [], ◌∷◌, length, take, map, Option, Some, None, option_map, Result, Ok, Err}
+use Rattle.std.specs.Prelude.{◌==◌, ℕ, ◌+◌, ◌-◌, ◌*◌, Bool, false, cond, nat_lt, nat_le, ◌&&◌, List, [], ◌∷◌, length, take, map, Option, Some, None, option_map, Result, Ok, Err}
 use Rattle.std.specs.List.{list_all, slice_index_or}
 use Rattle.byte_message.specs.declared.line_fault.LineFault.{LineFault}
 use Rattle.byte_message.specs.declared.line_fault.LineFault.TheVariants.{BadHeader, TooMany, TooLong}
@@ -30,16 +30,19 @@ between_commas (b ∷ bs) = cond (b == 44) ([] ∷ between_commas bs) (onto_firs
 
 -- the decimal numbers that a text is, joined by commas
 abbrev pub numbers : List ℕ → Option (List ℕ)
-numbers text = cond (list_all is_numeral (between_commas text)) (Some (map (λ numeral. value_on 0 numeral) (between_commas text))) None
+numbers text = cond (list_all is_numeral (between_commas text))
+    (Some (map (λ numeral. value_on 0 numeral) (between_commas text))) None
 
 -- a line without the CR at its end (this project's own leniency)
 abbrev pub without_cr : List ℕ → List ℕ
-without_cr line = cond (slice_index_or line (length line - 1) 0 == 13) (take (length line - 1) line) line
+without_cr line =
+    cond (slice_index_or line (length line - 1) 0 == 13) (take (length line - 1) line) line
 
 -- the place of the first chunk of more than 2^24 bytes
 abbrev pub too_long : List ℕ → Option ℕ
 too_long [] = None
-too_long (n ∷ lengths) = cond (nat_lt 16777216 n) (Some 0) (option_map (λ chunk. chunk + 1) (too_long lengths))
+too_long (n ∷ lengths) =
+    cond (nat_lt 16777216 n) (Some 0) (option_map (λ chunk. chunk + 1) (too_long lengths))
 
 abbrev pub judge_lengths : List ℕ → Option ℕ → Result (List ℕ) LineFault
 judge_lengths lengths None = Ok lengths
@@ -47,9 +50,12 @@ judge_lengths lengths (Some chunk) = Err (TooLong chunk)
 
 abbrev pub judge_numbers : Option (List ℕ) → Result (List ℕ) LineFault
 judge_numbers None = Err BadHeader
-judge_numbers (Some lengths) = cond (nat_lt 16 (length lengths)) (Err (TooMany (length lengths))) (judge_lengths lengths (too_long lengths))
+judge_numbers (Some lengths) = cond (nat_lt 16 (length lengths))
+    (Err (TooMany (length lengths))) (judge_lengths lengths (too_long lengths))
 
--- the lengths of the chunks that a line names, or the first thing that is wrong with it: more than 200 bytes,
--- or no decimal numbers joined by commas; more than 16 of them; a chunk of more than 2^24 bytes (this project's own limits)
+-- the lengths of the chunks that a line names, or the first thing that is wrong with it: more
+-- than 200 bytes, or no decimal numbers joined by commas; more than 16 of them; a chunk of more
+-- than 2^24 bytes (Isabelle's byte messages, with this project's own limits)
 abbrev pub judge : List ℕ → Result (List ℕ) LineFault
-judge line = cond (nat_lt 200 (length line)) (Err BadHeader) (judge_numbers (numbers (without_cr line)))
+judge line =
+    cond (nat_lt 200 (length line)) (Err BadHeader) (judge_numbers (numbers (without_cr line)))

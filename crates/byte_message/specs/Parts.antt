@@ -1,9 +1,5 @@
 -- What a message in progress stands for.
-use Rattle.std.specs.Prelude.{◌≡◌, ℕ, ◌≤◌, ◌<◌, List, [], ◌∷◌, ◌++◌, length, take, drop, Option, Some, None}
-use Rattle.byte_message.specs.Heading.{heading}
-use Rattle.byte_message.specs.Heading.Heading.{Faulty, Unended}
-use Rattle.byte_message.specs.Stream.{IsSpelling}
-use Rattle.byte_message.specs.Kept.{Framing, Reached, Keeps}
+use Rattle.std.specs.Prelude.{ℕ, List, [], ◌++◌, Option, Some, None}
 use Rattle.byte_message.specs.declared.frame_fault.FrameFault.{FrameFault}
 use Rattle.byte_message.specs.declared.part.Part.{Part}
 use Rattle.byte_message.specs.declared.part.Part.TheVariants.{Line, Chunks, Bad}
@@ -19,4 +15,3 @@ abbrev pub fault_of : Part → Option FrameFault
 fault_of (Line line) = None
 fault_of (Chunks chunks) = None
 fault_of (Bad fault) = Some fault
-

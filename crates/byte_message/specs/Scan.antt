@@ -1,5 +1,5 @@
 -- The numbers of a text, read byte by byte, as far as they matter.
-use Rattle.std.specs.Prelude.{◌==◌, ℕ, ◌+◌, ◌-◌, ◌*◌, min, cond, List, [], ◌∷◌, map, Option, Some, None, option_map}
+use Rattle.std.specs.Prelude.{◌==◌, ℕ, ◌+◌, ◌-◌, ◌*◌, min, cond, List, [], ◌∷◌, Option, Some, None, option_map}
 use Rattle.std.specs.Option.{unwrap_or}
 use Rattle.byte_message.specs.Line.{is_digit}
 
@@ -20,4 +20,5 @@ ended (Some n) after = option_map (λ ns. n ∷ ns) after
 abbrev pub scan : Option ℕ → List ℕ → Option (List ℕ)
 scan None [] = None
 scan (Some n) [] = Some (n ∷ [])
-scan before (b ∷ bs) = cond (is_digit b) (scan (Some (grown before b)) bs) (cond (b == 44) (ended before (scan None bs)) None)
+scan before (b ∷ bs) = cond (is_digit b) (scan (Some (grown before b)) bs)
+    (cond (b == 44) (ended before (scan None bs)) None)

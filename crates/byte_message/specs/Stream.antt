@@ -1,8 +1,8 @@
 -- The messages of a stream, and how it ends.
-use Rattle.std.specs.Prelude.{◌≡◌, ℕ, ◌+◌, ◌-◌, ◌^◌, ◌<◌, ◌≤◌, min, sum, List, [], ◌∷◌, ◌++◌, length, map, ◌⊎◌}
+use Rattle.std.specs.Prelude.{◌≡◌, ℕ, ◌-◌, ◌^◌, ◌<◌, ◌≤◌, min, sum, List, [], ◌∷◌, ◌++◌, length, map, ◌⊎◌}
 use Rattle.std.specs.Fmt.{decimal}
 use Rattle.std.specs.List.{AllByRecursion, concat, join_with_byte}
-use Rattle.byte_message.specs.Heading.{Heading, heading}
+use Rattle.byte_message.specs.Heading.{heading}
 use Rattle.byte_message.specs.Heading.Heading.{Fit, Faulty, Unended}
 use Rattle.byte_message.specs.declared.line_fault.LineFault.{LineFault}
 use Rattle.byte_message.specs.declared.line_fault.LineFault.TheVariants.{BadHeader, TooMany, TooLong}
@@ -16,7 +16,8 @@ IsSpelling bytes message = heading bytes ≡ Fit (map length message) (concat me
 -- spellings of these messages, one after the other
 abbrev pub AreSpelled : List ℕ → List (List (List ℕ)) → Type 0
 AreSpelled bytes [] = bytes ≡ []
-AreSpelled bytes (message ∷ messages) = (front : List ℕ) × (rest : List ℕ) × (bytes ≡ front ++ rest) × IsSpelling front message × AreSpelled rest messages
+AreSpelled bytes (message ∷ messages) = (front : List ℕ) × (rest : List ℕ)
+    × (bytes ≡ front ++ rest) × IsSpelling front message × AreSpelled rest messages
 
 -- a place in a stream, as a number of 64 bits tells it
 abbrev pub told : ℕ → ℕ
@@ -36,16 +37,20 @@ pub data Ending : Type 0 where
 
 -- fewer bytes than a message has: an unended line, or fewer bytes after it than its chunks have
 abbrev pub IsShort : List ℕ → Type 0
-IsShort rest = (heading rest ≡ Unended) ⊎ ((lengths : List ℕ) × (body : List ℕ) × (heading rest ≡ Fit lengths body) × (length body < sum lengths))
+IsShort rest = (heading rest ≡ Unended)
+    ⊎ ((lengths : List ℕ) × (body : List ℕ)
+    × (heading rest ≡ Fit lengths body) × (length body < sum lengths))
 
 -- what follows the last whole message, from this place on, ends so
 abbrev pub EndsAs : ℕ → List ℕ → Ending → Type 0
 EndsAs place rest Whole = rest ≡ []
-EndsAs place rest (Bad fault) = (wrong : LineFault) × (heading rest ≡ Faulty wrong) × (fault ≡ placed (told place) wrong)
+EndsAs place rest (Bad fault) =
+    (wrong : LineFault) × (heading rest ≡ Faulty wrong) × (fault ≡ placed (told place) wrong)
 EndsAs place rest (Short at) = (0 < length rest) × IsShort rest × (at ≡ told place)
 
 -- these are the messages of the stream, and this is its ending
-pub record IsReadAs (stream : List ℕ) (messages : List (List (List ℕ))) (ending : Ending) : Type 0 where
+pub record IsReadAs (stream : List ℕ) (messages : List (List (List ℕ)))
+    (ending : Ending) : Type 0 where
   pub front : List ℕ
   pub rest : List ℕ
   pub whole : stream ≡ front ++ rest
@@ -58,6 +63,8 @@ pub record IsMessage (chunks : List (List ℕ)) : Type 0 where
   pub few : length chunks ≤ 16
   pub short : AllByRecursion (λ chunk. length chunk ≤ 16777216) chunks
 
--- the plain spelling: lengths without leading zeros joined by commas, a newline, the chunks (Isabelle's byte messages)
+-- the plain spelling: lengths without leading zeros joined by commas, a newline, the chunks
+-- (Isabelle's byte messages)
 abbrev pub plain_spelling : List (List ℕ) → List ℕ
-plain_spelling chunks = join_with_byte 44 (map (λ chunk. decimal (length chunk)) chunks) ++ (10 ∷ concat chunks)
+plain_spelling chunks =
+    join_with_byte 44 (map (λ chunk. decimal (length chunk)) chunks) ++ (10 ∷ concat chunks)

@@ -44,17 +44,26 @@ fn chunks_after(
     requires headed { (body : List ℕ) → heading (line.items ++ body) ≡ Fit lengths body }
     requires used { (0 < used) × (used ≤ length piece.now) }
     requires small { sum lengths < 2 ^ 30 }
-    ensures { IfOk result (λ begun. (head : List ℕ) → line.items ≡ head ++ take used piece.now → BeginsAs head piece.now begun) }
+    ensures { IfOk result (λ begun. (head : List ℕ)
+        → line.items ≡ head ++ take used piece.now → BeginsAs head piece.now begun) }
 {
     let whole = total(lengths.as_slice());
     let body = &piece[used..];
     if body.len() < whole {
         let bytes = Vec::from_slice(alloc, body)?;
-        Ok(Begun::Within(Chunks { line, lengths, whole, bytes }))
+        Ok(Begun::Within(Chunks {
+            line,
+            lengths,
+            whole,
+            bytes,
+        }))
     } else {
         let bytes = Vec::from_slice(alloc, &body[..whole])?;
         let message = Message::new(lengths, bytes);
-        Ok(Begun::Whole { message, used: used + whole })
+        Ok(Begun::Whole {
+            message,
+            used: used + whole,
+        })
     }
 }
 

@@ -54,7 +54,8 @@ impl Frames {
     /// taken. Where memory runs out nothing has changed.
     pub fn feed(&mut self, piece: &[u8]) -> Result<usize, FeedError>
         ensures feeds { Feeds self.old piece.now self.new result }
-        ensures faulted { IfSome self.old.fault (λ fault. (result ≡ Err (FeedError.Frame fault)) × (self.new ≡ self.old)) }
+        ensures faulted { IfSome self.old.fault (λ fault.
+            (result ≡ Err (FeedError.Frame fault)) × (self.new ≡ self.old)) }
     {
         if let Some(fault) = self.state.part.fault() {
             return Err(FeedError::Frame(fault));
@@ -69,7 +70,8 @@ impl Frames {
     /// The next whole message; `None` exactly where none is whole.
     pub fn next(&mut self) -> Option<Message>
         ensures takes { Takes self.old self.new result }
-        ensures stands { (stream : List ℕ) (taken : List (List (List ℕ))) → Stands stream taken self.old
+        ensures stands { (stream : List ℕ) (taken : List (List (List ℕ)))
+            → Stands stream taken self.old
             → Stands stream (taken ++ option_to_list result) self.new }
     {
         self.state.waiting.pop_front()
@@ -79,7 +81,8 @@ impl Frames {
     /// stream at fault doesn't end within one.
     pub fn finish(&self) -> Result<(), Truncated>
         ensures finish { result ≡ cut_off (ending_of self.now) }
-        ensures read { (stream : List ℕ) (taken : List (List (List ℕ))) → Stands stream taken self.now
+        ensures read { (stream : List ℕ) (taken : List (List (List ℕ)))
+            → Stands stream taken self.now
             → IsReadAs stream (taken ++ self.now.waiting) (ending_of self.now) }
     {
         let at = self.state.at;

@@ -7,23 +7,24 @@ ghost use Rattle.byte_message.specs.Stream.{Ending, IsMessage, IsReadAs, IsSpell
 /// A stream has one list of messages and one ending, so no two lists of messages have one stream.
 pub fn one_reading()
     ensures { (stream : List ℕ) (messages others : List (List (List ℕ))) (ending end : Ending)
-        → IsReadAs stream messages ending → IsReadAs stream others end → (messages ≡ others) × (ending ≡ end) }
-{
-}
+        → IsReadAs stream messages ending → IsReadAs stream others end
+        → (messages ≡ others) × (ending ≡ end) }
+{}
 
 /// What is written is read as it was, whatever follows it.
 pub fn written_is_read()
-    ensures spelled { (message : List (List ℕ)) → IsMessage message → IsSpelling (plain_spelling message) message }
-    ensures first { (message : List (List ℕ)) (after : List ℕ) (read : List (List (List ℕ))) (ending : Ending)
-        → IsMessage message → IsReadAs (plain_spelling message ++ after) read ending
+    ensures spelled { (message : List (List ℕ)) → IsMessage message
+        → IsSpelling (plain_spelling message) message }
+    ensures first { (message : List (List ℕ)) (after : List ℕ) (read : List (List (List ℕ)))
+        (ending : Ending) → IsMessage message
+        → IsReadAs (plain_spelling message ++ after) read ending
         → (others : List (List (List ℕ))) × (read ≡ message ∷ others) }
-{
-}
+{}
 
 /// However a stream was cut into pieces: decoders that have read it, and handed out the same
 /// messages, have the same messages waiting and the same ending.
 pub fn any_pieces()
-    ensures { (stream : List ℕ) (taken : List (List (List ℕ))) (now other : Framing) → Stands stream taken now
-        → Stands stream taken other → (now.waiting ≡ other.waiting) × (ending_of now ≡ ending_of other) }
-{
-}
+    ensures { (stream : List ℕ) (taken : List (List (List ℕ))) (now other : Framing)
+        → Stands stream taken now → Stands stream taken other
+        → (now.waiting ≡ other.waiting) × (ending_of now ≡ ending_of other) }
+{}

@@ -19,7 +19,8 @@ const MOST_CHUNKS: usize = 16;
 /// The place of the first newline.
 pub(crate) fn newline(bytes: &[u8]) -> Option<usize>
     ensures { MatchOption result (after_line bytes.now ≡ None)
-        (λ n. (n < length bytes.now) × (line_of bytes.now ≡ take n bytes.now) × (after_line bytes.now ≡ Some (drop (n + 1) bytes.now))) }
+        (λ n. (n < length bytes.now) × (line_of bytes.now ≡ take n bytes.now)
+        × (after_line bytes.now ≡ Some (drop (n + 1) bytes.now))) }
 {
     match bytes {
         [] => None,
@@ -117,7 +118,10 @@ fn judge_lengths(lengths: Items<usize>) -> Result<Items<usize>, LineFault>
 
 /// Judges a line: the lengths of its chunks, or the first thing that is wrong with it.
 #[tactic(auto, using(crate::proofs::Scanning::scan_judged))]
-pub(crate) fn judge(alloc: Global, line: &[u8]) -> Result<Result<Items<usize>, LineFault>, AllocError>
+pub(crate) fn judge(
+    alloc: Global,
+    line: &[u8],
+) -> Result<Result<Items<usize>, LineFault>, AllocError>
     ensures { IfOk result (λ verdict. verdict ≡ judge line.now) }
 {
     if line.len() > LONGEST_LINE {

@@ -39,14 +39,26 @@ pub(crate) fn read(
                 place = place.saturating_add(used as u64);
             }
             Begun::Within(chunks) => {
-                return Ok(Reading { made, at: place, part: Part::Chunks(chunks) });
+                return Ok(Reading {
+                    made,
+                    at: place,
+                    part: Part::Chunks(chunks),
+                });
             }
             Begun::Line => {
                 let bytes = Vec::from_slice(alloc, rest)?;
-                return Ok(Reading { made, at: place, part: Part::Line(Line { bytes }) });
+                return Ok(Reading {
+                    made,
+                    at: place,
+                    part: Part::Line(Line { bytes }),
+                });
             }
             Begun::Bad(fault) => {
-                return Ok(Reading { made, at: place, part: Part::Bad(fault.placed(place)) });
+                return Ok(Reading {
+                    made,
+                    at: place,
+                    part: Part::Bad(fault.placed(place)),
+                });
             }
         }
     }

@@ -24,13 +24,13 @@ pub struct State {
 }
 
 impl State {
-    ghost use Rattle.byte_message.specs.State.{framing, HoldsLine, HoldsChunks};
+    ghost use Rattle.byte_message.specs.State.{framing, HoldsLine, HoldsChunks, GrowsBy, HasRoom};
 
     /// Takes the next piece, where no fault was judged. Answers how many messages it made.
     pub(crate) fn feed(&mut self, alloc: Global, piece: &[u8]) -> Result<usize, AllocError>
         requires { fault_of self.old.part ≡ None }
         ensures ok { OnOk result (Advances (framing self.old) piece.now (framing self.new)) }
-        ensures made { IfOk result (λ made. length self.new.waiting.items ≡ length self.old.waiting.items + made) }
+        ensures made { IfOk result (λ made. GrowsBy self.old self.new made) }
         ensures err { OnErr result (framing self.new ≡ framing self.old) }
     {
         match &self.part {
@@ -56,7 +56,7 @@ impl State {
         requires held { held ≡ length (rest_of self.old.part) }
         requires begun { BeginsAs (rest_of self.old.part) piece.now begun }
         ensures ok { OnOk result (Advances (framing self.old) piece.now (framing self.new)) }
-        ensures made { IfOk result (λ made. length self.new.waiting.items ≡ length self.old.waiting.items + made) }
+        ensures made { IfOk result (λ made. GrowsBy self.old self.new made) }
         ensures err { OnErr result (framing self.new ≡ framing self.old) }
     {
         let place = self.at;
@@ -78,7 +78,9 @@ impl State {
             Begun::Whole { message, used } => {
                 let mut made = VecDeque::new(alloc);
                 made.push_back(message)?;
-                let at = place.saturating_add(held as u64).saturating_add(used as u64);
+                let at = place
+                    .saturating_add(held as u64)
+                    .saturating_add(used as u64);
                 let reading = read(alloc, made, at, &piece[used..])?;
                 self.join(reading)
             }
@@ -87,10 +89,11 @@ impl State {
 
     /// Takes what was read over.
     fn join(&mut self, reading: Reading) -> Result<usize, AllocError>
-        ensures ok { OnOk result ((self.new.waiting.items ≡ self.old.waiting.items ++ reading.made.items)
+        ensures ok { OnOk result (
+            (self.new.waiting.items ≡ self.old.waiting.items ++ reading.made.items)
             × (self.new.at ≡ reading.at) × (self.new.part ≡ reading.part)) }
         ensures made { IfOk result (λ made. made ≡ length reading.made.items) }
-        ensures room { deque_len self.old.waiting + deque_len reading.made ≤ deque_capacity self.old.waiting → IsOk result }
+        ensures room { HasRoom self.old (deque_len reading.made) → IsOk result }
         ensures err { OnErr result (framing self.new ≡ framing self.old) }
     {
         let Reading { mut made, at, part } = reading;
@@ -105,7 +108,7 @@ impl State {
     fn feed_chunks(&mut self, alloc: Global, piece: &[u8]) -> Result<usize, AllocError>
         requires { HoldsChunks self.old.part }
         ensures ok { OnOk result (Advances (framing self.old) piece.now (framing self.new)) }
-        ensures made { IfOk result (λ made. length self.new.waiting.items ≡ length self.old.waiting.items + made) }
+        ensures made { IfOk result (λ made. GrowsBy self.old self.new made) }
         ensures err { OnErr result (framing self.new ≡ framing self.old) }
     {
         let place = self.at;
@@ -118,7 +121,9 @@ impl State {
             chunks.bytes.extend_from_slice(piece)?;
             return Ok(0);
         }
-        let at = place.saturating_add(chunks.line.len() as u64).saturating_add(chunks.whole as u64);
+        let at = place
+            .saturating_add(chunks.line.len() as u64)
+            .saturating_add(chunks.whole as u64);
         let mut reading = read(alloc, VecDeque::new(alloc), at, &piece[missing..])?;
         reading.made.reserve(1)?;
         self.waiting.reserve(reading.made.len() + 1)?;
@@ -131,8 +136,10 @@ impl State {
 /// The message whose last bytes these are.
 fn complete(alloc: Global, chunks: &mut Chunks, front: &[u8]) -> Result<Message, AllocError>
     requires { length chunks.old.bytes.items + length front.now ≡ chunks.old.whole }
-    ensures ok { IfOk result (λ message. message ≡ cut chunks.old.lengths (chunks.old.bytes.items ++ front.now)) }
-    ensures err { OnErr result ((chunks.new.line.items ≡ chunks.old.line.items) × (chunks.new.bytes.items ≡ chunks.old.bytes.items)) }
+    ensures ok { IfOk result (λ message.
+        message ≡ cut chunks.old.lengths (chunks.old.bytes.items ++ front.now)) }
+    ensures err { OnErr result ((chunks.new.line.items ≡ chunks.old.line.items)
+        × (chunks.new.bytes.items ≡ chunks.old.bytes.items)) }
 {
     let lengths = Items::from_slice(alloc, chunks.lengths.as_slice())?;
     let mut bytes = mem::replace(&mut chunks.bytes, Vec::new(alloc));

@@ -10,7 +10,8 @@ use std::alloc::{AllocError, Global};
 
 /// The lengths of the chunks in decimal, joined by commas.
 fn put_lengths(out: &mut Vec<u8>, chunks: &[Items<u8>]) -> Result<(), AllocError>
-    ensures { OnOk result (out.new.items ≡ out.old.items ++ join_with_byte 44 (map (λ chunk. decimal (length chunk)) chunks.now)) }
+    ensures { OnOk result (out.new.items ≡ out.old.items
+        ++ join_with_byte 44 (map (λ chunk. decimal (length chunk)) chunks.now)) }
 {
     match chunks {
         [] => Ok(()),
@@ -44,7 +45,8 @@ fn put_chunks(out: &mut Vec<u8>, chunks: &[Items<u8>]) -> Result<(), AllocError>
     }
 }
 
-/// The bytes of a message of 1 to 16 chunks, of at most 2^24 bytes each: without CR or leading zeros.
+/// The bytes of a message of 1 to 16 chunks, of at most 2^24 bytes each: without CR or leading
+/// zeros. What is written is read as it was, whatever follows it (`written_is_read`).
 pub fn write_message(alloc: Global, chunks: &[Items<u8>]) -> Result<Vec<u8>, AllocError>
     requires { IsMessage chunks.now }
     ensures { IfOk result (λ bytes. bytes.items ≡ plain_spelling chunks.now) }

@@ -1,8 +1,9 @@
 -- The newline is sought where the line may still end.
-use Rattle.std.proofs.Common.{◌≡◌, ◌≤◌, ◌<◌, arith, take, drop, length, None}
+use Rattle.std.proofs.Common.{◌≡◌, arith, None}
 use Rattle.std.proofs.lemmas.List.{length-take-le, take_all}
 use Rattle.byte_message.specs.Heading.{after_line}
-use Rattle.byte_message.proofs.Headings.{unended-length, found-line, found-after, still_unended, over_long}
+use Rattle.byte_message.proofs.Headings.{unended-length}
+use Rattle.byte_message.proofs.Newlines.{found-line, found-after, still_unended, over_long}
 use Rattle.byte_message.proofs.begin.begin.Goals as goal
 
 pub overflow_sub-room : goal.overflow_sub-room

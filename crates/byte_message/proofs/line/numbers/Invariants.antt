@@ -5,6 +5,6 @@ use Rattle.byte_message.proofs.line.numbers.Given as goal
 
 abbrev pub invariant-loop-b : goal.invariant-loop-b
 invariant-loop-b l = record {
-    small : unwrap_or l.before 0 ≤ 16777217;
-    read : option_map (λ ns. l.done ++ ns) (scan l.before (drop l.b-index l.text)) ≡ scan None l.text;
-  }
+  small : unwrap_or l.before 0 ≤ 16777217;
+  read : option_map (λ ns. l.done ++ ns) (scan l.before (drop l.b-index l.text)) ≡ scan None l.text;
+}

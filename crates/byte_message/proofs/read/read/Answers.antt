@@ -11,4 +11,4 @@ pub loop-made-preserved : goal.loop-made-preserved
 loop-made-preserved c =
     let one = rw c.in-Whole.is at c.in_ok-message.ensures in
     rw (take_rest c.loop-made.rest.now c.in-Whole.used)
-      (reached-step c.in-Whole.message c.in-Whole.used c.loop-made.invariant one.0 one.2 c.in_ok-push_back-in-Whole.ensures.items c.saturating_add-place.ensures)
+    (reached-step c.in-Whole.message c.in-Whole.used c.loop-made.invariant one.0 one.2 c.in_ok-push_back-in-Whole.ensures.items c.saturating_add-place.ensures)

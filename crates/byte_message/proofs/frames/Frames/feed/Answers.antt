@@ -1,5 +1,5 @@
 -- A fault stays; else the piece leads on.
-use Rattle.std.proofs.Common.{◌≡◌, ◌+◌, Some, None, arith, sym, ap, ◌∙◌, length}
+use Rattle.std.proofs.Common.{◌≡◌, ◌+◌, Some, None, sym, ap, ◌∙◌, length}
 use Rattle.byte_message.specs.Kept.{Framing, Advances}
 use Rattle.byte_message.specs.State.{framing}
 use Rattle.byte_message.proofs.Advancing.{stays-bad, continues}
@@ -21,7 +21,7 @@ returns-clause-feeds c =
     let e : c.args.self.now.fault ≡ None = cc in
     let a : Advances c.args.self.now c.args.piece.now (framing c.feed.new.self) = rw c.self.view_is at c.in_ok-made.ensures.ok in
     let n : length c.feed.new.self.waiting.items ≡ length c.args.self.now.waiting + c.in_ok-made.made
-        = c.in_ok-made.ensures.made ∙ ap (λ (v : Framing). length v.waiting + c.in_ok-made.made) c.self.view_is in
+    = c.in_ok-made.ensures.made ∙ ap (λ (v : Framing). length v.waiting + c.in_ok-made.made) c.self.view_is in
     (continues c.args.self.now (framing c.feed.new.self) c.args.piece.now e a, cc, n)
 
 pub returns-in-Some-fault-clause-faulted : goal.returns-in-Some-fault-clause-faulted
