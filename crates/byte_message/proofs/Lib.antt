@@ -1,0 +1,10 @@
+mod Scanning
+mod Headings
+mod Newlines
+mod Cutting
+mod Reaching
+mod Spelled
+mod Advancing
+mod Ending
+mod Numbers
+mod Written

@@ -1,0 +1,10 @@
+pub mod Line
+pub mod Heading
+pub mod Chunks
+pub mod Stream
+pub mod Kept
+pub mod Parts
+pub mod Begun
+pub mod Scan
+pub mod State
+pub mod Feeding
