@@ -1,0 +1,4 @@
+pub mod Terms
+pub mod Grammar
+pub mod Answers
+pub mod Steps

@@ -1,0 +1,23 @@
+use std::alloc::AllocError;
+
+/// Why no formula, or no term, goes on at a place.
+#[derive(Copy, Clone, Debug)]
+pub enum FaultKind {
+    /// No token begins there.
+    Symbol,
+    /// The text ends there.
+    End,
+    /// A token begins there with which nothing goes on.
+    Expected,
+}
+
+/// Why a text is no formula, or no term.
+#[derive(Debug)]
+pub enum FormulaFault {
+    /// The first place at fault, in scalars: where the token begins, or the text's length.
+    At { pos: usize, kind: FaultKind },
+    /// A token before the first place at fault stands under more than 200 operators, quantifiers and parentheses.
+    TooDeep,
+    /// There was no memory.
+    NoMemory,
+}
