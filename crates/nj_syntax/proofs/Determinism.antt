@@ -1,0 +1,39 @@
+-- Over the same tokens there is one run: the step is a function, and it gives the depth.
+use Rattle.std.proofs.Common.{◌≡◌, ℕ, List, [], ◌∷◌, map, Option, Some, refl, ap, sym, subst, ◌∙◌}
+use Rattle.nj_tokens.specs.declared.token.Token.{Token}
+use Rattle.nj_syntax.specs.Terms.{Deep}
+use Rattle.nj_syntax.specs.Steps.{State, step}
+use Rattle.nj_syntax.proofs.Runs.{Runs, stays, goes}
+
+some_injective : (a b : State × ℕ) → ◌≡◌ {A = Option (State × ℕ)} (Some a) (Some b) → a ≡ b
+some_injective a b e = cc
+
+abbrev tokens_of : List Deep → List Token
+tokens_of deep = map (λ t. t.0) deep
+
+first_is : (t u : Token) (ts us : List Token) → t ∷ ts ≡ u ∷ us → t ≡ u
+first_is t u ts us e = cc
+
+others_are : (t u : Token) (ts us : List Token) → t ∷ ts ≡ u ∷ us → ts ≡ us
+others_are t u ts us e = cc
+
+none_is_first : (t : Token) (ts : List Token) → [] ≡ t ∷ ts → ⊥
+none_is_first t ts e = cc
+
+one_step : (s : State) (t u : Token) (a b : State × ℕ) → t ≡ u → step s t ≡ Some a → step s u ≡ Some b → a ≡ b
+one_step s t u a b same e f = some_injective a b (sym e ∙ ap (step s) same ∙ f)
+
+with_first : (t u : Token) (d n : ℕ) {deep more : List Deep} {end stop : State} → t ≡ u → d ≡ n
+    → (deep ≡ more) × (end ≡ stop) → ((t, d) ∷ deep ≡ (u, n) ∷ more) × (end ≡ stop)
+with_first t u d n {deep} {more} same at h = (ap (λ x. (x, d) ∷ deep) same ∙ ap (λ x. (u, x) ∷ deep) at ∙ ap (λ xs. (u, n) ∷ xs) h.0, h.1)
+
+pub one_run : {s end stop : State} {deep more : List Deep} → Runs s deep end → Runs s more stop
+    → map (λ t. t.0) deep ≡ map (λ t. t.0) more → (deep ≡ more) × (end ≡ stop)
+one_run stays stays same = (refl, refl)
+one_run stays (goes e h) same = absurd (none_is_first _ _ same)
+one_run (goes e h) stays same = absurd (none_is_first _ _ (sym same))
+one_run {s = s} (goes {next = next} {t = t} {d = d} {more = deep} e h) (goes {next = other} {end = stop} {t = u} {d = n} {more = more} f k) same =
+    let is : t ≡ u = first_is t u (tokens_of deep) (tokens_of more) same in
+    let pair : (next, d) ≡ (other, n) = one_step s t u (next, d) (other, n) is e f in
+    with_first t u d n is (ap (λ p. p.1) pair)
+    (one_run h (subst (λ x. Runs x more stop) (sym (ap (λ p. p.0) pair)) k) (others_are t u (tokens_of deep) (tokens_of more) same))
