@@ -1,5 +1,5 @@
 -- The reader goes over each formula, and then holds it.
-use Rattle.std.proofs.Common.{◌≡◌, ◌<◌, ◌≤◌, ℕ, ◌+◌, suc, Bool, true, false, cond, ◌||◌, List, [], ◌∷◌, ◌++◌, length, codes, bytes_eq, nat_lt, Option, Some, None, refl, ap, sym, ◌∙◌, le_trans, le_refl, arith, add-one, lt-suc_self}
+use Rattle.std.proofs.Common.{◌≡◌, ◌≤◌, ℕ, ◌+◌, suc, Bool, true, false, cond, ◌||◌, List, [], ◌∷◌, ◌++◌, length, codes, bytes_eq, Some, None, refl, ap, sym, ◌∙◌, le_trans, le_refl, arith, add-one}
 use Rattle.nj_formula.specs.declared.argument.Argument.{Argument}
 use Rattle.nj_formula.specs.declared.formula.Formula.{Formula}
 use Rattle.nj_formula.specs.declared.formula.Formula.TheVariants as Formulas
@@ -8,11 +8,11 @@ use Rattle.nj_syntax.specs.declared.operator.Operator.{Operator}
 use Rattle.nj_syntax.specs.declared.operator.Quantifier.{Quantifier}
 use Rattle.nj_syntax.specs.declared.state.Pending.{Pending}
 use Rattle.nj_syntax.specs.declared.state.Mode.{Mode}
-use Rattle.nj_syntax.specs.Terms.{Deep, AreArguments}
+use Rattle.nj_syntax.specs.Terms.{Deep}
 use Rattle.nj_syntax.specs.Grammar.{priority, sign, joined, word, quantified, is_word, Reads, falsity, atom, predicate, parentheses, negation, operator, quantifier}
 use Rattle.nj_syntax.specs.Answers.{IsFormula}
-use Rattle.nj_syntax.specs.Steps.{State, Step, step, step_word, step_quantifier, place, bound_names, formula_at, goes as going}
-use Rattle.nj_syntax.proofs.Runs.{Runs, stays, goes}
+use Rattle.nj_syntax.specs.Steps.{State, step_word, place, bound_names, formula_at, goes as going}
+use Rattle.nj_syntax.proofs.Runs.{Runs, stays}
 use Rattle.nj_syntax.proofs.Append.{runs_append, goes_at}
 use Rattle.nj_syntax.proofs.CompleteTerms.{Frame, ReadsMany, arguments_read, predicate_closes}
 use Rattle.nj_syntax.proofs.Closing.{Closes, tests_not_less, sign_step, close_step, formula_is}
@@ -31,8 +31,8 @@ parts_fail false true c e = cc
 parts_fail false false c e = (refl, refl, e)
 
 atom_step : (pending : List Pending) (x : List ℕ) → is_word x ≡ false → step_word pending x ≡ going (Mode.Atom x) pending (length pending)
-atom_step pending x free =
-    let parts = parts_fail (bytes_eq x (codes "False")) (bytes_eq x (codes "ALL")) (bytes_eq x (codes "EX")) free in
+atom_step pending x plain =
+    let parts = parts_fail (bytes_eq x (codes "False")) (bytes_eq x (codes "ALL")) (bytes_eq x (codes "EX")) plain in
     rw (parts.0, parts.1, parts.2) refl
 
 word_step : (pending : List Pending) (q : Quantifier) → place pending ≤ 10 → step_word pending (word q) ≡ going (Mode.Binder q) pending (length pending)
@@ -48,16 +48,16 @@ module _ (p : ℕ) {d : ℕ} (pending : List Pending) (at : length pending ≡ d
   falsity_read = record { mode = Mode.Operator Formulas.False; now = pending; run = goes_at refl at stays; holds = Closes.primary }
 
   atom_read : (x : List ℕ) → is_word x ≡ false → ReadsOperand p pending ((Token.Name x, d) ∷ []) (Formulas.Atom x [])
-  atom_read x free = record { mode = Mode.Atom x; now = pending; run = goes_at (atom_step pending x free) at stays; holds = Closes.atom }
+  atom_read x plain = record { mode = Mode.Atom x; now = pending; run = goes_at (atom_step pending x plain) at stays; holds = Closes.atom }
 
   predicate_read : {bound : List (List ℕ)} {inside : List Deep} {arguments : List Argument} (x : List ℕ) → is_word x ≡ false → bound_names pending ≡ bound
       → ReadsMany bound (Frame.predicate x) [] pending inside arguments
       → ReadsOperand p pending ((Token.Name x, d) ∷ (Token.Open, d) ∷ inside ++ (Token.Close, d) ∷ []) (Formulas.Atom x arguments)
-  predicate_read x free are h =
+  predicate_read x plain are h =
       let closes = predicate_closes pending x h.before are h.holds ∙ ap (λ all. going (Mode.Operator (Formulas.Atom x all)) pending (length pending)) h.are in
       record {
         mode = Mode.Operator _; now = pending;
-        run = goes_at (atom_step pending x free) at (goes_at refl at (runs_append h.run (goes_at closes at stays)));
+        run = goes_at (atom_step pending x plain) at (goes_at refl at (runs_append h.run (goes_at closes at stays)));
         holds = Closes.primary }
 
   parentheses_read : {inside : List Deep} {a : Formula} → ReadsOperand 10 (Pending.Parenthesis ∷ pending) inside a
@@ -79,7 +79,8 @@ module _ (p : ℕ) {d : ℕ} (pending : List Pending) (at : length pending ≡ d
     run = runs_append h.run (goes_at (sign_step h.holds op (omega arith) (le_trans room within)) at k.run);
     holds = Closes.operator op within k.holds }
 
-  quantifier_read : {body : List Deep} {a : Formula} (q : Quantifier) (x : List ℕ) → p ≤ 10 → place pending ≤ p → ReadsOperand 10 (Pending.Body q x ∷ pending) body a
+  quantifier_read : {body : List Deep} {a : Formula} (q : Quantifier) (x : List ℕ) → p ≤ 10 → place pending ≤ p
+      → ReadsOperand 10 (Pending.Body q x ∷ pending) body a
       → ReadsOperand p pending ((Token.Name (word q), d) ∷ (Token.Name x, d) ∷ (Token.Dot, d) ∷ body) (quantified q x a)
   quantifier_read q x within room h = record {
     mode = h.mode; now = h.now;
@@ -90,9 +91,9 @@ module _ (p : ℕ) {d : ℕ} (pending : List Pending) (at : length pending ≡ d
 pub operand_read : {p d : ℕ} {bound : List (List ℕ)} {deep : List Deep} {a : Formula} → Reads p d bound deep a
     → (pending : List Pending) → place pending ≤ p → length pending ≡ d → bound_names pending ≡ bound → ReadsOperand p pending deep a
 operand_read falsity pending room at are = falsity_read _ pending at
-operand_read (atom {x = x} free) pending room at are = atom_read _ pending at x free
-operand_read (predicate {x = x} free h) pending room at are =
-    predicate_read _ pending at x free are (arguments_read h (Frame.predicate x) [] pending (ap (λ n. n + 1) at) are)
+operand_read (atom {x = x} plain) pending room at are = atom_read _ pending at x plain
+operand_read (predicate {x = x} plain h) pending room at are =
+    predicate_read _ pending at x plain are (arguments_read h (Frame.predicate x) [] pending (ap (λ n. n + 1) at) are)
 operand_read (parentheses h) pending room at are =
     parentheses_read _ pending at (operand_read h (Pending.Parenthesis ∷ pending) (le_refl 10) (one_deeper pending at) are)
 operand_read (negation within h) pending room at are =

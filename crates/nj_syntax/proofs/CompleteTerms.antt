@@ -1,5 +1,5 @@
 -- The reader goes over each term, and over the arguments of a predicate or of a function.
-use Rattle.std.proofs.Common.{◌≡◌, ℕ, ◌+◌, suc, List, [], ◌∷◌, ◌++◌, length, append_assoc, Option, Some, refl, ap, sym, subst, ◌∙◌, add-one}
+use Rattle.std.proofs.Common.{◌≡◌, ℕ, ◌+◌, List, [], ◌∷◌, ◌++◌, length, append_assoc, Some, refl, ap, sym, subst, ◌∙◌, add-one}
 use Rattle.nj_formula.specs.declared.argument.Argument.{Argument}
 use Rattle.nj_formula.specs.declared.argument.Argument.TheVariants.{Apply}
 use Rattle.nj_formula.specs.declared.formula.Formula.TheVariants as Formulas
@@ -8,8 +8,8 @@ use Rattle.nj_syntax.specs.declared.state.Pending.{Pending}
 use Rattle.nj_syntax.specs.declared.state.Mode.{Mode}
 use Rattle.nj_syntax.specs.Terms.{Deep, named, AreArguments, name, apply, comma}
 use Rattle.nj_syntax.specs.Answers.{IsTerm}
-use Rattle.nj_syntax.specs.Steps.{State, Step, step, step_comma, bound_names, term_at, goes as going}
-use Rattle.nj_syntax.proofs.Runs.{Runs, stays, goes}
+use Rattle.nj_syntax.specs.Steps.{State, step, step_comma, bound_names, term_at, goes as going}
+use Rattle.nj_syntax.proofs.Runs.{Runs, stays}
 use Rattle.nj_syntax.proofs.Append.{runs_append, goes_at}
 
 -- what takes arguments
@@ -32,7 +32,8 @@ pub record ReadsOne (bound : List (List ℕ)) (pending : List Pending) (deep : L
   pub run : Runs (Mode.Argument, pending) deep (mode, pending)
   pub holds : Holds bound t mode
 
-pub record ReadsMany (bound : List (List ℕ)) (frame : Frame) (done : List Argument) (below : List Pending) (deep : List Deep) (arguments : List Argument) : Type 0 where
+pub record ReadsMany (bound : List (List ℕ)) (frame : Frame) (done : List Argument) (below : List Pending)
+    (deep : List Deep) (arguments : List Argument) : Type 0 where
   pub mode : Mode
   pub before : List Argument
   pub last : Argument
@@ -51,19 +52,23 @@ module _ (below : List Pending) where
   comma_then (predicate x) before t = refl
   comma_then (function f) before t = refl
 
-  comma_step : {bound : List (List ℕ)} {t : Argument} {m : Mode} (frame : Frame) (before : List Argument) → bound_names below ≡ bound → Holds bound t m
+  comma_step : {bound : List (List ℕ)} {t : Argument} {m : Mode} (frame : Frame) (before : List Argument)
+      → bound_names below ≡ bound → Holds bound t m
       → step (m, framed frame before ∷ below) Token.Comma ≡ going Mode.Argument (framed frame (before ++ t ∷ []) ∷ below) (length below + 1)
   comma_step {bound = bound} frame before are (by_name {x = x}) =
-      ap (λ names. step_comma (framed frame before ∷ below) (named names x) Token.Comma) (bound_framed frame before ∙ are) ∙ comma_then frame before (named bound x)
+      ap (λ names. step_comma (framed frame before ∷ below) (named names x) Token.Comma) (bound_framed frame before ∙ are)
+      ∙ comma_then frame before (named bound x)
   comma_step frame before are (whole {t = t}) = comma_then frame before t
 
-  pub predicate_closes : {bound : List (List ℕ)} {t : Argument} {m : Mode} (x : List ℕ) (before : List Argument) → bound_names below ≡ bound → Holds bound t m
+  pub predicate_closes : {bound : List (List ℕ)} {t : Argument} {m : Mode} (x : List ℕ) (before : List Argument)
+      → bound_names below ≡ bound → Holds bound t m
       → step (m, Pending.Predicate x before ∷ below) Token.Close ≡ going (Mode.Operator (Formulas.Atom x (before ++ t ∷ []))) below (length below)
   predicate_closes p before are (by_name {x = x}) =
       ap (λ names. going (Mode.Operator (Formulas.Atom p (before ++ named names x ∷ []))) below (length below)) are
   predicate_closes p before are whole = refl
 
-  function_closes : {bound : List (List ℕ)} {t : Argument} {m : Mode} (f : List ℕ) (before : List Argument) → bound_names below ≡ bound → Holds bound t m
+  function_closes : {bound : List (List ℕ)} {t : Argument} {m : Mode} (f : List ℕ) (before : List Argument)
+      → bound_names below ≡ bound → Holds bound t m
       → step (m, Pending.Function f before ∷ below) Token.Close ≡ going (Mode.Comma (Apply f (before ++ t ∷ []))) below (length below)
   function_closes f before are (by_name {x = x}) =
       ap (λ names. going (Mode.Comma (Apply f (before ++ named names x ∷ []))) below (length below)) are
@@ -74,7 +79,8 @@ as_many : {bound : List (List ℕ)} {deep : List Deep} {t : Argument} (frame : F
     → ReadsOne bound (framed frame done ∷ below) deep t → ReadsMany bound frame done below deep (t ∷ [])
 as_many {t = t} frame done below h = record { mode = h.mode; before = done; last = t; run = h.run; holds = h.holds; are = refl }
 
-name_read : {bound : List (List ℕ)} {d : ℕ} (x : List ℕ) (pending : List Pending) → length pending ≡ d → ReadsOne bound pending ((Token.Name x, d) ∷ []) (named bound x)
+name_read : {bound : List (List ℕ)} {d : ℕ} (x : List ℕ) (pending : List Pending) → length pending ≡ d
+    → ReadsOne bound pending ((Token.Name x, d) ∷ []) (named bound x)
 name_read x pending at = record { mode = Mode.Head x; run = goes_at refl at stays; holds = by_name }
 
 apply_read : {bound : List (List ℕ)} {d : ℕ} {inside : List Deep} {arguments : List Argument} (f : List ℕ) (pending : List Pending)
@@ -84,7 +90,8 @@ apply_read f pending at are h =
     let closes = function_closes pending f h.before are h.holds ∙ ap (λ all. going (Mode.Comma (Apply f all)) pending (length pending)) h.are in
     record { mode = Mode.Comma _; run = goes_at refl at (goes_at refl at (runs_append h.run (goes_at closes at stays))); holds = whole }
 
-many_read : {bound : List (List ℕ)} {d : ℕ} {first rest : List Deep} {t : Argument} {more : List Argument} (frame : Frame) (done : List Argument) (below : List Pending)
+many_read : {bound : List (List ℕ)} {d : ℕ} {first rest : List Deep} {t : Argument} {more : List Argument}
+    (frame : Frame) (done : List Argument) (below : List Pending)
     → length below + 1 ≡ d → bound_names below ≡ bound → ReadsOne bound (framed frame done ∷ below) first t
     → ReadsMany bound frame (done ++ t ∷ []) below rest more
     → ReadsMany bound frame done below (first ++ (Token.Comma, d) ∷ rest) (t ∷ more)
@@ -105,29 +112,35 @@ rest_is : (t u : Argument) (more : List Argument) → t ∷ more ≡ u ∷ [] �
 rest_is t u more e = cc
 
 -- under the frame the depth is one more
-inside_at : (frame : Frame) (done : List Argument) (below : List Pending) {d : ℕ} → length below + 1 ≡ d → length (framed frame done ∷ below) ≡ d
+inside_at : (frame : Frame) (done : List Argument) (below : List Pending) {d : ℕ} → length below + 1 ≡ d
+    → length (framed frame done ∷ below) ≡ d
 inside_at frame done below at = sym (add-one (length below)) ∙ at
 
-inside_bound : {bound : List (List ℕ)} (frame : Frame) (done : List Argument) (below : List Pending) → bound_names below ≡ bound → bound_names (framed frame done ∷ below) ≡ bound
+inside_bound : {bound : List (List ℕ)} (frame : Frame) (done : List Argument) (below : List Pending) → bound_names below ≡ bound
+    → bound_names (framed frame done ∷ below) ≡ bound
 inside_bound frame done below are = bound_framed below frame done ∙ are
 
 mutual
-  one_read : {bound : List (List ℕ)} {d : ℕ} {deep : List Deep} {arguments : List Argument} → AreArguments bound d deep arguments → (t : Argument) → arguments ≡ t ∷ []
-      → (pending : List Pending) → length pending ≡ d → bound_names pending ≡ bound → ReadsOne bound pending deep t
+  one_read : {bound : List (List ℕ)} {d : ℕ} {deep : List Deep} {arguments : List Argument} → AreArguments bound d deep arguments
+      → (t : Argument) → arguments ≡ t ∷ [] → (pending : List Pending) → length pending ≡ d → bound_names pending ≡ bound
+      → ReadsOne bound pending deep t
   one_read (name {x = x}) t is pending at are = subst (ReadsOne _ pending _) (one_is _ t [] is) (name_read x pending at)
   one_read (apply {f = f} h) t is pending at are =
-      subst (ReadsOne _ pending _) (one_is _ t [] is) (apply_read f pending at are (arguments_read h (function f) [] pending (ap (λ n. n + 1) at) are))
+      subst (ReadsOne _ pending _) (one_is _ t [] is) (apply_read f pending at are
+      (arguments_read h (function f) [] pending (ap (λ n. n + 1) at) are))
   one_read (comma h k) t is pending at are = absurd (no_arguments k (rest_is _ t _ is))
 
   pub arguments_read : {bound : List (List ℕ)} {d : ℕ} {deep : List Deep} {arguments : List Argument} → AreArguments bound d deep arguments
-      → (frame : Frame) (done : List Argument) (below : List Pending) → length below + 1 ≡ d → bound_names below ≡ bound → ReadsMany bound frame done below deep arguments
+      → (frame : Frame) (done : List Argument) (below : List Pending) → length below + 1 ≡ d → bound_names below ≡ bound
+      → ReadsMany bound frame done below deep arguments
   arguments_read (name {x = x}) frame done below at are = as_many frame done below (name_read x _ (inside_at frame done below at))
   arguments_read (apply {f = f} h) frame done below at are =
       let depth = inside_at frame done below at in
       let names = inside_bound frame done below are in
       as_many frame done below (apply_read f _ depth names (arguments_read h (function f) [] _ (ap (λ n. n + 1) depth) names))
   arguments_read (comma {t = t} h k) frame done below at are =
-      many_read frame done below at are (one_read h t refl _ (inside_at frame done below at) (inside_bound frame done below are)) (arguments_read k frame (done ++ t ∷ []) below at are)
+      many_read frame done below at are (one_read h t refl _ (inside_at frame done below at) (inside_bound frame done below are))
+      (arguments_read k frame (done ++ t ∷ []) below at are)
 
 holds_term : {t : Argument} {m : Mode} → Holds [] t m → term_at (m, []) ≡ Some t
 holds_term by_name = refl
