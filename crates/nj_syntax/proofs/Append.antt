@@ -3,7 +3,7 @@ use Rattle.std.proofs.Common.{◌≡◌, ℕ, List, [], ◌∷◌, ◌++◌, Som
 use Rattle.nj_tokens.specs.declared.token.Token.{Token}
 use Rattle.nj_syntax.specs.Terms.{Deep}
 use Rattle.nj_syntax.specs.Steps.{State, step}
-use Rattle.nj_syntax.proofs.Runs.{Runs, stays, goes}
+use Rattle.nj_syntax.specs.Runs.{Runs, stays, goes}
 
 pub runs_append : {s middle end : State} {front more : List Deep} → Runs s front middle → Runs middle more end → Runs s (front ++ more) end
 runs_append stays k = k

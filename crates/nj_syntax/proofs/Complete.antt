@@ -12,7 +12,7 @@ use Rattle.nj_syntax.specs.Terms.{Deep}
 use Rattle.nj_syntax.specs.Grammar.{priority, sign, joined, word, quantified, is_word, Reads, falsity, atom, predicate, parentheses, negation, operator, quantifier}
 use Rattle.nj_syntax.specs.Answers.{IsFormula}
 use Rattle.nj_syntax.specs.Steps.{State, step_word, place, bound_names, formula_at, goes as going}
-use Rattle.nj_syntax.proofs.Runs.{Runs, stays}
+use Rattle.nj_syntax.specs.Runs.{Runs, stays}
 use Rattle.nj_syntax.proofs.Append.{runs_append, goes_at}
 use Rattle.nj_syntax.proofs.CompleteTerms.{Frame, ReadsMany, arguments_read, predicate_closes}
 use Rattle.nj_syntax.proofs.Closing.{Closes, tests_not_less, sign_step, close_step, formula_is}

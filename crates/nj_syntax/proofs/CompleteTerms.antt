@@ -9,7 +9,7 @@ use Rattle.nj_syntax.specs.declared.state.Mode.{Mode}
 use Rattle.nj_syntax.specs.Terms.{Deep, named, AreArguments, name, apply, comma}
 use Rattle.nj_syntax.specs.Answers.{IsTerm}
 use Rattle.nj_syntax.specs.Steps.{State, step, step_comma, bound_names, term_at, goes as going}
-use Rattle.nj_syntax.proofs.Runs.{Runs, stays}
+use Rattle.nj_syntax.specs.Runs.{Runs, stays}
 use Rattle.nj_syntax.proofs.Append.{runs_append, goes_at}
 
 -- what takes arguments

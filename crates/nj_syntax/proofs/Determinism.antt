@@ -3,7 +3,7 @@ use Rattle.std.proofs.Common.{◌≡◌, ℕ, List, [], ◌∷◌, map, Option, 
 use Rattle.nj_tokens.specs.declared.token.Token.{Token}
 use Rattle.nj_syntax.specs.Terms.{Deep}
 use Rattle.nj_syntax.specs.Steps.{State, step}
-use Rattle.nj_syntax.proofs.Runs.{Runs, stays, goes}
+use Rattle.nj_syntax.specs.Runs.{Runs, stays, goes}
 
 some_injective : (a b : State × ℕ) → ◌≡◌ {A = Option (State × ℕ)} (Some a) (Some b) → a ≡ b
 some_injective a b e = cc

@@ -1,11 +1,12 @@
 -- What a text is, or where it is at fault: the first token that is too deep or with which nothing goes on (this project's own).
-use Rattle.std.specs.Prelude.{◌≡◌, ◌≤◌, ◌<◌, ℕ, Bool, true, false, List, [], ◌∷◌, ◌++◌, map, All}
+use Rattle.std.specs.Prelude.{◌≡◌, ◌≤◌, ◌<◌, ℕ, Bool, true, false, List, [], ◌∷◌, ◌++◌, map, All, Result, Ok, Err, ⊤}
 use Rattle.nj_formula.specs.declared.argument.Argument.{Argument}
 use Rattle.nj_formula.specs.declared.formula.Formula.{Formula}
 use Rattle.nj_tokens.specs.declared.token.Token.{Token}
 use Rattle.nj_tokens.specs.declared.token.Placed.{Placed}
 use Rattle.nj_tokens.specs.Tokens.{AreTokens}
 use Rattle.nj_syntax.specs.declared.fault.FaultKind.{FaultKind}
+use Rattle.nj_syntax.specs.declared.fault.FormulaFault.{FormulaFault}
 use Rattle.nj_syntax.specs.Terms.{Deep, AreArguments}
 use Rattle.nj_syntax.specs.Grammar.{Reads}
 
@@ -62,14 +63,29 @@ module _ {A : Type 0} (Is : List Deep → A → Type 0) where
     pub begins : Begins (deep ++ (last.token, depth) ∷ [])
     pub too_deep : 200 < depth
 
-  -- nothing goes on with the tokens up to this one
-  -- no token begins at the place, and something goes on with those before it
-  -- the text ends where something would have to go on
+  -- of the tokens up to the end of the text or to a scalar that begins none: the first place at fault, and why
   pub data IsFault : List Placed → ℕ → Bool → ℕ → FaultKind → Type 0 where
+    -- nothing goes on with this token
     expected : (front : List Placed) (t : Placed) (back : List Placed) {stop : ℕ} {whole : Bool} → GoesOn front
         → ((deep : List Deep) → AreAt (front ++ t ∷ []) deep → Begins deep → ⊥)
         → IsFault (front ++ t ∷ back) stop whole t.at FaultKind.Expected
+    -- no token begins there
     symbol : {tokens : List Placed} {stop : ℕ} → GoesOn tokens → IsFault tokens stop false stop FaultKind.Symbol
+    -- the text ends too early
     ends : {tokens : List Placed} {stop : ℕ} → GoesOn tokens
         → ((deep : List Deep) (a : A) → AreAt tokens deep → Is deep a → ⊥)
         → IsFault tokens stop true stop FaultKind.End
+
+  pub record HasFault (text : List ℕ) (pos : ℕ) (kind : FaultKind) : Type 0 where
+    pub tokens : List Placed
+    pub stop : ℕ
+    pub whole : Bool
+    pub cut : AreTokens 0 text tokens stop whole
+    pub fault : IsFault tokens stop whole pos kind
+
+  -- the answer to a text
+  abbrev pub Answers : List ℕ → Result A FormulaFault → Type 0
+  Answers text (Ok a) = SaysWhole text a
+  Answers text (Err (FormulaFault.At pos kind)) = HasFault text pos kind
+  Answers text (Err FormulaFault.TooDeep) = IsTooDeep text
+  Answers text (Err FormulaFault.NoMemory) = ⊤

@@ -129,8 +129,13 @@ formula_at (Mode.Atom x, pending) = finished pending (Formulas.Atom x [])
 formula_at (Mode.Operator a, pending) = finished pending a
 formula_at (mode, pending) = None
 
+-- a term by itself
+abbrev pub alone : List Pending → Argument → Option Argument
+alone [] a = Some a
+alone (p ∷ below) a = None
+
 -- the term where the text may end here
 abbrev pub term_at : State → Option Argument
-term_at (Mode.Head x, []) = Some (named [] x)
-term_at (Mode.Comma a, []) = Some a
+term_at (Mode.Head x, pending) = alone pending (named [] x)
+term_at (Mode.Comma a, pending) = alone pending a
 term_at (mode, pending) = None

@@ -21,3 +21,14 @@ pub enum FormulaFault {
     /// There was no memory.
     NoMemory,
 }
+
+impl From<AllocError> for FormulaFault {
+    ghost use Rattle.std.specs.Prelude.{◌≡◌};
+    ghost use Rattle.nj_syntax.specs.declared.fault.FormulaFault.TheVariants.{NoMemory};
+
+    ghost from_gives = { λ _ e. e ≡ NoMemory };
+
+    fn from(_error: AllocError) -> FormulaFault {
+        FormulaFault::NoMemory
+    }
+}

@@ -36,3 +36,18 @@ pub enum Mode {
     /// What follows an argument.
     Comma(Argument),
 }
+
+/// Where the reading stands after some tokens.
+#[derive(Debug, Drop)]
+pub struct State {
+    pub mode: Mode,
+    /// The newest is the last.
+    pub pending: Items<Pending>,
+}
+
+/// The state after a token, and the token's depth.
+#[derive(Debug, Drop)]
+pub struct Step {
+    pub state: State,
+    pub depth: usize,
+}

@@ -1,0 +1,135 @@
+//! Tokens of terms: those that follow a name in the place of an argument, and those that follow an argument.
+
+ghost use Rattle.std.specs.Prelude.{◌≡◌, [], ◌∷◌, ◌++◌, ◌+◌, reverse, length, IfOk};
+ghost use Rattle.nj_tokens.specs.declared.token.Token.{Token as Tokens};
+ghost use Rattle.nj_syntax.specs.declared.state.Mode.{Mode as Modes};
+ghost use Rattle.nj_syntax.specs.Terms.{place_of, named};
+ghost use Rattle.nj_syntax.specs.Steps.{bound_names, goes, step_comma, step};
+ghost use Rattle.nj_syntax.specs.Seen.{seen_step};
+
+use crate::operands::{begin, stay};
+use crate::state::{Mode, Pending, Step};
+use nj_formula::{Argument, Formula, Name};
+use nj_tokens::Token;
+use sqlite_items::Items;
+use std::alloc::{AllocError, Global};
+
+/// Which of the names that pending quantifiers bind this is, counted from the innermost.
+fn place_of(pending: &[Pending], name: &Name) -> Option<usize>
+    ensures { result ≡ place_of (bound_names (reverse pending.now)) name.now }
+{
+    let mut rest = pending;
+    let mut inner = 0;
+    'outward: while let [outer @ .., last] = rest {
+        if let Pending::Body(_, bound) = last {
+            if bound.is(name.as_str()) {
+                return Some(inner);
+            }
+            inner += 1;
+        }
+        rest = outer;
+    }
+    None
+}
+
+/// The name by itself: what binds it, or a free name.
+fn named(pending: &[Pending], name: Name) -> Argument
+    ensures { result ≡ named (bound_names (reverse pending.now)) name }
+{
+    match place_of(pending, &name) {
+        Some(place) => Argument::Bound(place),
+        None => Argument::Free(name),
+    }
+}
+
+/// One more argument.
+fn with(arguments: Items<Argument>, argument: Argument) -> Result<Items<Argument>, AllocError>
+    ensures { IfOk result (λ all. all ≡ arguments ++ argument ∷ []) }
+{
+    let mut arguments = arguments;
+    arguments.push(argument)?;
+    Ok(arguments)
+}
+
+/// The next argument of this predicate or function.
+fn next_argument(pending: Items<Pending>, frame: Pending) -> Result<Option<Step>, AllocError>
+    ensures { IfOk result (λ s. seen_step s ≡ goes Modes.Argument (frame ∷ reverse pending) (length (reverse pending) + 1)) }
+{
+    let mut pending = pending;
+    pending.push(frame)?;
+    Ok(Some(stay(Mode::Argument, pending)))
+}
+
+fn after_comma(
+    pending: Items<Pending>,
+    argument: Argument,
+) -> Result<Option<Step>, AllocError>
+    ensures { IfOk result (λ s. seen_step s ≡ step_comma (reverse pending) argument Tokens.Comma) }
+{
+    let mut pending = pending;
+    match pending.pop() {
+        Some(Pending::Predicate(name, arguments)) => {
+            next_argument(pending, Pending::Predicate(name, with(arguments, argument)?))
+        }
+        Some(Pending::Function(name, arguments)) => {
+            next_argument(pending, Pending::Function(name, with(arguments, argument)?))
+        }
+        _ => Ok(None),
+    }
+}
+
+fn after_last(
+    pending: Items<Pending>,
+    argument: Argument,
+) -> Result<Option<Step>, AllocError>
+    ensures { IfOk result (λ s. seen_step s ≡ step_comma (reverse pending) argument Tokens.Close) }
+{
+    let mut pending = pending;
+    match pending.pop() {
+        Some(Pending::Predicate(name, arguments)) => {
+            let atom = Formula::Atom(name, with(arguments, argument)?);
+            Ok(Some(stay(Mode::Operator(atom), pending)))
+        }
+        Some(Pending::Function(name, arguments)) => {
+            let term = Argument::Apply(name, with(arguments, argument)?);
+            Ok(Some(stay(Mode::Comma(term), pending)))
+        }
+        _ => Ok(None),
+    }
+}
+
+/// A token after an argument.
+pub fn after_argument(
+    pending: Items<Pending>,
+    argument: Argument,
+    token: &Token,
+) -> Result<Option<Step>, AllocError>
+    ensures { IfOk result (λ s. seen_step s ≡ step_comma (reverse pending) argument token.now) }
+{
+    match token {
+        Token::Comma => after_comma(pending, argument),
+        Token::Close => after_last(pending, argument),
+        _ => Ok(None),
+    }
+}
+
+/// A token after a name in the place of an argument, which may open the name's own arguments.
+pub fn after_head(
+    alloc: Global,
+    pending: Items<Pending>,
+    name: Name,
+    token: &Token,
+) -> Result<Option<Step>, AllocError>
+    ensures { IfOk result (λ s. seen_step s ≡ step (Modes.Head name, reverse pending) token.now) }
+{
+    match token {
+        Token::Open => {
+            let function = Pending::Function(name, Items::new(alloc));
+            Ok(Some(begin(Mode::Argument, pending, function)?))
+        }
+        _ => {
+            let argument = named(pending.as_slice(), name);
+            after_argument(pending, argument, token)
+        }
+    }
+}
