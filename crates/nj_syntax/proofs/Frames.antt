@@ -66,6 +66,15 @@ module _ {p d : ℕ} {bound : List (List ℕ)} {ts : List Deep} {a : Formula} wh
 pub with_left : (read left last : List Deep) (t : Deep) → (read ++ (left ++ t ∷ [])) ++ last ≡ read ++ (left ++ t ∷ last)
 with_left read left last t = append_assoc read (left ++ t ∷ []) last ∙ ap (λ ts. read ++ ts) (append_assoc left (t ∷ []) last)
 
+pub around_one : (read last : List Deep) (opens closes : Deep) → ((read ++ opens ∷ []) ++ last) ++ closes ∷ [] ≡ read ++ (opens ∷ last ++ closes ∷ [])
+around_one read last opens closes =
+    ap (λ ts. ts ++ closes ∷ []) (append_assoc read (opens ∷ []) last) ∙ append_assoc read (opens ∷ last) (closes ∷ [])
+
+pub after_argument : (read inside last : List Deep) (x opens t : Deep)
+    → ((read ++ x ∷ opens ∷ inside) ++ last) ++ t ∷ [] ≡ read ++ (x ∷ opens ∷ ((inside ++ last) ++ t ∷ []))
+after_argument read inside last x opens t =
+    ap (λ ts. ts ++ t ∷ []) (append_assoc read (x ∷ opens ∷ inside) last) ∙ append_assoc read (x ∷ opens ∷ (inside ++ last)) (t ∷ [])
+
 -- one more argument, after commas
 added : {bound : List (List ℕ)} {d : ℕ} {inside last : List Deep} {arguments : List Argument} {t : Argument}
     → AreArguments bound d inside arguments → AreArguments bound d last (t ∷ [])
@@ -77,12 +86,13 @@ added {bound} {d} {last = last} {t = t} (comma {first = first} {rest = rest} {t 
     (sym (append_assoc first ((Tokens.Comma, d) ∷ rest) ((Tokens.Comma, d) ∷ last))) (comma one (added others end))
 
 pub gathered : {bound : List (List ℕ)} {d : ℕ} {inside last : List Deep} {arguments : List Argument} {t : Argument}
-    → Gathered bound d inside arguments → AreArguments bound d last (t ∷ [])
-    → AreArguments bound d (inside ++ last) (arguments ++ t ∷ [])
-gathered none last = last
-gathered {bound} {d} {last = last} {t = t} (some {inside = inside} {arguments = arguments} are) end =
-    subst (λ ts. AreArguments bound d ts (arguments ++ t ∷ [])) (sym (append_assoc inside ((Tokens.Comma, d) ∷ []) last)) (added are end)
-
-pub argument_deeper : {bound : List (List ℕ)} {d : ℕ} {ts : List Deep} {arguments : List Argument}
-    → AreArguments bound (suc d) ts arguments → AreArguments bound (d + 1) ts arguments
-argument_deeper {bound} {d} {ts} {arguments} are = subst (λ n. AreArguments bound n ts arguments) (sym (add-one d)) are
+    → Gathered bound (d + 1) inside arguments → AreArguments bound (suc d) last (t ∷ [])
+    → AreArguments bound (d + 1) (inside ++ last) (arguments ++ t ∷ [])
+gathered {bound} {d} {last = last} {t = t} are one =
+    joined_to are (subst (λ n. AreArguments bound n last (t ∷ [])) (sym (add-one d)) one)
+  where
+    joined_to : {n : ℕ} {inside : List Deep} {arguments : List Argument} → Gathered bound n inside arguments → AreArguments bound n last (t ∷ [])
+        → AreArguments bound n (inside ++ last) (arguments ++ t ∷ [])
+    joined_to none end = end
+    joined_to {n} (some {inside = before} {arguments = others} these) end =
+        subst (λ ts. AreArguments bound n ts (others ++ t ∷ [])) (sym (append_assoc before ((Tokens.Comma, n) ∷ []) last)) (added these end)
