@@ -1,15 +1,15 @@
 -- With the tokens that a state has read, something begins.
-use Rattle.std.proofs.Common.{◌≡◌, ◌≤◌, ℕ, suc, ◌+◌, Bool, true, false, List, [], ◌∷◌, ◌++◌, length, codes, refl, ap, sym, subst, ◌∙◌, arith, append_assoc, append-nil, le_refl}
+use Rattle.std.proofs.Common.{◌≡◌, ◌≤◌, ℕ, suc, Bool, true, false, List, [], ◌∷◌, ◌++◌, length, codes, refl, sym, subst, append_assoc, append-nil, le_refl}
 use Rattle.nj_formula.specs.declared.argument.Argument.{Argument}
 use Rattle.nj_formula.specs.declared.formula.Formula.{Formula}
 use Rattle.nj_tokens.specs.declared.token.Token.{Token}
 use Rattle.nj_syntax.specs.declared.operator.Quantifier.{Quantifier}
 use Rattle.nj_syntax.specs.declared.state.Pending.{Pending}
 use Rattle.nj_syntax.specs.Terms.{Deep, AreArguments, name, apply}
-use Rattle.nj_syntax.specs.Grammar.{Reads, predicate, atom, quantifier, word, sign}
+use Rattle.nj_syntax.specs.Grammar.{Reads, predicate, atom, word, sign}
 use Rattle.nj_syntax.specs.Answers.{IsFormula, IsTerm, Begins}
 use Rattle.nj_syntax.specs.Steps.{State, place, bound_names}
-use Rattle.nj_syntax.proofs.Around.{Around, Gathered, Within, Reached}
+use Rattle.nj_syntax.proofs.Around.{Around, Within, Reached}
 use Rattle.nj_syntax.proofs.Frames.{place_most, weaker, not_read, right_read, parenthesis_read, body_read, with_left, around_one, after_argument, gathered}
 
 -- with the tokens a formula begins where the first holds, and otherwise a term

@@ -1,5 +1,5 @@
 -- An operand with the innermost thing pending is an operand of what is pending outside.
-use Rattle.std.proofs.Common.{◌≡◌, ◌≤◌, ℕ, suc, ◌+◌, Bool, true, false, List, [], ◌∷◌, ◌++◌, length, refl, ap, sym, subst, ◌∙◌, arith, add-one, append_assoc, append-nil, le_trans, le_refl}
+use Rattle.std.proofs.Common.{◌≡◌, ◌≤◌, ℕ, suc, ◌+◌, List, [], ◌∷◌, ◌++◌, ap, sym, subst, ◌∙◌, arith, add-one, append_assoc, le_trans, le_refl}
 use Rattle.nj_formula.specs.declared.argument.Argument.{Argument}
 use Rattle.nj_formula.specs.declared.formula.Formula.{Formula}
 use Rattle.nj_formula.specs.declared.formula.Formula.TheVariants as Formulas
@@ -8,7 +8,7 @@ use Rattle.nj_syntax.specs.declared.operator.Operator.{Operator}
 use Rattle.nj_syntax.specs.declared.operator.Quantifier.{Quantifier}
 use Rattle.nj_syntax.specs.declared.state.Pending.{Pending}
 use Rattle.nj_syntax.specs.Terms.{Deep, AreArguments, name, apply, comma}
-use Rattle.nj_syntax.specs.Grammar.{Reads, falsity, atom, predicate, parentheses, negation, operator, quantifier, priority, sign, joined, word, quantified, is_word}
+use Rattle.nj_syntax.specs.Grammar.{Reads, falsity, atom, predicate, parentheses, negation, operator, quantifier, priority, sign, joined, word, quantified}
 use Rattle.nj_syntax.specs.Steps.{place}
 use Rattle.nj_syntax.proofs.Around.{Gathered, none, some}
 

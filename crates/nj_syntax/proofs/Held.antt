@@ -1,15 +1,13 @@
 -- Each step keeps what the state says of the tokens read, and so does a run.
-use Rattle.std.proofs.Common.{◌≡◌, ℕ, suc, ◌+◌, Bool, true, false, List, [], ◌∷◌, ◌++◌, length, Option, Some, None, refl, ap, sym, subst, ◌∙◌, append_assoc, append-nil}
+use Rattle.std.proofs.Common.{◌≡◌, ℕ, ◌+◌, Bool, List, [], ◌∷◌, ◌++◌, length, Some, sym, subst, append_assoc, append-nil}
 use Rattle.nj_formula.specs.declared.argument.Argument.{Argument}
 use Rattle.nj_tokens.specs.declared.token.Token.{Token}
-use Rattle.nj_syntax.specs.declared.operator.Quantifier.{Quantifier}
 use Rattle.nj_syntax.specs.declared.state.Pending.{Pending}
-use Rattle.nj_syntax.specs.declared.state.Mode.{Mode}
 use Rattle.nj_syntax.specs.Terms.{Deep, AreArguments, name, apply}
 use Rattle.nj_syntax.specs.Grammar.{predicate, atom, word}
-use Rattle.nj_syntax.specs.Steps.{State, Step, bound_names, step, step_comma}
+use Rattle.nj_syntax.specs.Steps.{State, bound_names, step, step_comma}
 use Rattle.nj_syntax.proofs.Runs.{Runs, stays, goes}
-use Rattle.nj_syntax.proofs.Around.{Around, Gathered, some, none, Within, Reached}
+use Rattle.nj_syntax.proofs.Around.{Around, some, none, Within, Reached}
 use Rattle.nj_syntax.proofs.Frames.{gathered, after_argument}
 use Rattle.nj_syntax.proofs.Kept.{Keeps, moved, operator_kept, operand_kept}
 

@@ -1,20 +1,17 @@
 -- A step with an operand's first token, or with one after an operand, keeps what the state says of the tokens read.
-use Rattle.std.proofs.Common.{◌≡◌, ◌≤◌, ℕ, suc, ◌+◌, Bool, true, false, ◌||◌, List, [], ◌∷◌, ◌++◌, length, Option, Some, None, codes, bytes_eq, if◌then◌else◌, nat_lt, refl, ap, sym, subst, ◌∙◌, arith, add-one, append_assoc}
+use Rattle.std.proofs.Common.{◌≡◌, ◌≤◌, ℕ, ◌+◌, Bool, true, false, ◌||◌, List, [], ◌∷◌, ◌++◌, length, Some, None, codes, bytes_eq, if◌then◌else◌, nat_lt, refl, ap, sym, subst, add-one, append_assoc}
 use Rattle.std.proofs.lemmas.Bool.{ltb-true, ltb-false}
 use Rattle.std.proofs.lemmas.Slice.Eq.{bytes_eq-Decides}
-use Rattle.nj_formula.specs.declared.argument.Argument.{Argument}
-use Rattle.nj_formula.specs.declared.argument.Argument.TheVariants.{Apply}
 use Rattle.nj_formula.specs.declared.formula.Formula.{Formula}
 use Rattle.nj_formula.specs.declared.formula.Formula.TheVariants as Formulas
 use Rattle.nj_tokens.specs.declared.token.Token.{Token}
 use Rattle.nj_syntax.specs.declared.operator.Operator.{Operator}
 use Rattle.nj_syntax.specs.declared.operator.Quantifier.{Quantifier}
 use Rattle.nj_syntax.specs.declared.state.Pending.{Pending}
-use Rattle.nj_syntax.specs.declared.state.Mode.{Mode}
-use Rattle.nj_syntax.specs.Terms.{Deep, AreArguments, name, apply}
-use Rattle.nj_syntax.specs.Grammar.{Reads, falsity, priority, sign, joined, word, is_word}
-use Rattle.nj_syntax.specs.Steps.{State, Step, Held, place, bound_names, goes, reduced, closed, after_reduced, after_closed, step, step_operator, step_operand, step_word, step_quantifier, step_comma}
-use Rattle.nj_syntax.proofs.Around.{Around, Gathered, Within, Reached}
+use Rattle.nj_syntax.specs.Terms.{Deep}
+use Rattle.nj_syntax.specs.Grammar.{Reads, falsity, priority, sign, joined, word}
+use Rattle.nj_syntax.specs.Steps.{State, Step, place, bound_names, reduced, closed, after_reduced, after_closed, step_operator, step_operand, step_word, step_quantifier}
+use Rattle.nj_syntax.proofs.Around.{Around, Reached}
 use Rattle.nj_syntax.proofs.Frames.{priority_most, priority_least, place_most, weaker, not_read, right_read, parenthesis_read, body_read, with_left, around_one}
 
 -- where there is a step with the token, it keeps this
