@@ -57,7 +57,6 @@ module _ {p d : ℕ} {bound : List (List ℕ)} {ts : List Deep} {a : Formula} wh
   pub parenthesis_read : 10 ≤ p → Reads p (suc d) bound ts a → Reads 40 d bound ((Tokens.Open, d) ∷ ts ++ (Tokens.Close, d) ∷ []) a
   parenthesis_read le reads = parentheses (deeper (weaker le reads))
 
-module _ {p d : ℕ} {bound : List (List ℕ)} {ts : List Deep} {a : Formula} where
   pub body_read : (q : Quantifier) (x : List ℕ) → 10 ≤ p → Reads p (suc d) (x ∷ bound) ts a
       → Reads 10 d bound ((Tokens.Name (word q), d) ∷ (Tokens.Name x, d) ∷ (Tokens.Dot, d) ∷ ts) (quantified q x a)
   body_read q x le reads = quantifier q (le_refl 10) (deeper (weaker le reads))
