@@ -56,16 +56,20 @@ module _ (p : ℕ) {d : ℕ} (pending : List Pending) (at : length pending ≡ d
   predicate_read x plain are h =
       let closes = predicate_closes pending x h.before are h.holds ∙ ap (λ all. going (Mode.Operator (Formulas.Atom x all)) pending (length pending)) h.are in
       record {
-        mode = Mode.Operator _; now = pending;
+        mode = Mode.Operator _;
+        now = pending;
         run = goes_at (atom_step pending x plain) at (goes_at refl at (runs_append h.run (goes_at closes at stays)));
-        holds = Closes.primary }
+        holds = Closes.primary;
+      }
 
   parentheses_read : {inside : List Deep} {a : Formula} → ReadsOperand 10 (Pending.Parenthesis ∷ pending) inside a
       → ReadsOperand p pending ((Token.Open, d) ∷ inside ++ (Token.Close, d) ∷ []) a
   parentheses_read {a = a} h = record {
-    mode = Mode.Operator a; now = pending;
+    mode = Mode.Operator a;
+    now = pending;
     run = goes_at refl at (runs_append h.run (goes_at (close_step h.holds) at stays));
-    holds = Closes.primary }
+    holds = Closes.primary;
+  }
 
   negation_read : {operand : List Deep} {a : Formula} → p ≤ 40 → ReadsOperand 40 (Pending.Not ∷ pending) operand a
       → ReadsOperand p pending ((Token.Not, d) ∷ operand) (Formulas.Not a)
@@ -75,17 +79,21 @@ module _ (p : ℕ) {d : ℕ} (pending : List Pending) (at : length pending ≡ d
       → ReadsOperand (priority op + 1) pending left a → ReadsOperand (priority op) (Pending.Right op a ∷ pending) right b
       → ReadsOperand p pending (left ++ (sign op, d) ∷ right) (joined op a b)
   operator_read op within room h k = record {
-    mode = k.mode; now = k.now;
+    mode = k.mode;
+    now = k.now;
     run = runs_append h.run (goes_at (sign_step h.holds op (omega arith) (le_trans room within)) at k.run);
-    holds = Closes.operator op within k.holds }
+    holds = Closes.operator op within k.holds;
+  }
 
   quantifier_read : {body : List Deep} {a : Formula} (q : Quantifier) (x : List ℕ) → p ≤ 10 → place pending ≤ p
       → ReadsOperand 10 (Pending.Body q x ∷ pending) body a
       → ReadsOperand p pending ((Token.Name (word q), d) ∷ (Token.Name x, d) ∷ (Token.Dot, d) ∷ body) (quantified q x a)
   quantifier_read q x within room h = record {
-    mode = h.mode; now = h.now;
+    mode = h.mode;
+    now = h.now;
     run = goes_at (word_step pending q (le_trans room within)) at (goes_at refl at (goes_at refl at h.run));
-    holds = Closes.quantifier q within h.holds }
+    holds = Closes.quantifier q within h.holds;
+  }
 
 -- in a place that takes all of this priority
 pub operand_read : {p d : ℕ} {bound : List (List ℕ)} {deep : List Deep} {a : Formula} → Reads p d bound deep a

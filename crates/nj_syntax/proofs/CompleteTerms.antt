@@ -96,9 +96,13 @@ many_read : {bound : List (List ℕ)} {d : ℕ} {first rest : List Deep} {t : Ar
     → ReadsMany bound frame (done ++ t ∷ []) below rest more
     → ReadsMany bound frame done below (first ++ (Token.Comma, d) ∷ rest) (t ∷ more)
 many_read {t = t} {more = more} frame done below at are h k = record {
-  mode = k.mode; before = k.before; last = k.last;
+  mode = k.mode;
+  before = k.before;
+  last = k.last;
   run = runs_append h.run (goes_at (comma_step below frame done are h.holds) at k.run);
-  holds = k.holds; are = k.are ∙ append_assoc done (t ∷ []) more }
+  holds = k.holds;
+  are = k.are ∙ append_assoc done (t ∷ []) more;
+}
 
 no_arguments : {bound : List (List ℕ)} {d : ℕ} {deep : List Deep} {arguments : List Argument} → AreArguments bound d deep arguments → arguments ≡ [] → ⊥
 no_arguments name e = cc

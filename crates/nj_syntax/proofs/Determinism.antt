@@ -1,5 +1,5 @@
 -- Over the same tokens there is one run: the step is a function, and it gives the depth.
-use Rattle.std.proofs.Common.{◌≡◌, ℕ, List, [], ◌∷◌, map, Option, Some, refl, ap, sym, subst, ◌∙◌}
+use Rattle.std.proofs.Common.{◌≡◌, ℕ, List, [], ◌∷◌, ◌++◌, map, Option, Some, refl, ap, sym, subst, ◌∙◌}
 use Rattle.nj_tokens.specs.declared.token.Token.{Token}
 use Rattle.nj_syntax.specs.Terms.{Deep}
 use Rattle.nj_syntax.specs.Steps.{State, step}
@@ -37,3 +37,20 @@ one_run {s = s} (goes {next = next} {t = t} {d = d} {more = deep} e h) (goes {ne
     let pair : (next, d) ≡ (other, n) = one_step s t u (next, d) (other, n) is e f in
     with_first t u d n is (ap (λ p. p.1) pair)
     (one_run h (subst (λ x. Runs x more stop) (sym (ap (λ p. p.0) pair)) k) (others_are t u (tokens_of deep) (tokens_of more) same))
+
+-- another run over one token more goes on with a step from where this one ended
+pub record StepsOn (end : State) (t : Token) : Type 0 where
+  pub next : State
+  pub depth : ℕ
+  pub steps : step end t ≡ Some (next, depth)
+
+pub next_step : {s end stop : State} {deep more : List Deep} (t : Token) → Runs s deep end → Runs s more stop
+    → map (λ p. p.0) more ≡ map (λ p. p.0) deep ++ t ∷ [] → StepsOn end t
+next_step t stays stays same = absurd (none_is_first _ _ same)
+next_step t stays (goes {s = s} {next = next} {t = u} {d = d} {more = more} e k) same =
+    record { next = next; depth = d; steps = subst (λ x. step s x ≡ Some (next, d)) (first_is u t (tokens_of more) [] same) e }
+next_step t (goes {t = u} {more = deep} e h) stays same = absurd (none_is_first _ _ same)
+next_step {s = s} t (goes {next = next} {t = u} {d = d} {more = deep} e h) (goes {next = other} {end = stop} {t = v} {d = n} {more = more} f k) same =
+    let is : v ≡ u = first_is v u (tokens_of more) (tokens_of deep ++ t ∷ []) same in
+    let pair : (next, d) ≡ (other, n) = one_step s u v (next, d) (other, n) (sym is) e f in
+    next_step t h (subst (λ x. Runs x more stop) (sym (ap (λ p. p.0) pair)) k) (others_are v u (tokens_of more) (tokens_of deep ++ t ∷ []) same)

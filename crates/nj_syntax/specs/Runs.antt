@@ -1,5 +1,5 @@
 -- Runs of the reader over tokens (the code's own way, as Steps).
-use Rattle.std.specs.Prelude.{◌≡◌, ◌<◌, ℕ, List, [], ◌∷◌, ◌++◌, Some, None}
+use Rattle.std.specs.Prelude.{◌≡◌, ◌<◌, ℕ, List, [], ◌∷◌, ◌++◌, Bool, true, false, Option, Some, None, Result, Ok, Err}
 use Rattle.nj_tokens.specs.declared.token.Token.{Token}
 use Rattle.nj_tokens.specs.declared.token.Placed.{Placed}
 use Rattle.nj_syntax.specs.declared.fault.FaultKind.{FaultKind}
@@ -28,3 +28,9 @@ pub data StopsAt (start : State) : List Placed → FormulaFault → Type 0 where
   too_deep : (front : List Placed) (t : Placed) (back : List Placed) (s next : State) (d : ℕ) → HasRead start front s
       → step s t.token ≡ Some (next, d) → 200 < d → StopsAt start (front ++ t ∷ back) FormulaFault.TooDeep
   no_memory : {tokens : List Placed} → StopsAt start tokens FormulaFault.NoMemory
+
+-- the answer where all tokens have been read: what is found there, if the text ends there too
+abbrev pub ended : {A : Type 0} → Option A → ℕ → Bool → Result A FormulaFault
+ended found stop false = Err (FormulaFault.At stop FaultKind.Symbol)
+ended None stop true = Err (FormulaFault.At stop FaultKind.End)
+ended (Some a) stop true = Ok a

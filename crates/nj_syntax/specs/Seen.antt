@@ -1,5 +1,5 @@
 -- What the definitions see of the reader's states: what is pending, newest first.
-use Rattle.std.specs.Prelude.{◌≡◌, Option, option_map, reverse}
+use Rattle.std.specs.Prelude.{Option, option_map, reverse}
 use Rattle.nj_syntax.specs.declared.state.State as states
 use Rattle.nj_syntax.specs.declared.state.Step as steps
 use Rattle.nj_syntax.specs.Steps.{State, Step}

@@ -60,16 +60,16 @@ fn next_argument(pending: Items<Pending>, frame: Pending) -> Result<Option<Step>
     Ok(Some(stay(Mode::Argument, pending)))
 }
 
-fn after_comma(
-    pending: Items<Pending>,
-    argument: Argument,
-) -> Result<Option<Step>, AllocError>
+fn after_comma(pending: Items<Pending>, argument: Argument) -> Result<Option<Step>, AllocError>
     ensures { IfOk result (λ s. seen_step s ≡ step_comma (reverse pending) argument Tokens.Comma) }
 {
     let mut pending = pending;
     match pending.pop() {
         Some(Pending::Predicate(name, arguments)) => {
-            next_argument(pending, Pending::Predicate(name, with(arguments, argument)?))
+            next_argument(
+                pending,
+                Pending::Predicate(name, with(arguments, argument)?),
+            )
         }
         Some(Pending::Function(name, arguments)) => {
             next_argument(pending, Pending::Function(name, with(arguments, argument)?))
@@ -78,10 +78,7 @@ fn after_comma(
     }
 }
 
-fn after_last(
-    pending: Items<Pending>,
-    argument: Argument,
-) -> Result<Option<Step>, AllocError>
+fn after_last(pending: Items<Pending>, argument: Argument) -> Result<Option<Step>, AllocError>
     ensures { IfOk result (λ s. seen_step s ≡ step_comma (reverse pending) argument Tokens.Close) }
 {
     let mut pending = pending;

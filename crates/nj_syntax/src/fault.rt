@@ -1,7 +1,7 @@
 use std::alloc::AllocError;
 
 /// Why no formula, or no term, goes on at a place.
-#[derive(Copy, Clone, Debug)]
+#[derive(Clone, Copy, Debug, PartialEq, Eq)]
 pub enum FaultKind {
     /// No token begins there.
     Symbol,
@@ -12,7 +12,7 @@ pub enum FaultKind {
 }
 
 /// Why a text is no formula, or no term.
-#[derive(Debug)]
+#[derive(Clone, Copy, Debug, PartialEq, Eq)]
 pub enum FormulaFault {
     /// The first place at fault, in scalars: where the token begins, or the text's length.
     At { pos: usize, kind: FaultKind },

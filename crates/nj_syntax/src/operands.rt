@@ -19,7 +19,10 @@ pub fn stay(mode: Mode, pending: Items<Pending>) -> Step
     ensures { seen_step (Some result) ≡ goes mode (reverse pending) (length (reverse pending)) }
 {
     let depth = pending.len();
-    Step { state: State { mode, pending }, depth }
+    Step {
+        state: State { mode, pending },
+        depth,
+    }
 }
 
 /// The next mode, with one thing more pending.
@@ -29,7 +32,10 @@ pub fn begin(mode: Mode, pending: Items<Pending>, new: Pending) -> Result<Step, 
     let mut pending = pending;
     let depth = pending.len();
     pending.push(new)?;
-    Ok(Step { state: State { mode, pending }, depth })
+    Ok(Step {
+        state: State { mode, pending },
+        depth,
+    })
 }
 
 /// Whether an operator waits for its operand. No quantifier may stand there.
@@ -143,6 +149,11 @@ pub fn after_atom(
             let predicate = Pending::Predicate(name, Items::new(alloc));
             Ok(Some(begin(Mode::Argument, pending, predicate)?))
         }
-        _ => after_operand(alloc, pending, Formula::Atom(name, Items::new(alloc)), token),
+        _ => after_operand(
+            alloc,
+            pending,
+            Formula::Atom(name, Items::new(alloc)),
+            token,
+        ),
     }
 }

@@ -51,7 +51,12 @@ impl Operator {
 }
 
 impl Quantifier {
-    pub(crate) fn over(self, alloc: Global, name: Name, body: Formula) -> Result<Formula, AllocError>
+    pub(crate) fn over(
+        self,
+        alloc: Global,
+        name: Name,
+        body: Formula,
+    ) -> Result<Formula, AllocError>
         ensures { IfOk result (λ f. f ≡ quantified self name body) }
     {
         let body = Boxed::new(alloc, body)?;

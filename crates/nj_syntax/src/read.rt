@@ -65,9 +65,5 @@ impl State {
 fn alone(pending: Items<Pending>, term: Argument) -> Option<Argument>
     ensures { result ≡ alone (reverse pending) term }
 {
-    if pending.is_empty() {
-        Some(term)
-    } else {
-        None
-    }
+    if pending.is_empty() { Some(term) } else { None }
 }

@@ -1,15 +1,13 @@
-use Rattle.std.proofs.Common.{rules, ◌≡◌, ◌≤◌, ℕ, List, [], ◌∷◌, ◌++◌, Some, None, sym, ap, ◌∙◌, subst, arith}
+use Rattle.std.proofs.Common.{sym, ap, ◌∙◌}
 use Rattle.nj_syntax.specs.Seen.{seen, seen_step}
-use Rattle.nj_syntax.specs.Steps.{step}
-use Rattle.nj_syntax.specs.Runs.{StopsAt, no_memory}
-use Rattle.nj_syntax.proofs.ReadingLemmas.{nothing_read, stops_unexpected, stops_too_deep, goes_on}
+use Rattle.nj_syntax.proofs.ReadingLemmas.{nothing_read, no_room, stops_unexpected, stops_too_deep, goes_on}
 use Rattle.nj_syntax.proofs.state.State.read.Goals as goal
 
 pub tokens-init : goal.tokens-init
 tokens-init c = nothing_read (seen c.args.self)
 
 pub returns-in_err-step-clause-err : goal.returns-in_err-step-clause-err
-returns-in_err-step-clause-err c = ?
+returns-in_err-step-clause-err c = no_room (seen c.args.self) c.args.tokens.now c.from_residual.result c.from_residual.ensures.1
 
 pub returns-in_default-clause-err : goal.returns-in_default-clause-err
 returns-in_default-clause-err c = stops_unexpected c.args.tokens.now c.tokens.placed-index c.placed-item.result c.tokens-test.true c.placed-item.is

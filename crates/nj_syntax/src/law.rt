@@ -1,0 +1,17 @@
+ghost use Rattle.std.specs.Prelude.{◌≡◌, List, map};
+ghost use Rattle.nj_formula.specs.declared.argument.Argument.{Argument};
+ghost use Rattle.nj_formula.specs.declared.formula.Formula.{Formula};
+ghost use Rattle.nj_syntax.specs.Terms.{Deep};
+ghost use Rattle.nj_syntax.specs.Answers.{IsFormula, IsTerm};
+
+/// A law: the grammar is unambiguous. Tokens are at most one formula, in which each has one depth.
+pub fn one_formula()
+    ensures { (deep other : List Deep) (a b : Formula) → map (λ t. t.0) deep ≡ map (λ t. t.0) other
+        → IsFormula deep a → IsFormula other b → (deep ≡ other) × (a ≡ b) }
+{}
+
+/// A law: tokens are at most one term, in which each has one depth.
+pub fn one_term()
+    ensures { (deep other : List Deep) (t u : Argument) → map (λ t. t.0) deep ≡ map (λ t. t.0) other
+        → IsTerm deep t → IsTerm other u → (deep ≡ other) × (t ≡ u) }
+{}
