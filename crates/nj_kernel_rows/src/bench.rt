@@ -1,147 +1,170 @@
 use crate::refusal::Refusal;
+use crate::row::{Call, Row};
 use crate::sketch::Sketch;
 use nj_formula::{Formula, ObjTerm};
 use nj_kernel::{
-    RuleError, Thm, all_e, all_i, assume, conj_e1, conj_e2, conj_i, disj_e, disj_i1, disj_i2, ex_e,
-    ex_i, false_e, imp_e, imp_i, not_e, not_i,
+    Thm, all_e, all_i, assume, conj_e1, conj_e2, conj_i, disj_e, disj_i1, disj_i2, ex_e, ex_i,
+    false_e, imp_e, imp_i, not_e, not_i,
 };
 use sqlite_items::Items;
 use std::alloc::{AllocError, Global};
+use std::process::Abort;
 
-/// Theorems by number, from 0, in the order in which rules made them. A method of a rule's name runs
-/// that rule on theorems of the bench, and answers the number of the new one.
+/// Runs the rows in order. Each has to have its answer.
+pub fn follow(rt: &impl Abort, alloc: Global, rows: &[Row]) -> Result<(), Refusal> {
+    let mut bench = Bench {
+        alloc,
+        theorems: Items::new(alloc),
+    };
+    for (n, row) in rows.iter().enumerate() {
+        assert!(rt; bench.holds(*row)?, "row {n}");
+    }
+    Ok(())
+}
+
+/// The theorems that the rows so far made, in order.
 #[derive(Drop)]
-pub struct Bench {
+struct Bench {
     alloc: Global,
     theorems: Items<Thm>,
 }
 
 impl Bench {
-    pub fn new(alloc: Global) -> Bench {
-        Bench {
-            alloc,
-            theorems: Items::new(alloc),
+    /// Whether the call of the row has the row's answer. A theorem that it makes is kept.
+    fn holds(&mut self, row: Row) -> Result<bool, Refusal> {
+        match row {
+            Row::Assume(a) => {
+                self.keep(self.assume(a)?)?;
+                self.last_says(&[a], a)
+            }
+            Row::Makes(call, assumed, shown) => {
+                self.keep(self.run(call)?)?;
+                self.last_says(assumed, shown)
+            }
+            Row::Faults(call, rule, premise) => {
+                Ok(self.run(call).err() == Some(Refusal::Fault(rule, premise)))
+            }
         }
     }
 
-    /// Whether the theorem assumes the formulas of the list and no others, in any order, and shows
-    /// the last argument.
-    pub fn says(&self, t: usize, assumed: &[Sketch], shown: Sketch) -> Result<bool, Refusal> {
-        let thm = self.theorem(t)?;
-        let assumed = formulas(self.alloc, assumed)?;
-        let shown = shown.formula(self.alloc)?;
-        Ok(
-            thm.concl().same(&shown)
-                && lie_in(thm.hyps(), assumed.as_slice())
-                && lie_in(assumed.as_slice(), thm.hyps()),
-        )
+    fn keep(&mut self, thm: Thm) -> Result<(), Refusal> {
+        self.theorems.push(thm)?;
+        Ok(())
+    }
+
+    fn last_says(&self, assumed: &[Sketch], shown: Sketch) -> Result<bool, Refusal> {
+        let last = self.theorems.as_slice().last().ok_or(Refusal::NoTheorem)?;
+        Ok(says(self.alloc, last, assumed, shown)?)
     }
 
     fn theorem(&self, number: usize) -> Result<&Thm, Refusal> {
         self.theorems.get(number).ok_or(Refusal::NoTheorem)
     }
 
-    fn keep(&mut self, made: Result<Thm, RuleError>) -> Result<usize, Refusal> {
-        let number = self.theorems.len();
-        self.theorems.push(made?)?;
-        Ok(number)
+    fn run(&self, call: Call) -> Result<Thm, Refusal> {
+        match call {
+            Call::ConjI(t, u) => self.conj_i(t, u),
+            Call::ConjE1(t) => self.conj_e1(t),
+            Call::ConjE2(t) => self.conj_e2(t),
+            Call::DisjI1(t, other) => self.disj_i1(t, other),
+            Call::DisjI2(t, other) => self.disj_i2(t, other),
+            Call::DisjE(t, u, v) => self.disj_e(t, u, v),
+            Call::ImpI(a, t) => self.imp_i(a, t),
+            Call::ImpE(t, u) => self.imp_e(t, u),
+            Call::NotI(a, t) => self.not_i(a, t),
+            Call::NotE(t, u) => self.not_e(t, u),
+            Call::FalseE(t, c) => self.false_e(t, c),
+            Call::AllI(x, t, target) => self.all_i(x, t, target),
+            Call::AllE(t, s) => self.all_e(t, s),
+            Call::ExI(s, t, target) => self.ex_i(s, t, target),
+            Call::ExE(x, t, u) => self.ex_e(x, t, u),
+        }
     }
 
-    pub fn assume(&mut self, a: Sketch) -> Result<usize, Refusal> {
-        let thm = assume(self.alloc, &a.formula(self.alloc)?)?;
-        self.keep(Ok(thm))
+    fn assume(&self, a: Sketch) -> Result<Thm, Refusal> {
+        Ok(assume(self.alloc, &a.formula(self.alloc)?)?)
     }
 
-    pub fn conj_i(&mut self, t: usize, u: usize) -> Result<usize, Refusal> {
-        let made = conj_i(self.alloc, self.theorem(t)?, self.theorem(u)?);
-        self.keep(made)
+    fn conj_i(&self, t: usize, u: usize) -> Result<Thm, Refusal> {
+        Ok(conj_i(self.alloc, self.theorem(t)?, self.theorem(u)?)?)
     }
 
-    pub fn conj_e1(&mut self, t: usize) -> Result<usize, Refusal> {
-        let made = conj_e1(self.alloc, self.theorem(t)?);
-        self.keep(made)
+    fn conj_e1(&self, t: usize) -> Result<Thm, Refusal> {
+        Ok(conj_e1(self.alloc, self.theorem(t)?)?)
     }
 
-    pub fn conj_e2(&mut self, t: usize) -> Result<usize, Refusal> {
-        let made = conj_e2(self.alloc, self.theorem(t)?);
-        self.keep(made)
+    fn conj_e2(&self, t: usize) -> Result<Thm, Refusal> {
+        Ok(conj_e2(self.alloc, self.theorem(t)?)?)
     }
 
-    pub fn disj_i1(&mut self, t: usize, other: Sketch) -> Result<usize, Refusal> {
-        let other = other.formula(self.alloc)?;
-        let made = disj_i1(self.alloc, self.theorem(t)?, &other);
-        self.keep(made)
+    fn disj_i1(&self, t: usize, other: Sketch) -> Result<Thm, Refusal> {
+        let t = self.theorem(t)?;
+        Ok(disj_i1(self.alloc, t, &other.formula(self.alloc)?)?)
     }
 
-    pub fn disj_i2(&mut self, t: usize, other: Sketch) -> Result<usize, Refusal> {
-        let other = other.formula(self.alloc)?;
-        let made = disj_i2(self.alloc, self.theorem(t)?, &other);
-        self.keep(made)
+    fn disj_i2(&self, t: usize, other: Sketch) -> Result<Thm, Refusal> {
+        let t = self.theorem(t)?;
+        Ok(disj_i2(self.alloc, t, &other.formula(self.alloc)?)?)
     }
 
-    pub fn disj_e(&mut self, t: usize, u: usize, v: usize) -> Result<usize, Refusal> {
-        let made = disj_e(
-            self.alloc,
-            self.theorem(t)?,
-            self.theorem(u)?,
-            self.theorem(v)?,
-        );
-        self.keep(made)
+    fn disj_e(&self, t: usize, u: usize, v: usize) -> Result<Thm, Refusal> {
+        let t = self.theorem(t)?;
+        Ok(disj_e(self.alloc, t, self.theorem(u)?, self.theorem(v)?)?)
     }
 
-    pub fn imp_i(&mut self, a: Sketch, t: usize) -> Result<usize, Refusal> {
-        let a = a.formula(self.alloc)?;
-        let made = imp_i(self.alloc, &a, self.theorem(t)?);
-        self.keep(made)
+    fn imp_i(&self, a: Sketch, t: usize) -> Result<Thm, Refusal> {
+        let t = self.theorem(t)?;
+        Ok(imp_i(self.alloc, &a.formula(self.alloc)?, t)?)
     }
 
-    pub fn imp_e(&mut self, t: usize, u: usize) -> Result<usize, Refusal> {
-        let made = imp_e(self.alloc, self.theorem(t)?, self.theorem(u)?);
-        self.keep(made)
+    fn imp_e(&self, t: usize, u: usize) -> Result<Thm, Refusal> {
+        Ok(imp_e(self.alloc, self.theorem(t)?, self.theorem(u)?)?)
     }
 
-    pub fn not_i(&mut self, a: Sketch, t: usize) -> Result<usize, Refusal> {
-        let a = a.formula(self.alloc)?;
-        let made = not_i(self.alloc, &a, self.theorem(t)?);
-        self.keep(made)
+    fn not_i(&self, a: Sketch, t: usize) -> Result<Thm, Refusal> {
+        let t = self.theorem(t)?;
+        Ok(not_i(self.alloc, &a.formula(self.alloc)?, t)?)
     }
 
-    pub fn not_e(&mut self, t: usize, u: usize) -> Result<usize, Refusal> {
-        let made = not_e(self.alloc, self.theorem(t)?, self.theorem(u)?);
-        self.keep(made)
+    fn not_e(&self, t: usize, u: usize) -> Result<Thm, Refusal> {
+        Ok(not_e(self.alloc, self.theorem(t)?, self.theorem(u)?)?)
     }
 
-    pub fn false_e(&mut self, t: usize, c: Sketch) -> Result<usize, Refusal> {
-        let c = c.formula(self.alloc)?;
-        let made = false_e(self.alloc, self.theorem(t)?, &c);
-        self.keep(made)
+    fn false_e(&self, t: usize, c: Sketch) -> Result<Thm, Refusal> {
+        let t = self.theorem(t)?;
+        Ok(false_e(self.alloc, t, &c.formula(self.alloc)?)?)
     }
 
-    pub fn all_i(&mut self, x: &str, t: usize, target: Sketch) -> Result<usize, Refusal> {
-        let target = target.formula(self.alloc)?;
-        let made = all_i(self.alloc, x, self.theorem(t)?, &target);
-        self.keep(made)
+    fn all_i(&self, x: &str, t: usize, target: Sketch) -> Result<Thm, Refusal> {
+        let t = self.theorem(t)?;
+        Ok(all_i(self.alloc, x, t, &target.formula(self.alloc)?)?)
     }
 
-    /// The term is a name by itself.
-    pub fn all_e(&mut self, t: usize, s: &str) -> Result<usize, Refusal> {
+    fn all_e(&self, t: usize, s: &str) -> Result<Thm, Refusal> {
+        let t = self.theorem(t)?;
+        Ok(all_e(self.alloc, t, &ObjTerm::name(self.alloc, s)?)?)
+    }
+
+    fn ex_i(&self, s: &str, t: usize, target: Sketch) -> Result<Thm, Refusal> {
+        let t = self.theorem(t)?;
         let s = ObjTerm::name(self.alloc, s)?;
-        let made = all_e(self.alloc, self.theorem(t)?, &s);
-        self.keep(made)
+        Ok(ex_i(self.alloc, &s, t, &target.formula(self.alloc)?)?)
     }
 
-    /// The term is a name by itself.
-    pub fn ex_i(&mut self, s: &str, t: usize, target: Sketch) -> Result<usize, Refusal> {
-        let s = ObjTerm::name(self.alloc, s)?;
-        let target = target.formula(self.alloc)?;
-        let made = ex_i(self.alloc, &s, self.theorem(t)?, &target);
-        self.keep(made)
+    fn ex_e(&self, x: &str, t: usize, u: usize) -> Result<Thm, Refusal> {
+        Ok(ex_e(self.alloc, x, self.theorem(t)?, self.theorem(u)?)?)
     }
+}
 
-    pub fn ex_e(&mut self, x: &str, t: usize, u: usize) -> Result<usize, Refusal> {
-        let made = ex_e(self.alloc, x, self.theorem(t)?, self.theorem(u)?);
-        self.keep(made)
-    }
+/// Whether the theorem assumes just the formulas of the list and shows the last argument.
+fn says(alloc: Global, thm: &Thm, assumed: &[Sketch], shown: Sketch) -> Result<bool, AllocError> {
+    let assumed = formulas(alloc, assumed)?;
+    let shown = shown.formula(alloc)?;
+    Ok(
+        thm.concl().same(&shown)
+            && lie_in(thm.hyps(), assumed.as_slice())
+            && lie_in(assumed.as_slice(), thm.hyps()),
+    )
 }
 
 fn formulas(alloc: Global, sketches: &[Sketch]) -> Result<Items<Formula>, AllocError> {

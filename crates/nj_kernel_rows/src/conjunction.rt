@@ -1,5 +1,6 @@
-use crate::bench::Bench;
-use crate::refusal::Refusal::Fault;
+use crate::bench::follow;
+use crate::row::Call::{ConjE1, ConjE2, ConjI};
+use crate::row::Row::{self, Assume, Faults, Makes};
 use crate::sketch::Sketch::{self, And};
 use crate::sketch::{A, B};
 use nj_kernel::Rule;
@@ -11,33 +12,31 @@ const A_AND_B: Sketch = And(&A, &B);
 
 #[test]
 fn a_conjunction_assumes_what_its_parts_assume(rt: HostRuntime) -> Result<(), Fail> {
-    let mut bench = Bench::new(rt.alloc());
-    let a = bench.assume(A)?;
-    let b = bench.assume(B)?;
-    let both = bench.conj_i(a, b)?;
-    let twice = bench.conj_i(a, a)?;
-    assert!(rt; bench.says(a, &[A], A)?);
-    assert!(rt; bench.says(both, &[A, B], A_AND_B)?);
-    assert!(rt; bench.says(twice, &[A], A_AND_A)?);
-    Ok(())
+    const ROWS: &[Row] = &[
+        Assume(A),
+        Assume(B),
+        Makes(ConjI(0, 1), &[A, B], A_AND_B),
+        Makes(ConjI(0, 0), &[A], A_AND_A),
+    ];
+    Ok(follow(&rt, rt.alloc(), ROWS)?)
 }
 
 #[test]
 fn a_conjunction_gives_its_parts(rt: HostRuntime) -> Result<(), Fail> {
-    let mut bench = Bench::new(rt.alloc());
-    let both = bench.assume(A_AND_B)?;
-    let left = bench.conj_e1(both)?;
-    let right = bench.conj_e2(both)?;
-    assert!(rt; bench.says(left, &[A_AND_B], A)?);
-    assert!(rt; bench.says(right, &[A_AND_B], B)?);
-    Ok(())
+    const ROWS: &[Row] = &[
+        Assume(A_AND_B),
+        Makes(ConjE1(0), &[A_AND_B], A),
+        Makes(ConjE2(0), &[A_AND_B], B),
+    ];
+    Ok(follow(&rt, rt.alloc(), ROWS)?)
 }
 
 #[test]
 fn an_atom_has_no_parts(rt: HostRuntime) -> Result<(), Fail> {
-    let mut bench = Bench::new(rt.alloc());
-    let a = bench.assume(A)?;
-    assert_eq!(rt; bench.conj_e1(a), Err(Fault(Rule::ConjE1, 1)));
-    assert_eq!(rt; bench.conj_e2(a), Err(Fault(Rule::ConjE2, 1)));
-    Ok(())
+    const ROWS: &[Row] = &[
+        Assume(A),
+        Faults(ConjE1(0), Rule::ConjE1, 1),
+        Faults(ConjE2(0), Rule::ConjE2, 1),
+    ];
+    Ok(follow(&rt, rt.alloc(), ROWS)?)
 }

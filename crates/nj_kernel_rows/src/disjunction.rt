@@ -1,5 +1,6 @@
-use crate::bench::Bench;
-use crate::refusal::Refusal::Fault;
+use crate::bench::follow;
+use crate::row::Call::{DisjE, DisjI1, DisjI2};
+use crate::row::Row::{self, Assume, Faults, Makes};
 use crate::sketch::Sketch::{self, Or};
 use crate::sketch::{A, B};
 use nj_kernel::Rule;
@@ -11,48 +12,52 @@ const B_OR_A: Sketch = Or(&B, &A);
 
 #[test]
 fn either_part_gives_a_disjunction(rt: HostRuntime) -> Result<(), Fail> {
-    let mut bench = Bench::new(rt.alloc());
-    let a = bench.assume(A)?;
-    let as_left = bench.disj_i1(a, B)?;
-    let as_right = bench.disj_i2(a, B)?;
-    assert!(rt; bench.says(as_left, &[A], A_OR_B)?);
-    assert!(rt; bench.says(as_right, &[A], B_OR_A)?);
-    Ok(())
+    const ROWS: &[Row] = &[
+        Assume(A),
+        Makes(DisjI1(0, B), &[A], A_OR_B),
+        Makes(DisjI2(0, B), &[A], B_OR_A),
+    ];
+    Ok(follow(&rt, rt.alloc(), ROWS)?)
 }
 
 #[test]
 fn each_case_discharges_its_part(rt: HostRuntime) -> Result<(), Fail> {
-    let mut bench = Bench::new(rt.alloc());
-    let either = bench.assume(A_OR_B)?;
-    let a = bench.assume(A)?;
-    let b = bench.assume(B)?;
-    let from_a = bench.disj_i2(a, B)?;
-    let from_b = bench.disj_i1(b, A)?;
-    let turned = bench.disj_e(either, from_a, from_b)?;
-    assert!(rt; bench.says(turned, &[A_OR_B], B_OR_A)?);
-    Ok(())
+    const ROWS: &[Row] = &[
+        Assume(A_OR_B),
+        Assume(A),
+        Assume(B),
+        Makes(DisjI2(1, B), &[A], B_OR_A),
+        Makes(DisjI1(2, A), &[B], B_OR_A),
+        Makes(DisjE(0, 3, 4), &[A_OR_B], B_OR_A),
+    ];
+    Ok(follow(&rt, rt.alloc(), ROWS)?)
 }
 
 #[test]
 fn no_case_discharges_the_part_of_the_other(rt: HostRuntime) -> Result<(), Fail> {
-    let mut bench = Bench::new(rt.alloc());
-    let either = bench.assume(A_OR_B)?;
-    let a = bench.assume(A)?;
-    let b = bench.assume(B)?;
-    let left = bench.disj_e(either, a, a)?;
-    let right = bench.disj_e(either, b, b)?;
-    assert!(rt; bench.says(left, &[A_OR_B, A], A)?);
-    assert!(rt; bench.says(right, &[A_OR_B, B], B)?);
-    Ok(())
+    const ROWS: &[Row] = &[
+        Assume(A_OR_B),
+        Assume(A),
+        Assume(B),
+        Makes(DisjE(0, 1, 1), &[A_OR_B, A], A),
+        Makes(DisjE(0, 2, 2), &[A_OR_B, B], B),
+    ];
+    Ok(follow(&rt, rt.alloc(), ROWS)?)
 }
 
 #[test]
 fn both_cases_show_one_formula(rt: HostRuntime) -> Result<(), Fail> {
-    let mut bench = Bench::new(rt.alloc());
-    let either = bench.assume(A_OR_B)?;
-    let a = bench.assume(A)?;
-    let b = bench.assume(B)?;
-    assert_eq!(rt; bench.disj_e(either, a, b), Err(Fault(Rule::DisjE, 3)));
-    assert_eq!(rt; bench.disj_e(a, b, b), Err(Fault(Rule::DisjE, 1)));
-    Ok(())
+    const ROWS: &[Row] = &[
+        Assume(A_OR_B),
+        Assume(A),
+        Assume(B),
+        Faults(DisjE(0, 1, 2), Rule::DisjE, 3),
+    ];
+    Ok(follow(&rt, rt.alloc(), ROWS)?)
+}
+
+#[test]
+fn an_atom_has_no_cases(rt: HostRuntime) -> Result<(), Fail> {
+    const ROWS: &[Row] = &[Assume(A), Assume(B), Faults(DisjE(0, 0, 1), Rule::DisjE, 1)];
+    Ok(follow(&rt, rt.alloc(), ROWS)?)
 }

@@ -1,5 +1,6 @@
-use crate::bench::Bench;
-use crate::refusal::Refusal::Fault;
+use crate::bench::follow;
+use crate::row::Call::{ConjE1, ConjI, ExE, ExI};
+use crate::row::Row::{self, Assume, Faults, Makes};
 use crate::sketch::A;
 use crate::sketch::Place::{Bound, Free};
 use crate::sketch::Sketch::{self, All, And, Atom, Exists};
@@ -14,6 +15,8 @@ const SOME_P: Sketch = Exists("y", &Atom("P", &[Bound(0)]));
 
 const ALL_P: Sketch = All("y", &Atom("P", &[Bound(0)]));
 
+const A_AND_Q_OF_X: Sketch = And(&A, &Q_OF_X);
+
 const SOME_P_AND_A: Sketch = And(&SOME_P, &A);
 
 /// EX y. R(x, y)
@@ -21,66 +24,68 @@ const X_TO_SOME: Sketch = Exists("y", &Atom("R", &[Free("x"), Bound(0)]));
 
 #[test]
 fn a_witness_shows_an_existential_formula(rt: HostRuntime) -> Result<(), Fail> {
-    let mut bench = Bench::new(rt.alloc());
-    let at_x = bench.assume(P_OF_X)?;
-    let some = bench.ex_i("x", at_x, SOME_P)?;
-    assert!(rt; bench.says(some, &[P_OF_X], SOME_P)?);
-    assert_eq!(rt; bench.ex_i("c", at_x, SOME_P), Err(Fault(Rule::ExI, 1)));
-    assert_eq!(rt; bench.ex_i("x", at_x, ALL_P), Err(Fault(Rule::ExI, 1)));
-    Ok(())
+    const ROWS: &[Row] = &[
+        Assume(P_OF_X),
+        Makes(ExI("x", 0, SOME_P), &[P_OF_X], SOME_P),
+        Faults(ExI("c", 0, SOME_P), Rule::ExI, 1),
+        Faults(ExI("x", 0, ALL_P), Rule::ExI, 1),
+    ];
+    Ok(follow(&rt, rt.alloc(), ROWS)?)
 }
 
 #[test]
 fn the_formula_of_a_fresh_witness_is_discharged(rt: HostRuntime) -> Result<(), Fail> {
-    let mut bench = Bench::new(rt.alloc());
-    let some = bench.assume(SOME_P)?;
-    let at_x = bench.assume(P_OF_X)?;
-    let a = bench.assume(A)?;
-    let from_x = bench.ex_i("x", at_x, SOME_P)?;
-    let with_a = bench.conj_i(from_x, a)?;
-    let freed = bench.ex_e("x", some, with_a)?;
-    assert!(rt; bench.says(freed, &[SOME_P, A], SOME_P_AND_A)?);
-    Ok(())
+    const ROWS: &[Row] = &[
+        Assume(SOME_P),
+        Assume(P_OF_X),
+        Assume(A),
+        Makes(ExI("x", 1, SOME_P), &[P_OF_X], SOME_P),
+        Makes(ConjI(3, 2), &[P_OF_X, A], SOME_P_AND_A),
+        Makes(ExE("x", 0, 4), &[SOME_P, A], SOME_P_AND_A),
+    ];
+    Ok(follow(&rt, rt.alloc(), ROWS)?)
 }
 
 #[test]
 fn a_witness_is_not_free_in_what_it_is_a_witness_of(rt: HostRuntime) -> Result<(), Fail> {
-    let mut bench = Bench::new(rt.alloc());
-    let some = bench.assume(X_TO_SOME)?;
-    let a = bench.assume(A)?;
-    let freed = bench.ex_e("z", some, a)?;
-    assert!(rt; bench.says(freed, &[X_TO_SOME, A], A)?);
-    assert_eq!(rt; bench.ex_e("x", some, a), Err(Fault(Rule::ExE, 2)));
-    Ok(())
+    const ROWS: &[Row] = &[
+        Assume(X_TO_SOME),
+        Assume(A),
+        Makes(ExE("z", 0, 1), &[X_TO_SOME, A], A),
+        Faults(ExE("x", 0, 1), Rule::ExE, 2),
+    ];
+    Ok(follow(&rt, rt.alloc(), ROWS)?)
 }
 
 #[test]
 fn a_witness_is_not_free_in_the_conclusion(rt: HostRuntime) -> Result<(), Fail> {
-    let mut bench = Bench::new(rt.alloc());
-    let some = bench.assume(SOME_P)?;
-    let at_x = bench.assume(P_OF_X)?;
-    assert_eq!(rt; bench.ex_e("x", some, at_x), Err(Fault(Rule::ExE, 2)));
-    Ok(())
+    const ROWS: &[Row] = &[
+        Assume(SOME_P),
+        Assume(P_OF_X),
+        Faults(ExE("x", 0, 1), Rule::ExE, 2),
+    ];
+    Ok(follow(&rt, rt.alloc(), ROWS)?)
 }
 
 #[test]
 fn a_witness_is_not_free_in_an_assumption_that_remains(rt: HostRuntime) -> Result<(), Fail> {
-    let mut bench = Bench::new(rt.alloc());
-    let some = bench.assume(SOME_P)?;
-    let a = bench.assume(A)?;
-    let q = bench.assume(Q_OF_X)?;
-    let both = bench.conj_i(a, q)?;
-    let a_by_q = bench.conj_e1(both)?;
-    assert!(rt; bench.says(a_by_q, &[A, Q_OF_X], A)?);
-    assert_eq!(rt; bench.ex_e("x", some, a_by_q), Err(Fault(Rule::ExE, 2)));
-    Ok(())
+    const ROWS: &[Row] = &[
+        Assume(SOME_P),
+        Assume(A),
+        Assume(Q_OF_X),
+        Makes(ConjI(1, 2), &[A, Q_OF_X], A_AND_Q_OF_X),
+        Makes(ConjE1(3), &[A, Q_OF_X], A),
+        Faults(ExE("x", 0, 4), Rule::ExE, 2),
+    ];
+    Ok(follow(&rt, rt.alloc(), ROWS)?)
 }
 
 #[test]
 fn only_an_existential_formula_has_a_witness(rt: HostRuntime) -> Result<(), Fail> {
-    let mut bench = Bench::new(rt.alloc());
-    let all = bench.assume(ALL_P)?;
-    let a = bench.assume(A)?;
-    assert_eq!(rt; bench.ex_e("x", all, a), Err(Fault(Rule::ExE, 1)));
-    Ok(())
+    const ROWS: &[Row] = &[
+        Assume(ALL_P),
+        Assume(A),
+        Faults(ExE("x", 0, 1), Rule::ExE, 1),
+    ];
+    Ok(follow(&rt, rt.alloc(), ROWS)?)
 }

@@ -1,5 +1,5 @@
 //! Examples of the kernel's rules: what each makes of premises that fit it, and the premise that it
-//! blames where one does not. A `Bench` keeps the theorems, and the tests name them by number.
+//! blames where one does not. Each test is a table of rows, which `bench.rt` runs in order.
 //!
 //! It holds tests alone, in a crate of their own so that the kernel is checked without them.
 #![tactic(auto)]
@@ -18,6 +18,8 @@ mod implication;
 mod negation;
 #[cfg(test)]
 mod refusal;
+#[cfg(test)]
+mod row;
 #[cfg(test)]
 mod sketch;
 #[cfg(test)]

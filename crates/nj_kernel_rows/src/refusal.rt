@@ -1,12 +1,12 @@
 use nj_kernel::{Rule, RuleError};
 use std::alloc::AllocError;
 
-/// Why no theorem came onto the bench.
+/// Why a call made no theorem.
 #[derive(Clone, Copy, Debug, PartialEq, Eq)]
 pub enum Refusal {
     /// The premise with this number, from 1, does not fit the rule.
     Fault(Rule, usize),
-    /// A test named a theorem that is not there.
+    /// A row names a theorem that no earlier row made.
     NoTheorem,
     NoMemory,
 }
