@@ -34,7 +34,7 @@ impl Bench {
     fn holds(&mut self, row: Row) -> Result<bool, Refusal> {
         match row {
             Row::Assume(a) => {
-                self.keep(self.assume(a)?)?;
+                self.keep(self.run(Call::Assume(a))?)?;
                 self.last_says(&[a], a)
             }
             Row::Makes(call, assumed, shown) => {
@@ -62,27 +62,30 @@ impl Bench {
     }
 
     fn run(&self, call: Call) -> Result<Thm, Refusal> {
+        let formula = call.sketch().formula(self.alloc)?;
+        self.run_with(call, &formula)
+    }
+
+    /// Runs the rule, with what the call's sketch says as the formula.
+    fn run_with(&self, call: Call, formula: &Formula) -> Result<Thm, Refusal> {
         match call {
+            Call::Assume(_) => Ok(assume(self.alloc, formula)?),
             Call::ConjI(t, u) => self.conj_i(t, u),
             Call::ConjE1(t) => self.conj_e1(t),
             Call::ConjE2(t) => self.conj_e2(t),
-            Call::DisjI1(t, other) => self.disj_i1(t, other),
-            Call::DisjI2(t, other) => self.disj_i2(t, other),
+            Call::DisjI1(t, _) => self.disj_i1(t, formula),
+            Call::DisjI2(t, _) => self.disj_i2(t, formula),
             Call::DisjE(t, u, v) => self.disj_e(t, u, v),
-            Call::ImpI(a, t) => self.imp_i(a, t),
+            Call::ImpI(_, t) => self.imp_i(formula, t),
             Call::ImpE(t, u) => self.imp_e(t, u),
-            Call::NotI(a, t) => self.not_i(a, t),
+            Call::NotI(_, t) => self.not_i(formula, t),
             Call::NotE(t, u) => self.not_e(t, u),
-            Call::FalseE(t, c) => self.false_e(t, c),
-            Call::AllI(x, t, target) => self.all_i(x, t, target),
+            Call::FalseE(t, _) => self.false_e(t, formula),
+            Call::AllI(x, t, _) => self.all_i(x, t, formula),
             Call::AllE(t, s) => self.all_e(t, s),
-            Call::ExI(s, t, target) => self.ex_i(s, t, target),
+            Call::ExI(s, t, _) => self.ex_i(s, t, formula),
             Call::ExE(x, t, u) => self.ex_e(x, t, u),
         }
-    }
-
-    fn assume(&self, a: Sketch) -> Result<Thm, Refusal> {
-        Ok(assume(self.alloc, &a.formula(self.alloc)?)?)
     }
 
     fn conj_i(&self, t: usize, u: usize) -> Result<Thm, Refusal> {
@@ -97,14 +100,12 @@ impl Bench {
         Ok(conj_e2(self.alloc, self.theorem(t)?)?)
     }
 
-    fn disj_i1(&self, t: usize, other: Sketch) -> Result<Thm, Refusal> {
-        let t = self.theorem(t)?;
-        Ok(disj_i1(self.alloc, t, &other.formula(self.alloc)?)?)
+    fn disj_i1(&self, t: usize, other: &Formula) -> Result<Thm, Refusal> {
+        Ok(disj_i1(self.alloc, self.theorem(t)?, other)?)
     }
 
-    fn disj_i2(&self, t: usize, other: Sketch) -> Result<Thm, Refusal> {
-        let t = self.theorem(t)?;
-        Ok(disj_i2(self.alloc, t, &other.formula(self.alloc)?)?)
+    fn disj_i2(&self, t: usize, other: &Formula) -> Result<Thm, Refusal> {
+        Ok(disj_i2(self.alloc, self.theorem(t)?, other)?)
     }
 
     fn disj_e(&self, t: usize, u: usize, v: usize) -> Result<Thm, Refusal> {
@@ -112,32 +113,28 @@ impl Bench {
         Ok(disj_e(self.alloc, t, self.theorem(u)?, self.theorem(v)?)?)
     }
 
-    fn imp_i(&self, a: Sketch, t: usize) -> Result<Thm, Refusal> {
-        let t = self.theorem(t)?;
-        Ok(imp_i(self.alloc, &a.formula(self.alloc)?, t)?)
+    fn imp_i(&self, a: &Formula, t: usize) -> Result<Thm, Refusal> {
+        Ok(imp_i(self.alloc, a, self.theorem(t)?)?)
     }
 
     fn imp_e(&self, t: usize, u: usize) -> Result<Thm, Refusal> {
         Ok(imp_e(self.alloc, self.theorem(t)?, self.theorem(u)?)?)
     }
 
-    fn not_i(&self, a: Sketch, t: usize) -> Result<Thm, Refusal> {
-        let t = self.theorem(t)?;
-        Ok(not_i(self.alloc, &a.formula(self.alloc)?, t)?)
+    fn not_i(&self, a: &Formula, t: usize) -> Result<Thm, Refusal> {
+        Ok(not_i(self.alloc, a, self.theorem(t)?)?)
     }
 
     fn not_e(&self, t: usize, u: usize) -> Result<Thm, Refusal> {
         Ok(not_e(self.alloc, self.theorem(t)?, self.theorem(u)?)?)
     }
 
-    fn false_e(&self, t: usize, c: Sketch) -> Result<Thm, Refusal> {
-        let t = self.theorem(t)?;
-        Ok(false_e(self.alloc, t, &c.formula(self.alloc)?)?)
+    fn false_e(&self, t: usize, c: &Formula) -> Result<Thm, Refusal> {
+        Ok(false_e(self.alloc, self.theorem(t)?, c)?)
     }
 
-    fn all_i(&self, x: &str, t: usize, target: Sketch) -> Result<Thm, Refusal> {
-        let t = self.theorem(t)?;
-        Ok(all_i(self.alloc, x, t, &target.formula(self.alloc)?)?)
+    fn all_i(&self, x: &str, t: usize, target: &Formula) -> Result<Thm, Refusal> {
+        Ok(all_i(self.alloc, x, self.theorem(t)?, target)?)
     }
 
     fn all_e(&self, t: usize, s: &str) -> Result<Thm, Refusal> {
@@ -145,10 +142,9 @@ impl Bench {
         Ok(all_e(self.alloc, t, &ObjTerm::name(self.alloc, s)?)?)
     }
 
-    fn ex_i(&self, s: &str, t: usize, target: Sketch) -> Result<Thm, Refusal> {
+    fn ex_i(&self, s: &str, t: usize, target: &Formula) -> Result<Thm, Refusal> {
         let t = self.theorem(t)?;
-        let s = ObjTerm::name(self.alloc, s)?;
-        Ok(ex_i(self.alloc, &s, t, &target.formula(self.alloc)?)?)
+        Ok(ex_i(self.alloc, &ObjTerm::name(self.alloc, s)?, t, target)?)
     }
 
     fn ex_e(&self, x: &str, t: usize, u: usize) -> Result<Thm, Refusal> {

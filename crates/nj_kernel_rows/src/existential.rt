@@ -11,8 +11,10 @@ const P_OF_X: Sketch = Atom("P", &[Free("x")]);
 
 const Q_OF_X: Sketch = Atom("Q", &[Free("x")]);
 
+/// EX y. P(y)
 const SOME_P: Sketch = Exists("y", &Atom("P", &[Bound(0)]));
 
+/// ALL y. P(y)
 const ALL_P: Sketch = All("y", &Atom("P", &[Bound(0)]));
 
 const A_AND_Q_OF_X: Sketch = And(&A, &Q_OF_X);

@@ -4,6 +4,7 @@ use nj_kernel::Rule;
 /// A call of a rule. A number names a theorem, by how many were made before it.
 #[derive(Clone, Copy)]
 pub enum Call {
+    Assume(Sketch),
     ConjI(usize, usize),
     ConjE1(usize),
     ConjE2(usize),
@@ -19,6 +20,23 @@ pub enum Call {
     AllE(usize, &'static str),
     ExI(&'static str, usize, Sketch),
     ExE(&'static str, usize, usize),
+}
+
+impl Call {
+    /// The formula that the call names, and False where it names none.
+    pub fn sketch(self) -> Sketch {
+        match self {
+            Call::Assume(a)
+            | Call::DisjI1(_, a)
+            | Call::DisjI2(_, a)
+            | Call::ImpI(a, _)
+            | Call::NotI(a, _)
+            | Call::FalseE(_, a)
+            | Call::AllI(_, _, a)
+            | Call::ExI(_, _, a) => a,
+            _ => Sketch::False,
+        }
+    }
 }
 
 /// A row of a test: a call, and what it has to answer.

@@ -11,8 +11,10 @@ const P_OF_X: Sketch = Atom("P", &[Free("x")]);
 
 const P_OF_C: Sketch = Atom("P", &[Free("c")]);
 
+/// ALL y. P(y)
 const ALL_P: Sketch = All("y", &Atom("P", &[Bound(0)]));
 
+/// EX y. P(y)
 const SOME_P: Sketch = Exists("y", &Atom("P", &[Bound(0)]));
 
 const R_OF_X_X: Sketch = Atom("R", &[Free("x"), Free("x")]);
