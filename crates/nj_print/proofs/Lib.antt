@@ -1,0 +1,5 @@
+pub mod ArgumentLemmas
+pub mod LengthLemmas
+pub mod FoldLemmas
+pub mod EnclosedLemmas
+pub mod PieceLemmas

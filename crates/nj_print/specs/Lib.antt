@@ -1,0 +1,6 @@
+pub mod ArgumentText
+pub mod Primed
+pub mod Prints
+pub mod Adds
+pub mod Spellable
+pub mod Opens

@@ -1,0 +1,11 @@
+//! Formulas and terms as text, with the fewest parentheses. The priorities are those of Isabelle's
+//! mixfix annotations; the printed form is this project's own.
+//!
+//! It must not know how text is read; that a print can be read is a law about the grammar.
+#![tactic(auto)]
+
+mod arguments;
+mod names;
+mod printer;
+
+pub use printer::print;
