@@ -3,3 +3,4 @@ pub mod LengthLemmas
 pub mod FoldLemmas
 pub mod EnclosedLemmas
 pub mod PieceLemmas
+pub mod PrimesLemmas
