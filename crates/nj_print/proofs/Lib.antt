@@ -4,3 +4,7 @@ pub mod FoldLemmas
 pub mod EnclosedLemmas
 pub mod PieceLemmas
 pub mod PrimesLemmas
+pub mod SpellsLemmas
+pub mod FormLemmas
+pub mod FreshLemmas
+pub mod OpensLemmas

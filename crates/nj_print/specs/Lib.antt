@@ -4,3 +4,4 @@ pub mod Prints
 pub mod Adds
 pub mod Spellable
 pub mod Opens
+pub mod ReadBack

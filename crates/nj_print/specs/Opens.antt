@@ -1,11 +1,9 @@
--- The number of pairs of parentheses, as that of opening ones.
-use Rattle.std.specs.Prelude.{ℕ, Bool, true, false, List, count_by}
+-- How many pairs of parentheses there are, counted by the opening ones.
+use Rattle.std.specs.Prelude.{ℕ, ◌+◌, List, [], ◌∷◌}
 use Rattle.nj_tokens.specs.declared.token.Token.{Token}
 use Rattle.nj_tokens.specs.declared.token.Token.TheVariants as Tokens
 
-abbrev pub is_open : Token → Bool
-is_open Tokens.Open = true
-is_open _ = false
-
 abbrev pub opens : List Token → ℕ
-opens = count_by is_open
+opens [] = 0
+opens (Tokens.Open ∷ tokens) = opens tokens + 1
+opens (_ ∷ tokens) = opens tokens
