@@ -70,8 +70,8 @@ later_place j y outer e fresh above is =
     let k : ℕ = j - (e + 1) in
     let next : j - e ≡ suc k = omega arith in
     let ne : bytes_eq (name_at outer k) y ≡ false =
-        ⊎_elim (λ low. absurd (both_ways (nat_le (e + 1) j) low (le-leb (e + 1) j above))) (λ ne. ne)
-        (and_cases (nat_le (e + 1) j) (bytes_eq (name_at outer (j - (e + 1))) y) fresh) in
+    ⊎_elim (λ low. absurd (both_ways (nat_le (e + 1) j) low (le-leb (e + 1) j above))) (λ ne. ne)
+    (and_cases (nat_le (e + 1) j) (bytes_eq (name_at outer (j - (e + 1))) y) fresh) in
     subst (λ n. place_of (y ∷ outer) (name_at (y ∷ outer) n) ≡ Some n) (sym next)
     (place_of-other y (name_at outer k) outer (Some k) ne is ∙ ap Some (add-one k))
 

@@ -8,3 +8,5 @@ pub mod SpellsLemmas
 pub mod FormLemmas
 pub mod FreshLemmas
 pub mod OpensLemmas
+pub mod TermReadLemmas
+pub mod ReadLemmas

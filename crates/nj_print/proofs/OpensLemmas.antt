@@ -108,7 +108,7 @@ atom_most : (args : List Argument) → wanted_atom args ≤ wanted_terms args + 
 atom_most [] = omega arith
 atom_most (t ∷ more) = omega arith
 
-opens-sign : (op : Operator) (d : ℕ) (deep : List Deep) → opens_of ((sign op, d) ∷ deep) ≡ opens_of deep
+pub opens-sign : (op : Operator) (d : ℕ) (deep : List Deep) → opens_of ((sign op, d) ∷ deep) ≡ opens_of deep
 opens-sign Operator.And d deep = refl
 opens-sign Operator.Or d deep = refl
 opens-sign Operator.Implies d deep = refl
@@ -124,7 +124,15 @@ reading_has {p} {d} {a = a} (Grammar.parentheses {inside = inside} h) =
 reading_has {p} (Grammar.negation {a = a} fits h) =
     omega (arith, ap (wanted p) (meaning-Not a), no_pair 40 p fits, reading_has h)
 reading_has {p} {d} (Grammar.operator {left = left} {right = right} {a = a} {b = b} op fits h k) =
-    omega (arith, ap (wanted p) (meaning-joined op a b), wanted-join op p (meaning a) (meaning b), no_pair (priority op) p fits,
-    opens_of-append left ((sign op, d) ∷ right), opens-sign op d right, reading_has h, reading_has k)
+    omega (
+      arith,
+      ap (wanted p) (meaning-joined op a b),
+      wanted-join op p (meaning a) (meaning b),
+      no_pair (priority op) p fits,
+      opens_of-append left ((sign op, d) ∷ right),
+      opens-sign op d right,
+      reading_has h,
+      reading_has k,
+    )
 reading_has {p} (Grammar.quantifier {x = x} {a = a} q fits h) =
     omega (arith, ap (wanted p) (meaning-quantified q x a), wanted-bind q p (meaning a), no_pair 10 p fits, reading_has h)

@@ -40,7 +40,7 @@ module _ {names : List (List ℕ)} {t0 t1 : List ℕ} where
   pub wrote_predicate : (x : List ℕ) (args : List Argument) {t2 t3 t4 : List ℕ} → (args ≡ [] → ⊥) → t1 ≡ t0 ++ x → t2 ≡ t1 ++ codes "("
       → t3 ≡ t2 ++ listed (map (argument_text names) args) → t4 ≡ t3 ++ codes ")" → Adds t0 t4 (Prints 10 names (Formulas.Atom x args))
   wrote_predicate x [] some e0 e1 e2 e3 = absurd (some refl)
-  wrote_predicate x (t ∷ more) some e0 e1 e2 e3 = 
+  wrote_predicate x (t ∷ more) some e0 e1 e2 e3 =
       let listing : List ℕ = listed (map (argument_text names) (t ∷ more)) in
       record {
         piece = x ++ (codes "(" ++ (listing ++ codes ")"));

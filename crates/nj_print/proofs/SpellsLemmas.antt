@@ -111,9 +111,11 @@ name_then (c ∷ more) d {text} is breaks s =
     record {
       ascii = ascii_cons c (more ++ text) (name_is_ascii c (letter_is_name c parts.0)) (IsAscii-append more text (ascii_name more parts.1) s.ascii);
       cut = λ at rest after stop b h.
-          let inner = s.cut (at + (length more + 1)) rest after stop b (moved (name_length at (length more) (length text) (length-append more text)) h) in
-          (record { token = Tokens.Name (c ∷ more); at = at } ∷ inner.0, ap (λ ts. Tokens.Name (c ∷ more) ∷ ts) inner.1,
-          begun c more text rest at (ink_of c parts.0) (first_name c more (text ++ rest) parts.0 parts.1 (breaks rest b)) inner.2);
+          let inner = s.cut (at + (length more + 1)) rest after stop b (moved (name_length at (length more) (length text) (length-append more text)) h) in (
+            record { token = Tokens.Name (c ∷ more); at = at } ∷ inner.0,
+            ap (λ ts. Tokens.Name (c ∷ more) ∷ ts) inner.1,
+            begun c more text rest at (ink_of c parts.0) (first_name c more (text ++ rest) parts.0 parts.1 (breaks rest b)) inner.2,
+          );
     }
 
 pieces_length : (at n m : ℕ) {k : ℕ} → k ≡ n + m → at + k ≡ (at + n) + m
@@ -139,8 +141,11 @@ both {a} {b} {ds} {es} s breaks t = record {
       (first.0 ++ second.0, at_both first.0 second.0 ds es first.1 second.1, regrouped a b rest first.0 second.0 after first.2);
 }
 
-pub whole : {text : List ℕ} {deep : List Deep} → Spells text deep → (placed : List Placed) × AreAt placed deep × AreTokens 0 text placed (length text) true
-whole {text} s =
-    let cut = s.cut 0 [] [] (length text) refl (subst (λ n. AreTokens (0 + length text) [] [] n true) (zero-add (length text)) ends) in
-    (cut.0, cut.1, subst (λ t. AreTokens 0 t cut.0 (length text) true) (append-nil text)
-        (subst (λ ts. AreTokens 0 (text ++ []) ts (length text) true) (append-nil cut.0) cut.2))
+pub cut_whole : {text : List ℕ} {deep : List Deep} → Spells text deep → (placed : List Placed) × AreAt placed deep × AreTokens 0 text placed (length text) true
+cut_whole {text} s =
+    let cut = s.cut 0 [] [] (length text) refl (subst (λ n. AreTokens (0 + length text) [] [] n true) (zero-add (length text)) ends) in (
+      cut.0,
+      cut.1,
+      subst (λ t. AreTokens 0 t cut.0 (length text) true) (append-nil text)
+          (subst (λ ts. AreTokens 0 (text ++ []) ts (length text) true) (append-nil cut.0) cut.2),
+    )

@@ -5,7 +5,9 @@
 #![tactic(auto)]
 
 mod arguments;
+mod law;
 mod names;
 mod printer;
 
-pub use printer::print;
+pub use law::{fewest_parentheses, reads_back};
+pub use printer::{print, print_term};

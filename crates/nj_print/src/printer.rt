@@ -1,8 +1,9 @@
 ghost use Rattle.std.specs.Prelude.{◌≡◌, [], OnOk, IfOk, string_bytes};
 ghost use Rattle.nj_formula.specs.declared.formula.Formula.TheVariants.{Atom};
+ghost use Rattle.nj_print.specs.ArgumentText.{argument_text};
 ghost use Rattle.nj_print.specs.Prints.{is_enclosed, Prints, PrintsBody};
 
-use crate::arguments::write_arguments;
+use crate::arguments::{write_argument, write_arguments};
 use crate::names::primed;
 use nj_formula::{Argument, Formula, Name};
 use sqlite_items::Items;
@@ -140,4 +141,13 @@ pub fn print(alloc: Global, formula: &Formula) -> Result<String, AllocError>
     };
     printer.formula(formula, QUANTIFIER)?;
     Ok(printer.text)
+}
+
+/// The text of the term.
+pub fn print_term(alloc: Global, term: &Argument) -> Result<String, AllocError>
+    ensures { IfOk result (λ text. string_bytes text ≡ argument_text [] term.now) }
+{
+    let mut text = String::new(alloc);
+    write_argument(&mut text, &VecDeque::new(alloc), term)?;
+    Ok(text)
 }

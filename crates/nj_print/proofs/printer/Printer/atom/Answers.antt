@@ -14,6 +14,6 @@ returns-clause-text c =
     let named : string_bytes c.push_str.new.self ≡ string_bytes c.args.self.now.text ++ c.args.predicate.now = search rules in
     let opened : string_bytes c.push_str-2.new.self ≡ string_bytes c.push_str.new.self ++ codes "(" = search rules in
     let inside : string_bytes c.write_arguments.new.text
-        ≡ string_bytes c.push_str-2.new.self ++ listed (map (argument_text c.args.self.now.names.items) c.args.arguments.now) = search rules in
+    ≡ string_bytes c.push_str-2.new.self ++ listed (map (argument_text c.args.self.now.names.items) c.args.arguments.now) = search rules in
     on_ok c.push_str-3.result (wrote_predicate c.args.predicate.now c.args.arguments.now some named opened inside)
     (pushed c.push_str-3.result (string_bytes c.write_arguments.new.text) (codes ")") c.push_str-3.ensures.bytes)
