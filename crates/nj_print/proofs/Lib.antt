@@ -10,3 +10,4 @@ pub mod FreshLemmas
 pub mod OpensLemmas
 pub mod TermReadLemmas
 pub mod ReadLemmas
+pub mod OnePrintLemmas

@@ -22,3 +22,8 @@ pub fn fewest_parentheses()
         → IsFormula deep b → meaning b ≡ meaning a
         → opens (map (λ t. t.token) tokens) ≤ opens (map (λ t. t.0) deep) }
 {}
+
+/// A law: a formula has one print.
+pub fn one_print()
+    ensures { (a : Formula) (text other : List ℕ) → Prints 10 [] a text → Prints 10 [] a other → text ≡ other }
+{}

@@ -9,5 +9,5 @@ mod law;
 mod names;
 mod printer;
 
-pub use law::{fewest_parentheses, reads_back};
+pub use law::{fewest_parentheses, one_print, reads_back};
 pub use printer::{print, print_term};
