@@ -13,7 +13,8 @@ pub fn write_argument(
     names: &VecDeque<Name>,
     argument: &Argument,
 ) -> Result<(), AllocError>
-    ensures { OnOk result (string_bytes text.new ≡ string_bytes text.old ++ argument_text names.now.items argument.now) }
+    ensures { OnOk result (string_bytes text.new
+        ≡ string_bytes text.old ++ argument_text names.now.items argument.now) }
 {
     match argument {
         Argument::Free(name) => text.push_str(name.as_str()),
@@ -34,7 +35,8 @@ pub fn write_arguments(
     names: &VecDeque<Name>,
     arguments: &[Argument],
 ) -> Result<(), AllocError>
-    ensures { OnOk result (string_bytes text.new ≡ string_bytes text.old ++ listed (map (argument_text names.now.items) arguments.now)) }
+    ensures { OnOk result (string_bytes text.new
+        ≡ string_bytes text.old ++ listed (map (argument_text names.now.items) arguments.now)) }
 {
     let [first, others @ ..] = arguments else {
         return Ok(())

@@ -8,6 +8,9 @@ mod arguments;
 mod law;
 mod names;
 mod printer;
+mod priority;
+#[cfg(test)]
+mod tests;
 
 pub use law::{fewest_parentheses, one_print, reads_back};
 pub use printer::{print, print_term};

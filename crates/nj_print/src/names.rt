@@ -32,7 +32,8 @@ fn argument_shows(argument: &Argument, name: &str, names: &VecDeque<Name>, depth
 
 #[cycle(argument_shows)]
 fn any_shows(arguments: &[Argument], name: &str, names: &VecDeque<Name>, depth: usize) -> bool
-    ensures { result ≡ list_any (λ shows. shows) (map (argument_shows name.now names.now.items depth) arguments.now) }
+    ensures { result
+        ≡ list_any (λ shows. shows) (map (argument_shows name.now names.now.items depth) arguments.now) }
 {
     for argument in arguments {
         if argument_shows(argument, name, names, depth) {
@@ -50,7 +51,8 @@ fn shows(
     names: &VecDeque<Name>,
     depth: usize,
 ) -> Result<bool, AllocError>
-    ensures { IfOk result (λ shown. shown ≡ shows name.now names.now.items depth (meaning formula.now)) }
+    ensures { IfOk result (λ shown.
+        shown ≡ shows name.now names.now.items depth (meaning formula.now)) }
 {
     match formula {
         Formula::False => Ok(false),

@@ -1,25 +1,15 @@
 ghost use Rattle.std.specs.Prelude.{◌≡◌, [], OnOk, IfOk, string_bytes};
 ghost use Rattle.nj_formula.specs.declared.formula.Formula.TheVariants.{Atom};
 ghost use Rattle.nj_print.specs.ArgumentText.{argument_text};
-ghost use Rattle.nj_print.specs.Prints.{is_enclosed, Prints, PrintsBody};
+ghost use Rattle.nj_print.specs.Prints.{Prints, PrintsBody};
 
 use crate::arguments::{write_argument, write_arguments};
 use crate::names::primed;
+use crate::priority::{AND, IMPLIES, NOT, OR, QUANTIFIER, is_enclosed};
 use nj_formula::{Argument, Formula, Name};
 use sqlite_items::Items;
 use std::alloc::{AllocError, Global};
 use std::collections::VecDeque;
-
-/// How strongly `~`, an operator or a quantifier binds.
-const NOT: usize = 40;
-
-const AND: usize = 35;
-
-const OR: usize = 30;
-
-const IMPLIES: usize = 25;
-
-const QUANTIFIER: usize = 10;
 
 /// The text so far, and the printed names of the bound places, innermost first.
 #[derive(Drop)]
@@ -29,23 +19,10 @@ struct Printer {
     names: VecDeque<Name>,
 }
 
-/// Whether the formula binds too weakly for a place for this priority and higher ones.
-fn is_enclosed(formula: &Formula, place: usize) -> bool
-    ensures { result ≡ is_enclosed place formula.now }
-{
-    match formula {
-        Formula::False | Formula::Atom(_, _) => false,
-        Formula::Not(_) => place > NOT,
-        Formula::And(_, _) => place > AND,
-        Formula::Or(_, _) => place > OR,
-        Formula::Implies(_, _) => place > IMPLIES,
-        Formula::All(_, _) | Formula::Exists(_, _) => place > QUANTIFIER,
-    }
-}
-
 impl Printer {
     ghost use Rattle.nj_print.specs.Adds.{Adds};
 
+    /// Adds the predicate, and its arguments in parentheses where it has any.
     fn atom(&mut self, predicate: &Name, arguments: &Items<Argument>) -> Result<(), AllocError>
         ensures text { OnOk result (Adds (string_bytes self.old.text) (string_bytes self.new.text)
             (Prints 10 self.old.names.items (Atom predicate.now arguments.now))) }
@@ -63,7 +40,8 @@ impl Printer {
     /// Adds the formula in a place for this priority and higher ones.
     #[cycle(formula)]
     fn formula(&mut self, formula: &Formula, place: usize) -> Result<(), AllocError>
-        ensures text { OnOk result (Adds (string_bytes self.old.text) (string_bytes self.new.text) (Prints place self.old.names.items formula.now)) }
+        ensures text { OnOk result (Adds (string_bytes self.old.text) (string_bytes self.new.text)
+            (Prints place self.old.names.items formula.now)) }
         ensures names { OnOk result (self.new.names.items ≡ self.old.names.items) }
     {
         if !is_enclosed(formula, place) {
@@ -77,7 +55,8 @@ impl Printer {
     /// Adds the formula with no parentheses around it.
     #[cycle(formula)]
     fn bare(&mut self, formula: &Formula) -> Result<(), AllocError>
-        ensures text { OnOk result (Adds (string_bytes self.old.text) (string_bytes self.new.text) (Prints 10 self.old.names.items formula.now)) }
+        ensures text { OnOk result (Adds (string_bytes self.old.text) (string_bytes self.new.text)
+            (Prints 10 self.old.names.items formula.now)) }
         ensures names { OnOk result (self.new.names.items ≡ self.old.names.items) }
     {
         match formula {
@@ -130,7 +109,8 @@ impl Printer {
     }
 }
 
-/// The text of the formula.
+/// The text of the formula, with the fewest parentheses. A bound name has `'` after it where it would
+/// capture a name; a place that nothing binds has no text. It fails only where there is no memory.
 pub fn print(alloc: Global, formula: &Formula) -> Result<String, AllocError>
     ensures { IfOk result (λ text. Prints 10 [] formula.now (string_bytes text)) }
 {
@@ -143,7 +123,7 @@ pub fn print(alloc: Global, formula: &Formula) -> Result<String, AllocError>
     Ok(printer.text)
 }
 
-/// The text of the term.
+/// The text of the term; a place in it that is bound has no text. It fails only where there is no memory.
 pub fn print_term(alloc: Global, term: &Argument) -> Result<String, AllocError>
     ensures { IfOk result (λ text. string_bytes text ≡ argument_text [] term.now) }
 {
