@@ -11,3 +11,4 @@ pub mod OpensLemmas
 pub mod TermReadLemmas
 pub mod ReadLemmas
 pub mod OnePrintLemmas
+pub mod HasPrintLemmas

@@ -30,7 +30,7 @@ use Rattle.nj_print.specs.Opens.{opens}
 use Rattle.nj_print.proofs.FormLemmas.{join, bind, meaning-joined, meaning-quantified, spellable-Atom, spellable-Not, spellable-joined, spellable-quantified}
 use Rattle.nj_print.proofs.EnclosedLemmas.{least_priority, enclosed-False, enclosed-Atom, enclosed-Not, enclosed-joined, enclosed-quantified}
 use Rattle.nj_print.proofs.FreshLemmas.{Fresh, FreshBy, fresh_left, fresh_right, fresh_body}
-use Rattle.nj_print.proofs.SpellsLemmas.{Spells, nothing, blank_then, sign_then, arrow_then, name_then, both, cut_whole}
+use Rattle.nj_print.proofs.SpellsLemmas.{Spells, nothing, blank_then, sign_then, arrow_then, name_then, both, cut_whole, text_of}
 use Rattle.nj_print.proofs.OpensLemmas.{opens_of, opens_of-append, opens-sign, wanted, wanted_terms, wanted-join, wanted-bind, no_pair, pair, terms_have, reading_has}
 use Rattle.nj_print.proofs.TermReadLemmas.{shown_by_each, enclosed, arguments_read}
 
@@ -239,8 +239,7 @@ outermost_read a text spellable h = read_back h 0 refl spellable tt
 pub reads_back : (a : Formula) (text : List ℕ) → IsSpellable a → Prints 10 [] a text → IsReadBack a text
 reads_back a text spellable h =
     let read = outermost_read a text spellable h in
-    let cut = cut_whole read.spells in
-    record { ascii = read.spells.ascii; tokens = cut.0; cut = cut.2; deep = read.deep; tokens_are = cut.1; formula = read.formula; is = read.reads; same = read.says }
+    (read.formula, text_of IsFormula read.spells read.reads, read.says)
 
 pub fewest_parentheses : (a b : Formula) (text : List ℕ) (tokens : List Placed) (stop : ℕ) (whole : Bool) (deep : List Deep)
     → IsSpellable a → Prints 10 [] a text → AreTokens 0 text tokens stop whole → IsFormula deep b → meaning b ≡ meaning a

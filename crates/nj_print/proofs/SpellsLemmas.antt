@@ -16,6 +16,7 @@ use Rattle.nj_tokens.proofs.LexisLemmas.{name_is_ascii, letter_is_name}
 use Rattle.nj_syntax.specs.Terms.{Deep}
 use Rattle.nj_syntax.specs.Answers.{AreAt}
 use Rattle.nj_print.specs.Spellable.{is_identifier}
+use Rattle.nj_print.specs.ReadBack.{IsTextOf}
 
 -- the text is cut into these tokens, if no name goes on after it
 pub record Spells (text : List ℕ) (deep : List Deep) : Type 0 where
@@ -149,3 +150,7 @@ cut_whole {text} s =
       subst (λ t. AreTokens 0 t cut.0 (length text) true) (append-nil text)
           (subst (λ ts. AreTokens 0 (text ++ []) ts (length text) true) (append-nil cut.0) cut.2),
     )
+
+pub text_of : {A : Type 0} (Is : List Deep → A → Type 0) {text : List ℕ} {deep : List Deep} {a : A} → Spells text deep → Is deep a → IsTextOf Is text a
+text_of Is {deep = deep} s is =
+    let cut = cut_whole s in record { ascii = s.ascii; tokens = cut.0; cut = cut.2; deep = deep; tokens_are = cut.1; is = is }

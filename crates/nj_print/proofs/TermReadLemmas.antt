@@ -12,7 +12,9 @@ use Rattle.nj_print.specs.Primed.{shows_layer, argument_shows}
 use Rattle.nj_print.specs.Spellable.{is_identifier, spellable_layer, is_spellable_argument}
 use Rattle.nj_print.proofs.ArgumentLemmas.{Each, fold-Free, fold-Bound, fold-Apply, by_forms}
 use Rattle.nj_print.proofs.FreshLemmas.{Shown, FreshBy, weakened, place_of-free, shown_place, place_of-bound}
-use Rattle.nj_print.proofs.SpellsLemmas.{Spells, Breaks, nothing, blank_then, sign_then, name_then, both}
+use Rattle.nj_print.proofs.SpellsLemmas.{Spells, Breaks, nothing, blank_then, sign_then, name_then, both, text_of}
+use Rattle.nj_print.specs.ReadBack.{IsTextOf}
+use Rattle.nj_syntax.specs.Answers.{IsTerm}
 
 abbrev pub shown_by_argument : Argument → Shown
 shown_by_argument a y outer d = argument_shows y outer d a
@@ -115,3 +117,6 @@ module _ (names : List (List ℕ)) (identifiers : list_all is_identifier names �
       → list_all (λ is. is) (map (is_spellable_argument (length names)) (a ∷ more)) ≡ true → FreshBy (shown_by_each (a ∷ more)) names 0
       → AreRead names d (a ∷ more) (listed (map (argument_text names) (a ∷ more)))
   arguments_read d a more spellable fresh = list_read d a more (each_read (a ∷ more)) spellable fresh
+
+pub term_reads_back : (t : Argument) → is_spellable_argument 0 t ≡ true → IsTextOf IsTerm (argument_text [] t) t
+term_reads_back t spellable = let read = argument_read [] refl t 0 spellable tt in text_of IsTerm read.spells read.reads

@@ -1,4 +1,4 @@
--- A text is read as a formula again (the grammar of nj_syntax).
+-- A text is read again (by the grammar of nj_syntax).
 use Rattle.std.specs.Prelude.{◌≡◌, ℕ, true, List, length, IsAscii}
 use Rattle.nj_formula.specs.declared.formula.Formula.{Formula}
 use Rattle.nj_formula.specs.Meaning.{meaning}
@@ -7,14 +7,15 @@ use Rattle.nj_tokens.specs.Tokens.{AreTokens}
 use Rattle.nj_syntax.specs.Terms.{Deep}
 use Rattle.nj_syntax.specs.Answers.{AreAt, IsFormula}
 
--- the text has tokens up to its end, and they are a formula that says the same: a up to bound names
-pub record IsReadBack (a : Formula) (text : List ℕ) : Type 0 where
-  -- its bytes are its scalars
+-- the text's bytes are its scalars, and it has tokens up to its end, which are this formula or term
+pub record IsTextOf {A : Type 0} (Is : List Deep → A → Type 0) (text : List ℕ) (a : A) : Type 0 where
   pub ascii : IsAscii text
   pub tokens : List Placed
   pub cut : AreTokens 0 text tokens (length text) true
   pub deep : List Deep
   pub tokens_are : AreAt tokens deep
-  pub formula : Formula
-  pub is : IsFormula deep formula
-  pub same : meaning formula ≡ meaning a
+  pub is : Is deep a
+
+-- the text is a formula that says the same: a up to bound names
+abbrev pub IsReadBack : Formula → List ℕ → Type 0
+IsReadBack a text = (b : Formula) × IsTextOf IsFormula text b × (meaning b ≡ meaning a)
