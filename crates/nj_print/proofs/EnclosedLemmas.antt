@@ -1,5 +1,5 @@
 -- Which formulas stand in parentheses in a place.
-use Rattle.std.proofs.Common.{◌≡◌, ◌≤◌, ◌<◌, ◌+◌, ℕ, nat_lt, Bool, true, false, List, [], ◌∷◌, ◌++◌, refl, ap, sym, subst, ◌∙◌, arith, ltb-false, le-ltb, lit≤}
+use Rattle.std.proofs.Common.{◌≡◌, ◌≤◌, ℕ, nat_lt, Bool, false, List, [], ◌∷◌, sym, ◌∙◌, arith, ltb-false, le-ltb, lit≤}
 use Rattle.std.proofs.lemmas.Bool.{both_ways}
 use Rattle.nj_formula.specs.declared.argument.Argument.{Argument}
 use Rattle.nj_formula.specs.declared.formula.Formula.{Formula}

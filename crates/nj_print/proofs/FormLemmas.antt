@@ -1,15 +1,15 @@
 -- What formulas with an operator or a quantifier say, and when a text can say them.
-use Rattle.std.proofs.Common.{◌≡◌, ℕ, ◌+◌, Bool, true, false, ◌&&◌, ◌||◌, not, List, [], ◌∷◌, map, refl, ap, sym, ◌∙◌}
+use Rattle.std.proofs.Common.{◌≡◌, ℕ, ◌+◌, ◌&&◌, ◌||◌, not, List, map, refl, ap}
 use Rattle.std.specs.List.{list_all}
 use Rattle.nj_formula.specs.declared.argument.Argument.{Argument}
 use Rattle.nj_formula.specs.declared.formula.Formula.{Formula}
 use Rattle.nj_formula.specs.declared.formula.Formula.TheVariants as Formulas
-use Rattle.nj_formula.specs.Statement.{Statement, falsity, atom, neg, conj, disj, implies, every, exists}
+use Rattle.nj_formula.specs.Statement.{Statement, conj, disj, implies, every, exists}
 use Rattle.nj_formula.specs.Meaning.{meaning}
 use Rattle.nj_formula.proofs.MeaningLemmas.{meaning-And, meaning-Or, meaning-Implies, meaning-All, meaning-Exists}
 use Rattle.nj_syntax.specs.declared.operator.Operator.{Operator}
 use Rattle.nj_syntax.specs.declared.operator.Quantifier.{Quantifier}
-use Rattle.nj_syntax.specs.Grammar.{priority, joined, quantified, is_word}
+use Rattle.nj_syntax.specs.Grammar.{joined, quantified, is_word}
 use Rattle.nj_print.specs.Primed.{shows}
 use Rattle.nj_print.specs.Spellable.{is_identifier, is_spellable_argument, formula_layer, is_spellable}
 use Rattle.nj_print.proofs.FoldLemmas.{fold-Atom, fold-Not, fold-And, fold-Or, fold-Implies, fold-All, fold-Exists}

@@ -1,5 +1,5 @@
 -- No printed name hides what a part of the formula shows, so that each name is read as what it was printed for.
-use Rattle.std.proofs.Common.{◌≡◌, ◌≤◌, ◌<◌, ◌+◌, ◌-◌, ℕ, zero, suc, Bool, true, false, ◌&&◌, ◌||◌, nat_le, List, [], ◌∷◌, length, map, cond, bytes_eq, Option, Some, None, option_map, refl, ap, sym, subst, ◌∙◌, arith, ⊎_elim, add-one, le-leb}
+use Rattle.std.proofs.Common.{◌≡◌, ◌≤◌, ◌<◌, ◌+◌, ◌-◌, ℕ, suc, Bool, false, ◌&&◌, nat_le, List, [], ◌∷◌, length, cond, bytes_eq, Option, Some, None, option_map, refl, ap, sym, subst, ◌∙◌, arith, ⊎_elim, add-one, le-leb}
 use Rattle.std.proofs.lemmas.Bool.{both_ways, or_parts, and_cases, cases_eq, false_from_ne_true}
 use Rattle.std.proofs.lemmas.Slice.Eq.{bytes_eq-Decides}
 use Rattle.nj_formula.specs.Statement.{Statement}

@@ -1,5 +1,5 @@
 -- Each formula has a print.
-use Rattle.std.proofs.Common.{◌≡◌, ◌≤◌, ◌<◌, ◌+◌, ℕ, zero, suc, Bool, true, false, IsTrue, List, [], ◌∷◌, ◌++◌, map, length, replicate, codes, refl, ap, sym, subst, ◌∙◌, arith, length-append, below_more, lit≤}
+use Rattle.std.proofs.Common.{◌≡◌, ◌<◌, ◌+◌, ℕ, zero, suc, Bool, true, false, IsTrue, List, [], ◌∷◌, ◌++◌, map, length, replicate, codes, refl, ap, sym, subst, ◌∙◌, arith, length-append, below_more, lit≤}
 use Rattle.std.proofs.lemmas.List.{length-replicate}
 use Rattle.nj_formula.specs.declared.argument.Argument.{Argument}
 use Rattle.nj_formula.specs.declared.formula.Formula.{Formula, roll-Formula, map-Formula, ind-Formula}

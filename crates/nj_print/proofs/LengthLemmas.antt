@@ -1,7 +1,6 @@
 -- A name that is shown is no longer than all that may show it, so that the search for primes ends.
-use Rattle.std.proofs.Common.{◌≡◌, ◌≤◌, ◌<◌, ◌+◌, ◌-◌, ℕ, zero, suc, Bool, true, false, ◌||◌, ◌&&◌, nat_le, List, [], ◌∷◌, ◌++◌, replicate, length, map, get_or, bytes_eq, refl, ap, sym, subst, ◌∙◌, arith, ⊎_elim, length-append}
+use Rattle.std.proofs.Common.{◌≡◌, ◌≤◌, ◌+◌, ◌-◌, ℕ, zero, suc, true, nat_le, List, [], ◌∷◌, length, map, bytes_eq, ap, sym, subst, ◌∙◌, arith, ⊎_elim}
 use Rattle.std.proofs.lemmas.Bool.{or_cases, and_parts}
-use Rattle.std.proofs.lemmas.List.{length-replicate}
 use Rattle.std.proofs.lemmas.Slice.Eq.{bytes_eq-Decides}
 use Rattle.std.specs.List.{list_any}
 use Rattle.nj_formula.specs.declared.argument.Argument.{Argument, fold-Argument}
@@ -9,7 +8,7 @@ use Rattle.nj_formula.specs.declared.argument.Argument.TheOpen.{Argument-F}
 use Rattle.nj_formula.specs.declared.argument.Argument.TheVariants.{Free, Bound, Apply}
 use Rattle.nj_formula.specs.Statement.{Statement, falsity, atom, neg, conj, disj, implies, every, exists}
 use Rattle.nj_print.specs.ArgumentText.{name_at}
-use Rattle.nj_print.specs.Primed.{shows_layer, argument_shows, shows, with_primes}
+use Rattle.nj_print.specs.Primed.{shows_layer, argument_shows, shows}
 use Rattle.nj_print.proofs.ArgumentLemmas.{Each, fold-Free, fold-Bound, fold-Apply, by_forms}
 
 abbrev pub total : List ℕ → ℕ

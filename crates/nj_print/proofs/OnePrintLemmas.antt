@@ -1,5 +1,5 @@
 -- A formula has one print.
-use Rattle.std.proofs.Common.{◌≡◌, ◌≤◌, ◌<◌, ◌+◌, ℕ, nat_lt, Bool, true, false, IsTrue, List, [], ◌∷◌, ◌++◌, map, codes, refl, ap, sym, subst, ◌∙◌, arith, ⊎_elim, ltb-false, ltb-true, le-ltb}
+use Rattle.std.proofs.Common.{◌≡◌, ◌≤◌, ◌<◌, ◌+◌, ℕ, nat_lt, Bool, true, false, List, [], ◌∷◌, ◌++◌, map, codes, refl, ap, sym, subst, ◌∙◌, ⊎_elim, le-ltb}
 use Rattle.std.proofs.lemmas.Bool.{both_ways, cases_order}
 use Rattle.nj_formula.specs.declared.argument.Argument.{Argument}
 use Rattle.nj_formula.specs.declared.formula.Formula.{Formula, out-Formula, out-roll-Formula}
@@ -13,7 +13,7 @@ use Rattle.nj_syntax.specs.declared.operator.Quantifier.{Quantifier}
 use Rattle.nj_syntax.specs.Grammar.{priority, joined, word, quantified}
 use Rattle.nj_print.specs.ArgumentText.{listed, argument_text}
 use Rattle.nj_print.specs.Primed.{shows, with_primes, IsPrimed}
-use Rattle.nj_print.specs.Prints.{operator_text, is_enclosed, Prints, PrintsBody, falsity, atom, predicate, negation, operator, quantifier, parentheses}
+use Rattle.nj_print.specs.Prints.{operator_text, is_enclosed, Prints, falsity, atom, predicate, negation, operator, quantifier, parentheses}
 use Rattle.nj_print.proofs.EnclosedLemmas.{enclosed-False, enclosed-Atom, enclosed-Not, enclosed-joined, enclosed-quantified}
 
 -- one number of primes is the least

@@ -1,9 +1,8 @@
 -- How many pairs of parentheses a place wants, and that no reading has fewer.
-use Rattle.std.proofs.Common.{◌≡◌, ◌≤◌, ◌<◌, ◌+◌, ℕ, nat_lt, Bool, true, false, cond, List, [], ◌∷◌, ◌++◌, map, refl, ap, sym, subst, ◌∙◌, arith, le-ltb, Option, Some, None}
+use Rattle.std.proofs.Common.{◌≡◌, ◌≤◌, ◌+◌, ℕ, nat_lt, Bool, true, false, cond, List, [], ◌∷◌, ◌++◌, map, refl, ap, ◌∙◌, arith, le-ltb, Option, Some, None}
 use Rattle.std.proofs.lemmas.List.{map-append}
 use Rattle.nj_formula.specs.declared.argument.Argument.{Argument, fold-Argument}
 use Rattle.nj_formula.specs.declared.argument.Argument.TheOpen.{Argument-F}
-use Rattle.nj_formula.specs.declared.argument.Argument.TheVariants.{Free, Bound, Apply}
 use Rattle.nj_formula.specs.declared.formula.Formula.{Formula}
 use Rattle.nj_formula.specs.Statement.{Statement, falsity, atom, neg, conj, disj, implies, every, exists}
 use Rattle.nj_formula.specs.Meaning.{meaning}
@@ -12,7 +11,7 @@ use Rattle.nj_tokens.specs.declared.token.Token.{Token}
 use Rattle.nj_tokens.specs.declared.token.Token.TheVariants as Tokens
 use Rattle.nj_syntax.specs.declared.operator.Operator.{Operator}
 use Rattle.nj_syntax.specs.declared.operator.Quantifier.{Quantifier}
-use Rattle.nj_syntax.specs.Terms.{Deep, place_of, named_at, named, AreArguments, name, apply, comma}
+use Rattle.nj_syntax.specs.Terms.{Deep, place_of, named_at, AreArguments, name, apply, comma}
 use Rattle.nj_syntax.specs.Grammar as Grammar
 use Rattle.nj_syntax.specs.Grammar.{priority, sign, Reads}
 use Rattle.nj_print.specs.Opens.{opens}

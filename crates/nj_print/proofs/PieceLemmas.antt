@@ -1,14 +1,12 @@
 -- What each step of the printer adds is a print.
-use Rattle.std.proofs.Common.{◌≡◌, ◌≤◌, ◌<◌, ◌+◌, ℕ, Bool, true, false, List, [], ◌∷◌, ◌++◌, map, length, codes, Result, Ok, Err, OnOk, is_ok, if◌then◌else◌, refl, ap, sym, subst, ◌∙◌, arith, append_assoc, lit≤}
+use Rattle.std.proofs.Common.{◌≡◌, ◌+◌, ℕ, true, false, List, [], ◌∷◌, ◌++◌, map, codes, Result, Ok, Err, OnOk, is_ok, if◌then◌else◌, refl, ap, sym, subst, ◌∙◌, append_assoc, lit≤}
 use Rattle.nj_formula.specs.declared.argument.Argument.{Argument}
-use Rattle.nj_formula.specs.declared.formula.Formula.{Formula, fold-Formula, fold-roll-Formula}
+use Rattle.nj_formula.specs.declared.formula.Formula.{Formula}
 use Rattle.nj_formula.specs.declared.formula.Formula.TheVariants as Formulas
-use Rattle.nj_formula.specs.Meaning.{meaning}
 use Rattle.nj_syntax.specs.declared.operator.Operator.{Operator}
 use Rattle.nj_syntax.specs.declared.operator.Quantifier.{Quantifier}
 use Rattle.nj_syntax.specs.Grammar.{priority, joined, word, quantified}
 use Rattle.nj_print.specs.ArgumentText.{listed, argument_text}
-use Rattle.nj_print.specs.Primed.{IsPrimed}
 use Rattle.nj_print.specs.Prints.{operator_text, is_enclosed, Prints, PrintsBody, falsity, atom, predicate, negation, operator, quantifier, parentheses}
 use Rattle.nj_print.specs.Adds.{Adds}
 use Rattle.nj_print.proofs.EnclosedLemmas.{least_priority, in_place}

@@ -1,5 +1,5 @@
 -- One prime more, after a name that is shown.
-use Rattle.std.proofs.Common.{◌≡◌, ◌≤◌, ◌<◌, ◌+◌, ◌-◌, ℕ, Bool, true, IsTrue, List, [], ◌∷◌, ◌++◌, replicate, length, refl, ap, sym, subst, ◌∙◌, arith, append_assoc, length-append, below_more}
+use Rattle.std.proofs.Common.{◌≡◌, ◌<◌, ◌+◌, ◌-◌, ℕ, true, IsTrue, List, [], ◌∷◌, ◌++◌, replicate, length, ap, subst, ◌∙◌, arith, append_assoc, length-append, below_more}
 use Rattle.std.proofs.lemmas.List.{replicate-append-replicate}
 use Rattle.nj_formula.specs.Statement.{Statement}
 use Rattle.nj_print.specs.Primed.{shows, with_primes}

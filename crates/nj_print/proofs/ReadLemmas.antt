@@ -1,8 +1,8 @@
 -- The print of a formula is read as the formula, up to bound names, and has the pairs of parentheses that it wants.
-use Rattle.std.proofs.Common.{◌≡◌, ◌≤◌, ◌<◌, ◌+◌, ℕ, zero, suc, nat_lt, Bool, true, false, ◌&&◌, not, List, [], ◌∷◌, ◌++◌, map, length, replicate, codes, refl, ap, sym, subst, ◌∙◌, arith, add-one, append-nil, cond, lit≤}
+use Rattle.std.proofs.Common.{◌≡◌, ◌≤◌, ◌+◌, ℕ, zero, suc, nat_lt, Bool, true, false, ◌&&◌, not, List, [], ◌∷◌, ◌++◌, map, length, replicate, codes, refl, ap, sym, subst, ◌∙◌, arith, add-one, append-nil, cond, lit≤}
 use Rattle.std.proofs.lemmas.Bool.{both_ways, and_parts, and_from, not-true}
 use Rattle.std.proofs.lemmas.List.Folds.{list_all-append}
-use Rattle.std.specs.List.{list_all, list_any}
+use Rattle.std.specs.List.{list_all}
 use Rattle.std.specs.Char.{is_ascii_alphabetic}
 use Rattle.nj_formula.specs.declared.argument.Argument.{Argument}
 use Rattle.nj_formula.specs.declared.formula.Formula.{Formula}
@@ -22,7 +22,7 @@ use Rattle.nj_syntax.specs.Terms.{Deep}
 use Rattle.nj_syntax.specs.Grammar.{priority, sign, joined, word, quantified, is_word, Reads}
 use Rattle.nj_syntax.specs.Grammar as Grammar
 use Rattle.nj_print.specs.ArgumentText.{listed, argument_text}
-use Rattle.nj_print.specs.Primed.{with_primes, IsPrimed}
+use Rattle.nj_print.specs.Primed.{with_primes}
 use Rattle.nj_print.specs.Prints.{operator_text, is_enclosed, Prints, falsity, atom, predicate, negation, operator, quantifier, parentheses}
 use Rattle.nj_print.specs.Spellable.{is_identifier, is_spellable_argument, is_spellable, IsSpellable}
 use Rattle.nj_print.specs.ReadBack.{IsReadBack}
@@ -31,7 +31,7 @@ use Rattle.nj_print.proofs.FormLemmas.{join, bind, meaning-joined, meaning-quant
 use Rattle.nj_print.proofs.EnclosedLemmas.{least_priority, enclosed-False, enclosed-Atom, enclosed-Not, enclosed-joined, enclosed-quantified}
 use Rattle.nj_print.proofs.FreshLemmas.{Fresh, FreshBy, fresh_left, fresh_right, fresh_body}
 use Rattle.nj_print.proofs.SpellsLemmas.{Spells, nothing, blank_then, sign_then, arrow_then, name_then, both, cut_whole, text_of}
-use Rattle.nj_print.proofs.OpensLemmas.{opens_of, opens_of-append, opens-sign, wanted, wanted_terms, wanted-join, wanted-bind, no_pair, pair, terms_have, reading_has}
+use Rattle.nj_print.proofs.OpensLemmas.{opens_of, opens_of-append, opens-sign, wanted, wanted-join, wanted-bind, no_pair, pair, terms_have, reading_has}
 use Rattle.nj_print.proofs.TermReadLemmas.{shown_by_each, enclosed, arguments_read}
 
 -- the text is read in the place as a formula that says this

@@ -1,5 +1,5 @@
 -- Which tokens a text is cut into, piece by piece, whatever stands after it.
-use Rattle.std.proofs.Common.{◌≡◌, ◌<◌, ◌+◌, ℕ, zero, suc, Bool, true, false, ◌&&◌, List, [], ◌∷◌, ◌++◌, map, length, take, drop, codes, cond, IsAscii, Option, Some, None, option_map, if◌then◌else◌, ◌==◌, refl, ap, sym, subst, ◌∙◌, arith, add-zero, add-one, zero-add, append-nil, append_assoc, length-append}
+use Rattle.std.proofs.Common.{◌≡◌, ◌<◌, ◌+◌, ℕ, zero, suc, true, false, List, [], ◌∷◌, ◌++◌, map, length, take, drop, cond, IsAscii, Option, Some, None, option_map, if◌then◌else◌, ◌==◌, refl, ap, sym, subst, ◌∙◌, arith, add-zero, add-one, zero-add, append-nil, append_assoc, length-append}
 use Rattle.std.proofs.Math.Seq.{take-append_seam, drop-append_seam}
 use Rattle.std.proofs.lemmas.Bool.{and_parts}
 use Rattle.std.proofs.lemmas.Bool.Decides.{nat_tests}
@@ -11,7 +11,7 @@ use Rattle.nj_tokens.specs.declared.token.Token.{Token}
 use Rattle.nj_tokens.specs.declared.token.Token.TheVariants as Tokens
 use Rattle.nj_tokens.specs.declared.token.Placed.{Placed}
 use Rattle.nj_tokens.specs.Lexis.{is_blank, continues_name, run_length, sign, ends_arrow, first_token}
-use Rattle.nj_tokens.specs.Tokens.{AreTokens, ends, stops, blank, begins}
+use Rattle.nj_tokens.specs.Tokens.{AreTokens, ends, blank, begins}
 use Rattle.nj_tokens.proofs.LexisLemmas.{name_is_ascii, letter_is_name}
 use Rattle.nj_syntax.specs.Terms.{Deep}
 use Rattle.nj_syntax.specs.Answers.{AreAt}

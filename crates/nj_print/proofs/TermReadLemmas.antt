@@ -1,18 +1,17 @@
 -- The text of a term is read as the term.
-use Rattle.std.proofs.Common.{◌≡◌, ◌≤◌, ◌<◌, ◌+◌, ◌-◌, ℕ, zero, suc, nat_lt, Bool, true, false, ◌&&◌, ◌||◌, List, [], ◌∷◌, ◌++◌, map, length, codes, bytes_eq, None, Some, refl, ap, sym, subst, ◌∙◌, arith, append-nil, ltb-true}
+use Rattle.std.proofs.Common.{◌≡◌, ◌<◌, ◌+◌, ◌-◌, ℕ, zero, suc, true, false, List, [], ◌∷◌, ◌++◌, map, length, codes, bytes_eq, Some, refl, ap, sym, subst, ◌∙◌, arith, append-nil, ltb-true}
 use Rattle.std.proofs.lemmas.Bool.{both_ways, and_parts, or_parts}
 use Rattle.std.specs.List.{list_all, list_any}
 use Rattle.nj_formula.specs.declared.argument.Argument.{Argument}
 use Rattle.nj_formula.specs.declared.argument.Argument.TheVariants.{Free, Bound, Apply}
 use Rattle.nj_tokens.specs.declared.token.Token.TheVariants as Tokens
-use Rattle.nj_tokens.specs.Lexis.{continues_name}
 use Rattle.nj_syntax.specs.Terms.{Deep, place_of, named_at, named, AreArguments, name, apply, comma}
-use Rattle.nj_print.specs.ArgumentText.{name_at, after_commas, listed, text_layer, argument_text}
+use Rattle.nj_print.specs.ArgumentText.{name_at, listed, text_layer, argument_text}
 use Rattle.nj_print.specs.Primed.{shows_layer, argument_shows}
 use Rattle.nj_print.specs.Spellable.{is_identifier, spellable_layer, is_spellable_argument}
 use Rattle.nj_print.proofs.ArgumentLemmas.{Each, fold-Free, fold-Bound, fold-Apply, by_forms}
 use Rattle.nj_print.proofs.FreshLemmas.{Shown, FreshBy, weakened, place_of-free, shown_place, place_of-bound}
-use Rattle.nj_print.proofs.SpellsLemmas.{Spells, Breaks, nothing, blank_then, sign_then, name_then, both, text_of}
+use Rattle.nj_print.proofs.SpellsLemmas.{Spells, nothing, blank_then, sign_then, name_then, both, text_of}
 use Rattle.nj_print.specs.ReadBack.{IsTextOf}
 use Rattle.nj_syntax.specs.Answers.{IsTerm}
 

@@ -1,5 +1,5 @@
 -- The text of a term: a comma and a space between arguments, nothing before a parenthesis (this project's own).
-use Rattle.std.specs.Prelude.{ℕ, List, [], ◌∷◌, ◌++◌, map, codes, slice_index_or}
+use Rattle.std.specs.Prelude.{ℕ, List, [], ◌∷◌, ◌++◌, codes, slice_index_or}
 use Rattle.nj_formula.specs.declared.argument.Argument.{Argument, fold-Argument}
 use Rattle.nj_formula.specs.declared.argument.Argument.TheOpen.{Argument-F}
 

@@ -1,5 +1,5 @@
 -- Each arm of the printer adds the print of its form.
-use Rattle.std.proofs.Common.{rules, ◌≡◌, ◌++◌, false, codes, string_bytes}
+use Rattle.std.proofs.Common.{rules, ◌≡◌, false, codes, string_bytes}
 use Rattle.nj_syntax.specs.declared.operator.Operator.{Operator}
 use Rattle.nj_syntax.specs.declared.operator.Quantifier.{Quantifier}
 use Rattle.nj_print.specs.Prints.{is_enclosed}
