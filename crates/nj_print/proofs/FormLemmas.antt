@@ -10,7 +10,7 @@ use Rattle.nj_formula.proofs.MeaningLemmas.{meaning-And, meaning-Or, meaning-Imp
 use Rattle.nj_syntax.specs.declared.operator.Operator.{Operator}
 use Rattle.nj_syntax.specs.declared.operator.Quantifier.{Quantifier}
 use Rattle.nj_syntax.specs.Grammar.{joined, quantified, is_word}
-use Rattle.nj_print.specs.Primed.{shows}
+use Rattle.nj_print.specs.Primed.{is_shown}
 use Rattle.nj_print.specs.Spellable.{is_identifier, is_spellable_argument, formula_layer, is_spellable}
 use Rattle.nj_print.proofs.FoldLemmas.{fold-Atom, fold-Not, fold-And, fold-Or, fold-Implies, fold-All, fold-Exists}
 
@@ -32,14 +32,14 @@ pub meaning-quantified : (q : Quantifier) (x : List ℕ) (a : Formula) → meani
 meaning-quantified Quantifier.All x a = meaning-All x a
 meaning-quantified Quantifier.Exists x a = meaning-Exists x a
 
-pub shows-join : (op : Operator) (y : List ℕ) (names : List (List ℕ)) (d : ℕ) (s t : Statement) → shows y names d (join op s t) ≡ (shows y names d s || shows y names d t)
-shows-join Operator.And y names d s t = refl
-shows-join Operator.Or y names d s t = refl
-shows-join Operator.Implies y names d s t = refl
+pub is_shown-join : (op : Operator) (y : List ℕ) (names : List (List ℕ)) (d : ℕ) (s t : Statement) → is_shown y names d (join op s t) ≡ (is_shown y names d s || is_shown y names d t)
+is_shown-join Operator.And y names d s t = refl
+is_shown-join Operator.Or y names d s t = refl
+is_shown-join Operator.Implies y names d s t = refl
 
-pub shows-bind : (q : Quantifier) (y : List ℕ) (names : List (List ℕ)) (d : ℕ) (s : Statement) → shows y names d (bind q s) ≡ shows y names (d + 1) s
-shows-bind Quantifier.All y names d s = refl
-shows-bind Quantifier.Exists y names d s = refl
+pub is_shown-bind : (q : Quantifier) (y : List ℕ) (names : List (List ℕ)) (d : ℕ) (s : Statement) → is_shown y names d (bind q s) ≡ is_shown y names (d + 1) s
+is_shown-bind Quantifier.All y names d s = refl
+is_shown-bind Quantifier.Exists y names d s = refl
 
 pub spellable-Atom : (x : List ℕ) (args : List Argument) (n : ℕ) → is_spellable (Formulas.Atom x args) n
     ≡ (is_identifier x && not (is_word x) && list_all (λ is. is) (map (is_spellable_argument n) args))

@@ -7,8 +7,8 @@ use Rattle.nj_syntax.specs.declared.operator.Operator.{Operator}
 use Rattle.nj_syntax.specs.declared.operator.Quantifier.{Quantifier}
 use Rattle.nj_syntax.specs.Terms.{place_of}
 use Rattle.nj_print.specs.ArgumentText.{name_at}
-use Rattle.nj_print.specs.Primed.{shows}
-use Rattle.nj_print.proofs.FormLemmas.{join, bind, shows-join, shows-bind}
+use Rattle.nj_print.specs.Primed.{is_shown}
+use Rattle.nj_print.proofs.FormLemmas.{join, bind, is_shown-join, is_shown-bind}
 
 -- what may show a name, under the names outside of it and so many quantifiers more
 abbrev pub Shown : Type 0
@@ -25,24 +25,24 @@ weakened s t less [] e fresh = tt
 weakened s t less (y ∷ outer) e fresh = (less y outer (e + 1) fresh.0, weakened s t less outer (e + 1) fresh.1)
 
 abbrev pub shown_by : Statement → Shown
-shown_by s y outer d = shows y outer d s
+shown_by s y outer d = is_shown y outer d s
 
 abbrev pub Fresh : List (List ℕ) → Statement → Type 0
 Fresh names s = FreshBy (shown_by s) names 0
 
 pub fresh_left : (op : Operator) (names : List (List ℕ)) (s t : Statement) → Fresh names (join op s t) → Fresh names s
 fresh_left op names s t =
-    weakened (shown_by (join op s t)) (shown_by s) (λ y outer d e. (or_parts (shows y outer d s) (shows y outer d t) (sym (shows-join op y outer d s t) ∙ e)).0) names 0
+    weakened (shown_by (join op s t)) (shown_by s) (λ y outer d e. (or_parts (is_shown y outer d s) (is_shown y outer d t) (sym (is_shown-join op y outer d s t) ∙ e)).0) names 0
 
 pub fresh_right : (op : Operator) (names : List (List ℕ)) (s t : Statement) → Fresh names (join op s t) → Fresh names t
 fresh_right op names s t =
-    weakened (shown_by (join op s t)) (shown_by t) (λ y outer d e. (or_parts (shows y outer d s) (shows y outer d t) (sym (shows-join op y outer d s t) ∙ e)).1) names 0
+    weakened (shown_by (join op s t)) (shown_by t) (λ y outer d e. (or_parts (is_shown y outer d s) (is_shown y outer d t) (sym (is_shown-join op y outer d s t) ∙ e)).1) names 0
 
 deeper : (q : Quantifier) (s : Statement) (names : List (List ℕ)) (e : ℕ) → FreshBy (shown_by (bind q s)) names e → FreshBy (shown_by s) names (e + 1)
 deeper q s [] e fresh = tt
-deeper q s (y ∷ outer) e fresh = (sym (shows-bind q y outer (e + 1) s) ∙ fresh.0, deeper q s outer (e + 1) fresh.1)
+deeper q s (y ∷ outer) e fresh = (sym (is_shown-bind q y outer (e + 1) s) ∙ fresh.0, deeper q s outer (e + 1) fresh.1)
 
-pub fresh_body : (q : Quantifier) (names : List (List ℕ)) (y : List ℕ) (s : Statement) → Fresh names (bind q s) → shows y names 1 s ≡ false → Fresh (y ∷ names) s
+pub fresh_body : (q : Quantifier) (names : List (List ℕ)) (y : List ℕ) (s : Statement) → Fresh names (bind q s) → is_shown y names 1 s ≡ false → Fresh (y ∷ names) s
 fresh_body q names y s fresh free = (free, deeper q s names 0 fresh)
 
 bytes_ne : (x y : List ℕ) → bytes_eq x y ≡ false → bytes_eq y x ≡ false

@@ -12,7 +12,7 @@ use Rattle.nj_syntax.specs.declared.operator.Operator.{Operator}
 use Rattle.nj_syntax.specs.declared.operator.Quantifier.{Quantifier}
 use Rattle.nj_syntax.specs.Grammar.{priority, joined, word, quantified}
 use Rattle.nj_print.specs.ArgumentText.{listed, argument_text}
-use Rattle.nj_print.specs.Primed.{shows, with_primes, IsPrimed}
+use Rattle.nj_print.specs.Primed.{is_shown, with_primes, IsPrimed}
 use Rattle.nj_print.specs.Prints.{operator_text, is_enclosed, Prints, falsity, atom, predicate, negation, operator, quantifier, parentheses}
 use Rattle.nj_print.proofs.LengthLemmas.{room, length_shown}
 use Rattle.nj_print.proofs.EnclosedLemmas.{least_priority, in_place}
@@ -23,23 +23,23 @@ module _ (names : List (List ℕ)) (x : List ℕ) (body : Statement) where
   Found = (y : List ℕ) × IsPrimed names x body y
 
   abbrev AllShown : ℕ → Type 0
-  AllShown k = (fewer : ℕ) → fewer < k → IsTrue (shows (with_primes x fewer) names 1 body)
+  AllShown k = (fewer : ℕ) → fewer < k → IsTrue (is_shown (with_primes x fewer) names 1 body)
 
-  pick : (k : ℕ) (b : Bool) → shows (with_primes x k) names 1 body ≡ b → AllShown k → (shows (with_primes x k) names 1 body ≡ true → Found) → Found
+  pick : (k : ℕ) (b : Bool) → is_shown (with_primes x k) names 1 body ≡ b → AllShown k → (is_shown (with_primes x k) names 1 body ≡ true → Found) → Found
   pick k true is below later = later is
   pick k false is below later = (with_primes x k, record { primes = k; is = refl; free_of = is; least = below })
 
-  too_long : (k : ℕ) → room names body < length x + k → shows (with_primes x k) names 1 body ≡ true → ⊥
+  too_long : (k : ℕ) → room names body < length x + k → is_shown (with_primes x k) names 1 body ≡ true → ⊥
   too_long k long shown =
       let primed : length (with_primes x k) ≡ length x + k = length-append x (replicate k 39) ∙ ap (λ n. length x + n) (length-replicate k 39) in
       omega (arith, primed, length_shown (with_primes x k) names 1 body shown)
 
   search_primes : (fuel k : ℕ) → AllShown k → room names body < length x + k + fuel → Found
   search_primes zero k below enough =
-      pick k (shows (with_primes x k) names 1 body) refl below (λ shown. absurd (too_long k (omega arith) shown))
+      pick k (is_shown (with_primes x k) names 1 body) refl below (λ shown. absurd (too_long k (omega arith) shown))
   search_primes (suc fuel) k below enough =
-      pick k (shows (with_primes x k) names 1 body) refl below
-      (λ shown. search_primes fuel (k + 1) (below_more (λ n. IsTrue (shows (with_primes x n) names 1 body)) k below shown) (omega arith))
+      pick k (is_shown (with_primes x k) names 1 body) refl below
+      (λ shown. search_primes fuel (k + 1) (below_more (λ n. IsTrue (is_shown (with_primes x n) names 1 body)) k below shown) (omega arith))
 
   pub has_primed : Found
   has_primed = search_primes (room names body + 1) 0 (λ fewer less. absurd (omega arith)) (omega arith)

@@ -12,7 +12,7 @@ use Rattle.nj_syntax.specs.declared.operator.Operator.{Operator}
 use Rattle.nj_syntax.specs.declared.operator.Quantifier.{Quantifier}
 use Rattle.nj_syntax.specs.Grammar.{priority, joined, word, quantified}
 use Rattle.nj_print.specs.ArgumentText.{listed, argument_text}
-use Rattle.nj_print.specs.Primed.{shows, with_primes, IsPrimed}
+use Rattle.nj_print.specs.Primed.{is_shown, with_primes, IsPrimed}
 use Rattle.nj_print.specs.Prints.{operator_text, is_enclosed, Prints, falsity, atom, predicate, negation, operator, quantifier, parentheses}
 use Rattle.nj_print.proofs.EnclosedLemmas.{enclosed-False, enclosed-Atom, enclosed-Not, enclosed-joined, enclosed-quantified}
 
@@ -24,7 +24,7 @@ one_primed names x body y z h k =
     (cases_order h.primes k.primes)
   where
     clash : {v w : List ℕ} (f : IsPrimed names x body v) (g : IsPrimed names x body w) → f.primes < g.primes → ⊥
-    clash f g less = both_ways (shows (with_primes x f.primes) names 1 body) (subst (λ n. shows n names 1 body ≡ false) f.is f.free_of) (g.least f.primes less)
+    clash f g less = both_ways (is_shown (with_primes x f.primes) names 1 body) (subst (λ n. is_shown n names 1 body ≡ false) f.is f.free_of) (g.least f.primes less)
 
 pub record IsNegation (names : List (List ℕ)) (a : Formula) (text : List ℕ) : Type 0 where
   pub inner : List ℕ

@@ -2,10 +2,10 @@
 use Rattle.std.proofs.Common.{◌≡◌, ◌<◌, ◌+◌, ◌-◌, ℕ, true, IsTrue, List, [], ◌∷◌, ◌++◌, replicate, length, ap, subst, ◌∙◌, arith, append_assoc, length-append, below_more}
 use Rattle.std.proofs.lemmas.List.{replicate-append-replicate}
 use Rattle.nj_formula.specs.Statement.{Statement}
-use Rattle.nj_print.specs.Primed.{shows, with_primes}
+use Rattle.nj_print.specs.Primed.{is_shown, with_primes}
 use Rattle.nj_print.proofs.LengthLemmas.{room, length_shown}
 
-module _ (x : List ℕ) (names : List (List ℕ)) (body : Statement) (old new : List ℕ) (added : new ≡ old ++ 39 ∷ []) (shown : shows old names 1 body ≡ true) where
+module _ (x : List ℕ) (names : List (List ℕ)) (body : Statement) (old new : List ℕ) (added : new ≡ old ++ 39 ∷ []) (shown : is_shown old names 1 body ≡ true) where
   pub fewer_left : room names body + 1 - length new < room names body + 1 - length old
   fewer_left =
       let longer : length new ≡ length old + 1 = ap length added ∙ length-append old (39 ∷ []) in
@@ -15,6 +15,6 @@ module _ (x : List ℕ) (names : List (List ℕ)) (body : Statement) (old new : 
   one_prime_more k is =
       added ∙ (ap (λ t. t ++ 39 ∷ []) is ∙ (append_assoc x (replicate k 39) (39 ∷ []) ∙ ap (λ t. x ++ t) (replicate-append-replicate k 1 39)))
 
-  pub still_least : (k : ℕ) → old ≡ with_primes x k → ((fewer : ℕ) → fewer < k → IsTrue (shows (with_primes x fewer) names 1 body))
-      → (fewer : ℕ) → fewer < k + 1 → IsTrue (shows (with_primes x fewer) names 1 body)
-  still_least k is below = below_more (λ n. IsTrue (shows (with_primes x n) names 1 body)) k below (subst (λ y. IsTrue (shows y names 1 body)) is shown)
+  pub still_least : (k : ℕ) → old ≡ with_primes x k → ((fewer : ℕ) → fewer < k → IsTrue (is_shown (with_primes x fewer) names 1 body))
+      → (fewer : ℕ) → fewer < k + 1 → IsTrue (is_shown (with_primes x fewer) names 1 body)
+  still_least k is below = below_more (λ n. IsTrue (is_shown (with_primes x n) names 1 body)) k below (subst (λ y. IsTrue (is_shown y names 1 body)) is shown)

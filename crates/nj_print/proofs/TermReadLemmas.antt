@@ -7,7 +7,7 @@ use Rattle.nj_formula.specs.declared.argument.Argument.TheVariants.{Free, Bound,
 use Rattle.nj_tokens.specs.declared.token.Token.TheVariants as Tokens
 use Rattle.nj_syntax.specs.Terms.{Deep, place_of, named_at, named, AreArguments, name, apply, comma}
 use Rattle.nj_print.specs.ArgumentText.{name_at, listed, text_layer, argument_text}
-use Rattle.nj_print.specs.Primed.{shows_layer, argument_shows}
+use Rattle.nj_print.specs.Primed.{shown_layer, is_shown_in}
 use Rattle.nj_print.specs.Spellable.{is_identifier, spellable_layer, is_spellable_argument}
 use Rattle.nj_print.proofs.ArgumentLemmas.{Each, fold-Free, fold-Bound, fold-Apply, by_forms}
 use Rattle.nj_print.proofs.FreshLemmas.{Shown, FreshBy, weakened, place_of-free, shown_place, place_of-bound}
@@ -16,10 +16,10 @@ use Rattle.nj_print.specs.ReadBack.{IsTextOf}
 use Rattle.nj_syntax.specs.Answers.{IsTerm}
 
 abbrev pub shown_by_argument : Argument → Shown
-shown_by_argument a y outer d = argument_shows y outer d a
+shown_by_argument a y outer d = is_shown_in y outer d a
 
 abbrev pub shown_by_each : List Argument → Shown
-shown_by_each args y outer d = list_any (λ shows. shows) (map (argument_shows y outer d) args)
+shown_by_each args y outer d = list_any (λ shown. shown) (map (is_shown_in y outer d) args)
 
 -- the text is that of the arguments, at the depth, under the names
 pub record AreRead (names : List (List ℕ)) (d : ℕ) (args : List Argument) (text : List ℕ) : Type 0 where
@@ -53,7 +53,7 @@ module _ (names : List (List ℕ)) (identifiers : list_all is_identifier names �
   free_read : (x : List ℕ) → IsRead (Free x)
   free_read x d spellable fresh =
       let shown : FreshBy (λ y outer e. bytes_eq x y) names 0 =
-      weakened (shown_by_argument (Free x)) (λ y outer e. bytes_eq x y) (λ y outer e no. sym (fold-Free (shows_layer y outer e) x) ∙ no) names 0 fresh in
+      weakened (shown_by_argument (Free x)) (λ y outer e. bytes_eq x y) (λ y outer e no. sym (fold-Free (shown_layer y outer e) x) ∙ no) names 0 fresh in
       name_read d x (Free x) (argument_text names (Free x)) (sym (fold-Free (spellable_layer (length names)) x) ∙ spellable)
       (ap (named_at x) (place_of-free x names 0 shown)) (sym (fold-Free (text_layer names) x))
 
@@ -61,7 +61,7 @@ module _ (names : List (List ℕ)) (identifiers : list_all is_identifier names �
   bound_read n d spellable fresh =
       let below : n < length names = ltb-true n (length names) (sym (fold-Bound (spellable_layer (length names)) n) ∙ spellable) in
       let shown : FreshBy (shown_place n) names 0 =
-      weakened (shown_by_argument (Bound n)) (shown_place n) (λ y outer e no. sym (fold-Bound (shows_layer y outer e) n) ∙ no) names 0 fresh in
+      weakened (shown_by_argument (Bound n)) (shown_place n) (λ y outer e no. sym (fold-Bound (shown_layer y outer e) n) ∙ no) names 0 fresh in
       let none : n - 0 ≡ n = omega arith in
       let placed : place_of names (name_at names n) ≡ Some n =
       subst (λ k. place_of names (name_at names k) ≡ Some k) none (place_of-bound n names 0 shown (omega arith) (omega arith)) in
@@ -81,12 +81,12 @@ module _ (names : List (List ℕ)) (identifiers : list_all is_identifier names �
       → AreRead names d (a ∷ more) (listed (map (argument_text names) (a ∷ more)))
   list_read d a [] each spellable fresh =
       let is = and_parts (is_spellable_argument (length names) a) true spellable in
-      let one = each.0 d is.0 (weakened (shown_by_each (a ∷ [])) (shown_by_argument a) (λ y outer e no. (or_parts (argument_shows y outer e a) false no).0) names 0 fresh) in
+      let one = each.0 d is.0 (weakened (shown_by_each (a ∷ [])) (shown_by_argument a) (λ y outer e no. (or_parts (is_shown_in y outer e a) false no).0) names 0 fresh) in
       record { deep = one.deep; reads = one.reads; spells = subst (λ t. Spells t one.deep) (sym (append-nil (argument_text names a))) one.spells }
   list_read d a (b ∷ more) each spellable fresh =
       let is = and_parts (is_spellable_argument (length names) a) (list_all (λ is. is) (map (is_spellable_argument (length names)) (b ∷ more))) spellable in
-      let fresh_a = weakened (shown_by_each (a ∷ b ∷ more)) (shown_by_argument a) (λ y outer e no. (or_parts (argument_shows y outer e a) (shown_by_each (b ∷ more) y outer e) no).0) names 0 fresh in
-      let fresh_more = weakened (shown_by_each (a ∷ b ∷ more)) (shown_by_each (b ∷ more)) (λ y outer e no. (or_parts (argument_shows y outer e a) (shown_by_each (b ∷ more) y outer e) no).1) names 0 fresh in
+      let fresh_a = weakened (shown_by_each (a ∷ b ∷ more)) (shown_by_argument a) (λ y outer e no. (or_parts (is_shown_in y outer e a) (shown_by_each (b ∷ more) y outer e) no).0) names 0 fresh in
+      let fresh_more = weakened (shown_by_each (a ∷ b ∷ more)) (shown_by_each (b ∷ more)) (λ y outer e no. (or_parts (is_shown_in y outer e a) (shown_by_each (b ∷ more) y outer e) no).1) names 0 fresh in
       both_read d a b more (each.0 d is.0 fresh_a) (list_read d b more each.1 is.1 fresh_more)
 
   apply_read : (f : List ℕ) (args : List Argument) → Each IsRead args → IsRead (Apply f args)
@@ -95,7 +95,7 @@ module _ (names : List (List ℕ)) (identifiers : list_all is_identifier names �
       let is = and_parts (is_identifier f) (list_all (λ is. is) (map (is_spellable_argument (length names)) (a ∷ more)))
       (sym (fold-Apply (spellable_layer (length names)) f (a ∷ more)) ∙ spellable) in
       let shown = weakened (shown_by_argument (Apply f (a ∷ more))) (shown_by_each (a ∷ more))
-      (λ y outer e no. sym (fold-Apply (shows_layer y outer e) f (a ∷ more)) ∙ no) names 0 fresh in
+      (λ y outer e no. sym (fold-Apply (shown_layer y outer e) f (a ∷ more)) ∙ no) names 0 fresh in
       let inside = list_read (d + 1) a more each is.1 shown in
       record {
         deep = (Tokens.Name f, d) ∷ (Tokens.Open, d) ∷ inside.deep ++ (Tokens.Close, d) ∷ [];

@@ -8,25 +8,25 @@ use Rattle.nj_formula.specs.Statement.{Statement, falsity, atom, neg, conj, disj
 use Rattle.nj_print.specs.ArgumentText.{name_at}
 
 -- one layer: a free name, or the printed name of a place that is bound outside of the d innermost quantifiers
-abbrev pub shows_layer : List ℕ → List (List ℕ) → ℕ → Argument-F Bool → Bool
-shows_layer y names d (Argument-F.Free x) = bytes_eq x y
-shows_layer y names d (Argument-F.Bound place) = nat_le d place && bytes_eq (name_at names (place - d)) y
-shows_layer y names d (Argument-F.Apply function arguments) = list_any (λ shows. shows) arguments
+abbrev pub shown_layer : List ℕ → List (List ℕ) → ℕ → Argument-F Bool → Bool
+shown_layer y names d (Argument-F.Free x) = bytes_eq x y
+shown_layer y names d (Argument-F.Bound place) = nat_le d place && bytes_eq (name_at names (place - d)) y
+shown_layer y names d (Argument-F.Apply function arguments) = list_any (λ shown. shown) arguments
 
 -- the name stands in the argument, which is under d quantifiers more than the names
-abbrev pub argument_shows : List ℕ → List (List ℕ) → ℕ → Argument → Bool
-argument_shows y names d = fold-Argument Bool (shows_layer y names d)
+abbrev pub is_shown_in : List ℕ → List (List ℕ) → ℕ → Argument → Bool
+is_shown_in y names d = fold-Argument Bool (shown_layer y names d)
 
 -- the name is free in what is printed under these names and d quantifiers more
-abbrev pub shows : List ℕ → List (List ℕ) → ℕ → Statement → Bool
-shows y names d falsity = false
-shows y names d (atom predicate arguments) = list_any (λ shows. shows) (map (argument_shows y names d) arguments)
-shows y names d (neg a) = shows y names d a
-shows y names d (conj a b) = shows y names d a || shows y names d b
-shows y names d (disj a b) = shows y names d a || shows y names d b
-shows y names d (implies a b) = shows y names d a || shows y names d b
-shows y names d (every body) = shows y names (d + 1) body
-shows y names d (exists body) = shows y names (d + 1) body
+abbrev pub is_shown : List ℕ → List (List ℕ) → ℕ → Statement → Bool
+is_shown y names d falsity = false
+is_shown y names d (atom predicate arguments) = list_any (λ shown. shown) (map (is_shown_in y names d) arguments)
+is_shown y names d (neg a) = is_shown y names d a
+is_shown y names d (conj a b) = is_shown y names d a || is_shown y names d b
+is_shown y names d (disj a b) = is_shown y names d a || is_shown y names d b
+is_shown y names d (implies a b) = is_shown y names d a || is_shown y names d b
+is_shown y names d (every body) = is_shown y names (d + 1) body
+is_shown y names d (exists body) = is_shown y names (d + 1) body
 
 -- the name with this number of `'` after it
 abbrev pub with_primes : List ℕ → ℕ → List ℕ
@@ -36,5 +36,5 @@ with_primes x primes = x ++ replicate primes 39
 pub record IsPrimed (names : List (List ℕ)) (x : List ℕ) (body : Statement) (y : List ℕ) : Type 0 where
   pub primes : ℕ
   pub is : y ≡ with_primes x primes
-  pub free_of : shows y names 1 body ≡ false
-  pub least : (fewer : ℕ) → fewer < primes → IsTrue (shows (with_primes x fewer) names 1 body)
+  pub free_of : is_shown y names 1 body ≡ false
+  pub least : (fewer : ℕ) → fewer < primes → IsTrue (is_shown (with_primes x fewer) names 1 body)

@@ -17,13 +17,14 @@ operator_text Operator.And = codes " & "
 operator_text Operator.Or = codes " | "
 operator_text Operator.Implies = codes " --> "
 
+-- one layer; `~` binds with 40, a quantifier with 10, and an atom always fits
 abbrev pub enclosed_layer : ℕ → Formula-F Bool → Bool
 enclosed_layer p Formula-F.False = false
 enclosed_layer p (Formula-F.Atom predicate arguments) = false
 enclosed_layer p (Formula-F.Not a) = nat_lt 40 p
-enclosed_layer p (Formula-F.And a b) = nat_lt 35 p
-enclosed_layer p (Formula-F.Or a b) = nat_lt 30 p
-enclosed_layer p (Formula-F.Implies a b) = nat_lt 25 p
+enclosed_layer p (Formula-F.And a b) = nat_lt (priority Operator.And) p
+enclosed_layer p (Formula-F.Or a b) = nat_lt (priority Operator.Or) p
+enclosed_layer p (Formula-F.Implies a b) = nat_lt (priority Operator.Implies) p
 enclosed_layer p (Formula-F.All name body) = nat_lt 10 p
 enclosed_layer p (Formula-F.Exists name body) = nat_lt 10 p
 
@@ -31,7 +32,7 @@ enclosed_layer p (Formula-F.Exists name body) = nat_lt 10 p
 abbrev pub is_enclosed : ℕ → Formula → Bool
 is_enclosed p = fold-Formula Bool (enclosed_layer p)
 
--- in a place for this priority and higher ones, under these printed names, innermost first, the formula has this text
+-- the formula has this text in a place for this priority and higher ones, under these printed names, innermost first
 pub data Prints : ℕ → List (List ℕ) → Formula → List ℕ → Type 0 where
   falsity : {p : ℕ} {names : List (List ℕ)} → Prints p names Formulas.False (codes "False")
   atom : {p : ℕ} {names : List (List ℕ)} {x : List ℕ} → Prints p names (Formulas.Atom x []) x

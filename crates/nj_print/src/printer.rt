@@ -109,8 +109,9 @@ impl Printer {
     }
 }
 
-/// The text of the formula, with the fewest parentheses. A bound name has `'` after it where it would
-/// capture a name; a place that nothing binds has no text. It fails only where there is no memory.
+/// The text of the formula, with the fewest parentheses. A bound name has `'` after it where it
+/// would capture a name; a place that nothing binds has no text. An error says that there was no
+/// memory.
 pub fn print(alloc: Global, formula: &Formula) -> Result<String, AllocError>
     ensures { IfOk result (λ text. Prints 10 [] formula.now (string_bytes text)) }
 {
@@ -123,7 +124,8 @@ pub fn print(alloc: Global, formula: &Formula) -> Result<String, AllocError>
     Ok(printer.text)
 }
 
-/// The text of the term; a place in it that is bound has no text. It fails only where there is no memory.
+/// The text of the term; a place in it that is bound has no text. An error says that there was no
+/// memory.
 pub fn print_term(alloc: Global, term: &Argument) -> Result<String, AllocError>
     ensures { IfOk result (λ text. string_bytes text ≡ argument_text [] term.now) }
 {

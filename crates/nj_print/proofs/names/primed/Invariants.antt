@@ -1,7 +1,7 @@
 use Rattle.std.proofs.Common.{◌≡◌, ◌<◌, ◌+◌, ◌-◌, ℕ, IsTrue, length}
 use Rattle.std.specs.Prelude.{string_bytes}
 use Rattle.nj_formula.specs.Meaning.{meaning}
-use Rattle.nj_print.specs.Primed.{shows, with_primes}
+use Rattle.nj_print.specs.Primed.{is_shown, with_primes}
 use Rattle.nj_print.proofs.LengthLemmas.{room}
 use Rattle.nj_print.proofs.names.primed.Given as goal
 
@@ -9,7 +9,7 @@ abbrev pub invariant-primes : goal.invariant-primes
 invariant-primes l = record {
   primes : ℕ;
   is : string_bytes l.text ≡ with_primes l.name primes;
-  least : (fewer : ℕ) → fewer < primes → IsTrue (shows (with_primes l.name fewer) l.names.items 1 (meaning l.body));
+  least : (fewer : ℕ) → fewer < primes → IsTrue (is_shown (with_primes l.name fewer) l.names.items 1 (meaning l.body));
 }
 
 abbrev pub decreases-primes : goal.decreases-primes
