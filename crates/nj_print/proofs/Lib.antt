@@ -9,6 +9,7 @@ pub mod FormLemmas
 pub mod FreshLemmas
 pub mod OpensLemmas
 pub mod TermReadLemmas
+pub mod FormReadLemmas
 pub mod ReadLemmas
 pub mod OnePrintLemmas
 pub mod HasPrintLemmas
