@@ -19,7 +19,7 @@ use Rattle.nj_syntax.specs.Grammar.{priority, sign, joined, word, quantified, is
 use Rattle.nj_syntax.specs.Grammar as Grammar
 use Rattle.nj_print.specs.ArgumentText.{listed, argument_text}
 use Rattle.nj_print.specs.Primed.{with_primes}
-use Rattle.nj_print.specs.Prints.{operator_text, falsity, atom, predicate, negation, operator, quantifier, parentheses}
+use Rattle.nj_print.specs.Prints.{operator_text}
 use Rattle.nj_print.specs.Spellable.{is_identifier, is_spellable_argument}
 use Rattle.nj_print.proofs.FormLemmas.{join, bind, meaning-joined, meaning-quantified}
 use Rattle.nj_print.proofs.FreshLemmas.{FreshBy}
