@@ -1,0 +1,15 @@
+pub mod ArgumentLemmas
+pub mod LengthLemmas
+pub mod FoldLemmas
+pub mod EnclosedLemmas
+pub mod PieceLemmas
+pub mod PrimesLemmas
+pub mod SpellsLemmas
+pub mod FormLemmas
+pub mod FreshLemmas
+pub mod OpensLemmas
+pub mod TermReadLemmas
+pub mod FormReadLemmas
+pub mod ReadLemmas
+pub mod OnePrintLemmas
+pub mod HasPrintLemmas

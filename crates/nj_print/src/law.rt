@@ -1,0 +1,42 @@
+ghost use Rattle.std.specs.Prelude.{◌≡◌, ◌≤◌, ℕ, Bool, List, [], map, IsTrue};
+ghost use Rattle.nj_formula.specs.declared.argument.Argument.{Argument};
+ghost use Rattle.nj_formula.specs.declared.formula.Formula.{Formula};
+ghost use Rattle.nj_formula.specs.Meaning.{meaning};
+ghost use Rattle.nj_tokens.specs.declared.token.Placed.{Placed};
+ghost use Rattle.nj_tokens.specs.Tokens.{AreTokens};
+ghost use Rattle.nj_syntax.specs.Terms.{Deep};
+ghost use Rattle.nj_syntax.specs.Answers.{IsFormula, IsTerm};
+ghost use Rattle.nj_print.specs.ArgumentText.{argument_text};
+ghost use Rattle.nj_print.specs.Prints.{Prints};
+ghost use Rattle.nj_print.specs.Spellable.{is_spellable_argument, IsSpellable};
+ghost use Rattle.nj_print.specs.ReadBack.{IsTextOf, IsReadBack};
+ghost use Rattle.nj_print.specs.Opens.{opens};
+
+/// A law: a formula has a print, and no other one.
+pub fn one_print()
+    ensures some { (a : Formula) → (text : List ℕ) × Prints 10 [] a text }
+    ensures no_other { (a : Formula) (text other : List ℕ)
+        → Prints 10 [] a text → Prints 10 [] a other → text ≡ other }
+{}
+
+/// A law: the print of a formula is read as the formula, up to bound names.
+pub fn reads_back()
+    ensures { (a : Formula) (text : List ℕ)
+        → IsSpellable a → Prints 10 [] a text → IsReadBack a text }
+{}
+
+/// A law: the print of a term is read as the term.
+pub fn term_reads_back()
+    ensures { (t : Argument)
+        → IsTrue (is_spellable_argument 0 t) → IsTextOf IsTerm (argument_text [] t) t }
+{}
+
+/// A law: no tokens that are a formula which says the same have fewer pairs of parentheses than the
+/// print has.
+pub fn fewest_parentheses()
+    ensures { (a b : Formula) (text : List ℕ) (tokens : List Placed) (stop : ℕ) (whole : Bool)
+        (deep : List Deep)
+        → IsSpellable a → Prints 10 [] a text → AreTokens 0 text tokens stop whole
+        → IsFormula deep b → meaning b ≡ meaning a
+        → opens (map (λ t. t.token) tokens) ≤ opens (map (λ t. t.0) deep) }
+{}

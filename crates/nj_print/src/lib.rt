@@ -1,0 +1,16 @@
+//! Formulas and terms as text, with the fewest parentheses. The priorities are those of Isabelle's
+//! mixfix annotations; the printed form is this project's own.
+//!
+//! It must not know how text is read; that a print can be read is a law about the grammar.
+#![tactic(auto)]
+
+mod arguments;
+mod law;
+mod names;
+mod printer;
+mod priority;
+#[cfg(test)]
+mod tests;
+
+pub use law::{fewest_parentheses, one_print, reads_back, term_reads_back};
+pub use printer::{print, print_term};
