@@ -13,3 +13,4 @@ pub mod FormReadLemmas
 pub mod ReadLemmas
 pub mod OnePrintLemmas
 pub mod HasPrintLemmas
+pub mod ParsedLemmas

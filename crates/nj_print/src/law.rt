@@ -1,15 +1,16 @@
-ghost use Rattle.std.specs.Prelude.{◌≡◌, ◌≤◌, ℕ, Bool, List, [], map, IsTrue};
+ghost use Rattle.std.specs.Prelude.{◌≡◌, ◌≤◌, ℕ, Bool, List, [], map, Result, IsTrue};
 ghost use Rattle.nj_formula.specs.declared.argument.Argument.{Argument};
 ghost use Rattle.nj_formula.specs.declared.formula.Formula.{Formula};
 ghost use Rattle.nj_formula.specs.Meaning.{meaning};
 ghost use Rattle.nj_tokens.specs.declared.token.Placed.{Placed};
 ghost use Rattle.nj_tokens.specs.Tokens.{AreTokens};
+ghost use Rattle.nj_syntax.specs.declared.fault.FormulaFault.{FormulaFault};
 ghost use Rattle.nj_syntax.specs.Terms.{Deep};
-ghost use Rattle.nj_syntax.specs.Answers.{IsFormula, IsTerm};
+ghost use Rattle.nj_syntax.specs.Answers.{IsFormula, IsTerm, Answers};
 ghost use Rattle.nj_print.specs.ArgumentText.{argument_text};
 ghost use Rattle.nj_print.specs.Prints.{Prints};
 ghost use Rattle.nj_print.specs.Spellable.{is_spellable_argument, IsSpellable};
-ghost use Rattle.nj_print.specs.ReadBack.{IsTextOf, IsReadBack};
+ghost use Rattle.nj_print.specs.ReadBack.{IsTextOf, IsReadBack, IsParsed};
 ghost use Rattle.nj_print.specs.Opens.{opens};
 
 /// A law: a formula has a print, and no other one.
@@ -23,6 +24,13 @@ pub fn one_print()
 pub fn reads_back()
     ensures { (a : Formula) (text : List ℕ)
         → IsSpellable a → Prints 10 [] a text → IsReadBack a text }
+{}
+
+/// A law: reading the print of a formula answers the formula, up to bound names, unless the print is
+/// too deep or there is no memory.
+pub fn print_is_parsed()
+    ensures { (a : Formula) (text : List ℕ) (answer : Result Formula FormulaFault)
+        → IsSpellable a → Prints 10 [] a text → Answers IsFormula text answer → IsParsed a answer }
 {}
 
 /// A law: the print of a term is read as the term.

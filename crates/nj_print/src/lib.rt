@@ -12,5 +12,5 @@ mod priority;
 #[cfg(test)]
 mod tests;
 
-pub use law::{fewest_parentheses, one_print, reads_back, term_reads_back};
+pub use law::{fewest_parentheses, one_print, print_is_parsed, reads_back, term_reads_back};
 pub use printer::{print, print_term};

@@ -1,153 +1,126 @@
 use crate::{print, print_term};
-use nj_formula::{Argument, Formula, Name};
-use sqlite_items::{Boxed, Items};
+use nj_formula::Formula;
+use nj_syntax::{FormulaFault, parse, parse_term};
 use std::alloc::{AllocError, Global};
 use std::test::Fail;
 
-fn atom(alloc: Global, name: &str) -> Result<Formula, AllocError> {
-    Ok(Formula::Atom(Name::new(alloc, name)?, Items::new(alloc)))
+fn scalars(alloc: Global, text: &str) -> Result<Vec<char>, AllocError> {
+    text.chars().collect::<Vec<char>>(alloc)
 }
 
-fn free(alloc: Global, name: &str) -> Result<Argument, AllocError> {
-    Ok(Argument::Free(Name::new(alloc, name)?))
+/// The print of the formula that the text is.
+fn printed(alloc: Global, text: &str) -> Result<String, FormulaFault> {
+    let formula = parse(alloc, scalars(alloc, text)?.as_slice())?;
+    Ok(print(alloc, &formula)?)
 }
 
-fn two(alloc: Global, a: Argument, b: Argument) -> Result<Items<Argument>, AllocError> {
-    let mut arguments = Items::new(alloc);
-    arguments.push(a)?;
-    arguments.push(b)?;
-    Ok(arguments)
+/// The print of an instance of the quantified formula that the text is.
+fn instance(alloc: Global, text: &str, term: &str) -> Result<String, FormulaFault> {
+    let term = parse_term(alloc, scalars(alloc, term)?.as_slice())?;
+    match parse(alloc, scalars(alloc, text)?.as_slice())? {
+        Formula::All(_, body) => Ok(print(alloc, &body.get().instance(alloc, &term)?)?),
+        _ => Ok(String::new(alloc)),
+    }
 }
 
-/// R(a, b)
-fn relation(alloc: Global, a: Argument, b: Argument) -> Result<Formula, AllocError> {
-    Ok(Formula::Atom(Name::new(alloc, "R")?, two(alloc, a, b)?))
-}
-
-fn not(alloc: Global, a: Formula) -> Result<Formula, AllocError> {
-    Ok(Formula::Not(Boxed::new(alloc, a)?))
-}
-
-fn and(alloc: Global, a: Formula, b: Formula) -> Result<Formula, AllocError> {
-    Ok(Formula::And(Boxed::new(alloc, a)?, Boxed::new(alloc, b)?))
-}
-
-fn or(alloc: Global, a: Formula, b: Formula) -> Result<Formula, AllocError> {
-    Ok(Formula::Or(Boxed::new(alloc, a)?, Boxed::new(alloc, b)?))
-}
-
-fn implies(alloc: Global, a: Formula, b: Formula) -> Result<Formula, AllocError> {
-    Ok(Formula::Implies(Boxed::new(alloc, a)?, Boxed::new(alloc, b)?))
-}
-
-fn all(alloc: Global, name: &str, body: Formula) -> Result<Formula, AllocError> {
-    Ok(Formula::All(Name::new(alloc, name)?, Boxed::new(alloc, body)?))
-}
-
-fn exists(alloc: Global, name: &str, body: Formula) -> Result<Formula, AllocError> {
-    Ok(Formula::Exists(Name::new(alloc, name)?, Boxed::new(alloc, body)?))
-}
-
-/// P of the place that the innermost quantifier binds
-fn p_of_bound(alloc: Global) -> Result<Formula, AllocError> {
-    let mut arguments = Items::new(alloc);
-    arguments.push(Argument::Bound(0))?;
-    Ok(Formula::Atom(Name::new(alloc, "P")?, arguments))
+fn is_text(printed: Result<String, FormulaFault>, wanted: &str) -> bool {
+    match printed {
+        Ok(text) => text.as_str() == wanted,
+        Err(_) => false,
+    }
 }
 
 #[test]
-fn operators_associate_to_the_right(rt: HostRuntime) -> Result<(), Fail> {
+fn a_formula_is_printed_with_the_fewest_parentheses(rt: HostRuntime) -> Result<(), Fail> {
     let alloc = rt.alloc();
-    let conjunction = and(alloc, atom(alloc, "A")?, atom(alloc, "B")?)?;
-    let premise = or(alloc, conjunction, not(alloc, atom(alloc, "C")?)?)?;
-    let conclusion = implies(alloc, atom(alloc, "D")?, Formula::False)?;
-    let text = print(alloc, &implies(alloc, premise, conclusion)?)?;
-    assert_eq!(rt; text.as_str(), "A & B | ~C --> D --> False");
-    Ok(())
-}
-
-#[test]
-fn the_left_operand_keeps_its_parentheses(rt: HostRuntime) -> Result<(), Fail> {
-    let alloc = rt.alloc();
-    let arrow = implies(alloc, atom(alloc, "A")?, atom(alloc, "B")?)?;
-    let text = print(alloc, &implies(alloc, arrow, atom(alloc, "C")?)?)?;
-    assert_eq!(rt; text.as_str(), "(A --> B) --> C");
-    let left = and(alloc, atom(alloc, "A")?, atom(alloc, "B")?)?;
-    let text = print(alloc, &and(alloc, left, atom(alloc, "C")?)?)?;
-    assert_eq!(rt; text.as_str(), "(A & B) & C");
-    Ok(())
-}
-
-#[test]
-fn a_negation_binds_most_strongly(rt: HostRuntime) -> Result<(), Fail> {
-    let alloc = rt.alloc();
-    let both = and(alloc, atom(alloc, "A")?, atom(alloc, "B")?)?;
-    assert_eq!(rt; print(alloc, &not(alloc, both)?)?.as_str(), "~(A & B)");
+    for (text, wanted) in [
+        (
+            "(A & B) | (~C) --> (D --> False)",
+            "A & B | ~C --> D --> False",
+        ),
+        ("((P & Q) | R) --> (S --> T)", "P & Q | R --> S --> T"),
+        ("P & Q | R --> S --> T", "P & Q | R --> S --> T"),
+        ("(A-->B)-->C", "(A --> B) --> C"),
+        ("(A & B) & C", "(A & B) & C"),
+        ("A & (B & C)", "A & B & C"),
+        ("~ (~ P)", "~~P"),
+        ("~(A & B)", "~(A & B)"),
+        ("(P(f ( x , c )))", "P(f(x, c))"),
+    ] {
+        assert!(rt; is_text(printed(alloc, text), wanted), "{text}");
+    }
     Ok(())
 }
 
 #[test]
 fn a_quantifier_is_bare_only_outermost_or_in_a_body(rt: HostRuntime) -> Result<(), Fail> {
     let alloc = rt.alloc();
-    let every = all(alloc, "x", p_of_bound(alloc)?)?;
-    let some = exists(alloc, "y", p_of_bound(alloc)?)?;
-    let text = print(alloc, &implies(alloc, every, some)?)?;
-    assert_eq!(rt; text.as_str(), "(ALL x. P(x)) --> (EX y. P(y))");
-    let value = Argument::Apply(
-        Name::new(alloc, "f")?,
-        two(alloc, Argument::Bound(0), free(alloc, "c")?)?,
-    );
-    let inner = exists(alloc, "y", relation(alloc, Argument::Bound(1), value)?)?;
-    let text = print(alloc, &all(alloc, "x", inner)?)?;
-    assert_eq!(rt; text.as_str(), "ALL x. EX y. R(x, f(y, c))");
-    Ok(())
-}
-
-#[test]
-fn a_name_that_would_be_captured_is_primed(rt: HostRuntime) -> Result<(), Fail> {
-    let alloc = rt.alloc();
-    let inner = all(
-        alloc,
-        "x",
-        relation(alloc, Argument::Bound(0), Argument::Bound(1))?,
-    )?;
-    let text = print(alloc, &all(alloc, "x", inner)?)?;
-    assert_eq!(rt; text.as_str(), "ALL x. ALL x'. R(x', x)");
-    let beside_free = exists(
-        alloc,
-        "x",
-        relation(alloc, Argument::Bound(0), free(alloc, "x")?)?,
-    )?;
-    assert_eq!(rt; print(alloc, &beside_free)?.as_str(), "EX x'. R(x', x)");
+    for (text, wanted) in [
+        (
+            "(ALL x. P(x)) --> (EX y. P(y))",
+            "(ALL x. P(x)) --> (EX y. P(y))",
+        ),
+        ("ALL x. (EX y. (R(x, y)))", "ALL x. EX y. R(x, y)"),
+        ("ALL x. (P(x) --> Q)", "ALL x. P(x) --> Q"),
+        ("~(ALL x. P(x))", "~(ALL x. P(x))"),
+    ] {
+        assert!(rt; is_text(printed(alloc, text), wanted), "{text}");
+    }
     Ok(())
 }
 
 #[test]
 fn a_name_that_the_body_does_not_show_is_kept(rt: HostRuntime) -> Result<(), Fail> {
     let alloc = rt.alloc();
-    let inner = exists(alloc, "x", p_of_bound(alloc)?)?;
-    let text = print(alloc, &all(alloc, "x", inner)?)?;
-    assert_eq!(rt; text.as_str(), "ALL x. EX x. P(x)");
+    let text = "ALL x. EX x. P(x)";
+    assert!(rt; is_text(printed(alloc, text), text));
     Ok(())
 }
 
 #[test]
-fn two_hundred_negations_are_printed(rt: HostRuntime) -> Result<(), Fail> {
+fn a_name_that_would_be_captured_is_primed(rt: HostRuntime) -> Result<(), Fail> {
     let alloc = rt.alloc();
-    let mut deep = atom(alloc, "A")?;
-    for _ in 0..200 {
-        deep = not(alloc, deep)?;
+    for (term, wanted) in [
+        ("c", "EX y. R(c, y)"),
+        ("y", "EX y'. R(y, y')"),
+        ("f(y, y')", "EX y''. R(f(y, y'), y'')"),
+    ] {
+        assert!(rt;
+            is_text(instance(alloc, "ALL x. EX y. R(x, y)", term), wanted),
+            "{term}"
+        );
     }
-    let text = print(alloc, &deep)?;
-    assert_eq!(rt; text.as_str().len(), 201);
+    Ok(())
+}
+
+#[test]
+fn two_hundred_levels_are_read_and_printed(rt: HostRuntime) -> Result<(), Fail> {
+    let alloc = rt.alloc();
+    for front in ["~", "A --> ", "EX x. "] {
+        let mut text = String::new(alloc);
+        for _ in 0..200 {
+            text.push_str(front)?;
+        }
+        text.push_str("A")?;
+        assert!(rt;
+            is_text(printed(alloc, text.as_str()), text.as_str()),
+            "{front}"
+        );
+    }
     Ok(())
 }
 
 #[test]
 fn a_term_is_printed_by_itself(rt: HostRuntime) -> Result<(), Fail> {
     let alloc = rt.alloc();
-    let arguments = two(alloc, free(alloc, "x")?, free(alloc, "c")?)?;
-    let term = Argument::Apply(Name::new(alloc, "f")?, arguments);
-    assert_eq!(rt; print_term(alloc, &term)?.as_str(), "f(x, c)");
-    Ok(())
+    match parse_term(alloc, scalars(alloc, "f(x,g(c) )")?.as_slice()) {
+        Ok(term) => {
+            assert!(rt; print_term(alloc, term.argument())?.as_str() == "f(x, g(c))");
+            Ok(())
+        }
+        Err(_) => {
+            assert!(rt; false);
+            Ok(())
+        }
+    }
 }
