@@ -10,8 +10,6 @@ mod fault;
 mod hyps;
 mod quantifiers;
 mod rules;
-#[cfg(test)]
-mod tests;
 mod thm;
 
 pub use consistency::{consistency_law, soundness_law};
