@@ -1,0 +1,9 @@
+pub mod Facts
+pub mod Order
+pub mod Spelled
+pub mod Answers
+pub mod Looked
+pub mod Locals
+pub mod Merged
+pub mod Leading
+pub mod Cited

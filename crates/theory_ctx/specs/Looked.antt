@@ -1,0 +1,36 @@
+-- Which fact a name means, among the facts that a theory sees (this project's own).
+use Rattle.std.specs.Prelude.{◌==◌, ℕ, List, [], ◌∷◌, Option, Some, None}
+use Rattle.std.specs.List.{slice_split}
+use Rattle.theory_ctx.specs.declared.fact.Fact.{Fact}
+use Rattle.theory_ctx.specs.Facts.{fact_of, imported}
+use Rattle.theory_ctx.specs.Order.{by_theory}
+use Rattle.theory_ctx.specs.Spelled.{long_name}
+use Rattle.theory_ctx.specs.Answers.{Answer, found, unknown, ambiguous}
+
+-- one fact is found, of several the first two are told
+abbrev pub among : List Fact → Answer
+among [] = unknown
+among (fact ∷ []) = found (Some fact.theory) fact.name fact.formula
+among (first ∷ second ∷ others) =
+    ambiguous (long_name first.theory first.name) (long_name second.theory second.name)
+
+-- this fact where there is one, else what the others answer
+abbrev pub first_of : Option Fact → List Fact → Answer
+first_of (Some fact) others = among (fact ∷ [])
+first_of None others = among others
+
+-- the fact that a name means in the theory own, by the name's parts
+abbrev pub looked_by : List Fact → List ℕ → List (List ℕ) → Answer
+-- n: the theory's own fact, else the imported ones
+looked_by facts own (n ∷ []) = first_of (fact_of own n facts) (by_theory (imported own n facts))
+-- T.n: the fact of T alone
+looked_by facts own (t ∷ n ∷ []) = first_of (fact_of t n facts) []
+looked_by facts own parts = unknown
+
+-- a name cut at its dots
+abbrev pub parts_of : List ℕ → List (List ℕ)
+parts_of = slice_split (λ b. b == 46)
+
+-- the fact that a name means in the theory own
+abbrev pub looked : List Fact → List ℕ → List ℕ → Answer
+looked facts own name = looked_by facts own (parts_of name)

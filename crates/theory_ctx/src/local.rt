@@ -1,0 +1,24 @@
+ghost use Rattle.std.specs.Prelude.{◌≡◌, None};
+ghost use Rattle.theory_ctx.specs.Answers.{told, found};
+
+use crate::lookup::Lookup;
+use nj_formula::{Formula, Name};
+
+/// A local fact: an assumption of a term, or a fact of a block. It belongs to no theory.
+#[derive(Debug, Drop)]
+pub struct Local {
+    pub name: Name,
+    pub formula: Formula,
+}
+
+impl Local {
+    pub(crate) fn found(&self) -> Lookup<'_>
+        ensures { told result ≡ found None self.now.name self.now.formula }
+    {
+        Lookup::Found {
+            theory: None,
+            name: self.name.as_str(),
+            formula: &self.formula,
+        }
+    }
+}
