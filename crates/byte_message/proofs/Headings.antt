@@ -96,7 +96,7 @@ judged_faulty (Err g) f b x e = cc
 more_of : (a x : List ℕ) (o : Option (List ℕ)) (b : List ℕ) → after_line a ≡ Some b → heading (a ++ x) ≡ judged (judge (line_of a)) (b ++ x)
 more_of a x o b e = ap (λ l. heading_of l (after_line (a ++ x))) (line-found a b x e) ∙ ap (λ q. heading_of (line_of a) q) (after-found a b x e)
 
-never_fit : (q : Bool) (ls c : List ℕ) → cond q (Faulty BadHeader) Unended ≡ Fit ls c → ⊥
+pub never_fit : (q : Bool) (ls c : List ℕ) → cond q (Faulty BadHeader) Unended ≡ Fit ls c → ⊥
 never_fit true ls c e = cc
 never_fit false ls c e = cc
 

@@ -5,6 +5,7 @@ mod Cutting
 mod Reaching
 mod Spelled
 mod Advancing
-mod Ending
+pub mod Ending
 mod Numbers
 mod Written
+pub mod Longer

@@ -3,6 +3,8 @@ ghost use Rattle.std.specs.Prelude.{◌≡◌, ℕ, List, ◌∷◌, ◌++◌};
 ghost use Rattle.byte_message.specs.Feeding.{ending_of};
 ghost use Rattle.byte_message.specs.Kept.{Framing, Stands};
 ghost use Rattle.byte_message.specs.Stream.{Ending, IsMessage, IsReadAs, IsSpelling, plain_spelling};
+ghost use Rattle.byte_message.specs.Stream.Ending.{Bad};
+ghost use Rattle.byte_message.specs.declared.frame_fault.FrameFault.{FrameFault};
 
 /// A stream has one list of messages and one ending, so no two lists of messages have one stream.
 pub fn one_reading()
@@ -27,4 +29,18 @@ pub fn any_pieces()
     ensures { (stream : List ℕ) (taken : List (List (List ℕ))) (now other : Framing)
         → Stands stream taken now → Stands stream taken other
         → (now.waiting ≡ other.waiting) × (ending_of now ≡ ending_of other) }
+{}
+
+/// Each stream has a reading. Bytes that follow add messages and take none back, and where a
+/// stream is at fault they change nothing.
+pub fn longer_streams()
+    ensures every { (stream : List ℕ)
+        → (messages : List (List (List ℕ))) × (ending : Ending) × IsReadAs stream messages ending }
+    ensures longer { (stream after : List ℕ) (messages : List (List (List ℕ))) (ending : Ending)
+        → IsReadAs stream messages ending
+        → (more : List (List (List ℕ))) × (end : Ending)
+        × IsReadAs (stream ++ after) (messages ++ more) end }
+    ensures bad { (stream after : List ℕ) (messages : List (List (List ℕ))) (fault : FrameFault)
+        → IsReadAs stream messages (Bad fault)
+        → IsReadAs (stream ++ after) messages (Bad fault) }
 {}

@@ -21,7 +21,7 @@ mod write;
 pub use fault::{FeedError, Truncated};
 pub use frame_fault::FrameFault;
 pub use frames::Frames;
-pub use laws::{any_pieces, one_reading, written_is_read};
+pub use laws::{any_pieces, longer_streams, one_reading, written_is_read};
 pub use message::Message;
 pub use write::write_message;
 

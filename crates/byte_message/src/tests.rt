@@ -1,7 +1,7 @@
 //! Streams and what is read of them, worked by hand from the form of the messages.
 use crate::{
-    FeedError, FrameFault, Frames, Truncated, any_pieces, one_reading, write_message,
-    written_is_read,
+    FeedError, FrameFault, Frames, Truncated, any_pieces, longer_streams, one_reading,
+    write_message, written_is_read,
 };
 use sqlite_items::Items;
 use std::process::Abort;
@@ -36,6 +36,7 @@ fn a_message_is_read_and_the_stream_ends(rt: HostRuntime) -> Result<(), Fail> {
     assert!(rt; frames.next().is_none());
     one_reading();
     any_pieces();
+    longer_streams();
     written_is_read();
     Ok(())
 }

@@ -12,7 +12,7 @@ use Rattle.session_core.specs.Commands.{commands_of}
 use Rattle.session_core.specs.Document.{assigned_from, first_version, refusal_among, version_among, versions, versions_after}
 use Rattle.session_core.specs.Parts.{is_finished}
 use Rattle.session_core.specs.Replies.{answer, markup, reply_among, spelled_of, told}
-use Rattle.session_core.specs.Stream.{spelling}
+use Rattle.byte_message.specs.Stream.{plain_spelling}
 use Rattle.pide_serve.specs.Headline.{CoversSo, EachCall, ShowsSo}
 
 each-call : (P : List Entry → List (List ℕ) → Type 0) → ((h : List Entry) (m : List (List ℕ)) → P h m) → (h : List Entry) → EachCall P h
@@ -30,7 +30,7 @@ snapshot-answer finished [] id name = refl
 snapshot-answer finished (v ∷ vs) id name = refl
 
 shows-at : (finished : Part → Bool) (vs : List Version) (id : ℕ) (name : List ℕ) (v : Version) → version_among vs id ≡ Some v
-    → refusal_among vs (Some (asks.Snapshot id name)) ≡ None → reply_among finished vs (Some (asks.Snapshot id name)) ≡ spelling (markup finished v)
+    → refusal_among vs (Some (asks.Snapshot id name)) ≡ None → reply_among finished vs (Some (asks.Snapshot id name)) ≡ plain_spelling (markup finished v)
 shows-at finished vs id name v found accepted =
     ap (λ (r : Option ℕ). told r (answer finished (versions_after vs (Some (asks.Snapshot id name))) (Some (asks.Snapshot id name)))) accepted
     ∙ snapshot-answer finished vs id name ∙ ap (λ (o : Option Version). spelled_of o (markup finished)) found

@@ -19,7 +19,7 @@ use Rattle.session_core.specs.Parts.{is_settled}
 use Rattle.session_core.specs.Reading.{asked}
 use Rattle.session_core.specs.Replies.{replies, reply_to, report}
 use Rattle.session_core.specs.Steps.{TakenSo, WorkedSo}
-use Rattle.session_core.specs.Stream.{spelling}
+use Rattle.byte_message.specs.Stream.{plain_spelling}
 use Rattle.session_core.specs.Work.{worked}
 use Rattle.pide_serve.specs.Runs.{GoesOn, Stops}
 use Rattle.pide_serve.specs.Served.{WritesOn, calls}
@@ -60,7 +60,7 @@ awaited-lives h message v found = by_cases (asked message) found
 
 -- a part more was worked on
 pub waiting-more : (held held' held'' : Option (List ℕ)) (h h' h'' : List Entry) (came message : List (List ℕ)) (v : Version) (p : Part)
-    → IsWaiting held held' h h' came message → awaited h' message ≡ Some v → is_settled h' v ≡ false → h'' ≡ worked p h' → Appends held' held'' (spelling (report h' p))
+    → IsWaiting held held' h h' came message → awaited h' message ≡ Some v → is_settled h' v ≡ false → h'' ≡ worked p h' → Appends held' held'' (plain_spelling (report h' p))
     → IsLegal 0 h'' → IsWaiting held held'' h h'' came message
 waiting-more held held' held'' h h' h'' came message v p w found open_yet grown wrote legal =
     let now : IsWaiting held held'' h (worked p h') came message = record {
@@ -69,8 +69,8 @@ waiting-more held held' held'' h h' h'' came message v p w found open_yet grown 
       called = w.called;
       alone = λ a. subst (λ (o : Option Version). IsAlone o (worked p h')) (sym found)
           (refl, refl, refl, open_yet, subst (λ (o : Option Version). IsAlone o h') found (w.alone a));
-      writes = λ first written. subst (Appends first held'') (ap (λ (xs : List ℕ). xs ++ spelling (report h' p)) (sym (append-nil (replies h'))))
-          (Appends-trans first held' held'' (replies h') (spelling (report h' p)) (w.writes first written) wrote);
+      writes = λ first written. subst (Appends first held'') (ap (λ (xs : List ℕ). xs ++ plain_spelling (report h' p)) (sym (append-nil (replies h'))))
+          (Appends-trans first held' held'' (replies h') (plain_spelling (report h' p)) (w.writes first written) wrote);
       legal = λ l. subst (IsLegal 0) grown legal;
     } in
     subst (λ (l : List Entry). IsWaiting held held'' h l came message) (sym grown) now
@@ -115,8 +115,8 @@ worked-front held held' held'' h h' h'' came message v w found open_yet so =
     let now : Stops held held'' h (worked so.0 h') (came ∷ []) = (
       ([], came ∷ [], refl, w.called ∙ sym (append-nil (calls h))),
       (λ a. (Some v, (refl, refl, refl, open_yet, subst (λ (o : Option Version). IsAlone o h') found (w.alone a)))),
-      (λ first written. subst (AppendsFront first held'') (ap (λ (xs : List ℕ). xs ++ spelling (report h' so.0)) (sym (append-nil (replies h'))))
-          (front-after held held' held'' h h' (spelling (report h' so.0)) w.writes so.3 first written)),
+      (λ first written. subst (AppendsFront first held'') (ap (λ (xs : List ℕ). xs ++ plain_spelling (report h' so.0)) (sym (append-nil (replies h'))))
+          (front-after held held' held'' h h' (plain_spelling (report h' so.0)) w.writes so.3 first written)),
     ) in
     subst (λ (l : List Entry). Stops held held'' h l (came ∷ [])) (sym so.1) now
 

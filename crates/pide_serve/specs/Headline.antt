@@ -1,10 +1,15 @@
--- What the program promises of a run. `h` is the history handed back, the newest entry first.
-use Rattle.std.specs.Prelude.{◌≡◌, ℕ, ◌<◌, ◌^◌, ◌⊎◌, Bool, true, List, [], ◌∷◌, ◌++◌, Option, None, Some, ⊤, length}
+-- What the program promises of a run. `h` is the history handed back, the newest entry first; the bytes taken are
+-- those that were left before and no more after.
+use Rattle.std.specs.Prelude.{◌≡◌, ◌≢◌, ℕ, ◌<◌, ◌≤◌, ◌^◌, ◌⊎◌, Bool, true, List, [], ◌∷◌, ◌++◌, Option, None, Some, ⊤, length}
 use Rattle.std.specs.Io.KnownBytes.{Appends, Consumes, IsAtEnd}
 use Rattle.pide_base.specs.Faults.{Rose}
 use Rattle.pide_base.specs.Moves.{AppendsFront}
 use Rattle.pide_base.specs.declared.status.Status.{Status}
 use Rattle.pide_base.specs.declared.status.Status.TheVariants as status
+use Rattle.byte_message.specs.Stream.{Ending, IsReadAs, plain_spelling}
+use Rattle.byte_message.specs.Stream.Ending.{Whole, Bad, Short}
+use Rattle.byte_message.specs.declared.frame_fault.FrameFault.{FrameFault}
+use Rattle.byte_message.specs.declared.frame_fault.FrameFault.TheVariants as frame
 use Rattle.session_core.specs.declared.editor_message.EditorMessage.TheVariants as asks
 use Rattle.session_core.specs.declared.entry.Entry.{Entry}
 use Rattle.session_core.specs.declared.entry.Entry.TheVariants as entry
@@ -17,7 +22,6 @@ use Rattle.session_core.specs.Legal.{IsLegal, has_ended}
 use Rattle.session_core.specs.Reading.{asked}
 use Rattle.session_core.specs.Replies.{markup_of, replies, reply}
 use Rattle.session_core.specs.Shown.{pending, shown}
-use Rattle.session_core.specs.Stream.{IsPlain, IsStreamOf, spelling}
 use Rattle.pide_serve.specs.Served.{calls}
 
 -- the bytes written are the replies of the history; where writing fails or memory is short, a front of them
@@ -36,14 +40,31 @@ Closed _ h = has_ended h ≡ true
 abbrev pub OneLegalHistory : Status → List Entry → Type 0
 OneLegalHistory s h = IsLegal 0 h × Closed s h
 
-abbrev pub CallsSo : Status → List ℕ → List Entry → Type 0
-CallsSo status.Done taken h = IsStreamOf taken (calls h)
-CallsSo status.WriteFault taken h = (rest : List (List (List ℕ))) × IsStreamOf taken (calls h ++ rest)
-CallsSo status.NoMemory taken h = (calls h ≡ []) ⊎ ((rest : List (List (List ℕ))) × IsStreamOf taken (calls h ++ rest))
-CallsSo _ taken h = calls h ≡ []
+-- where the message at fault begins
+abbrev pub place_of : FrameFault → ℕ
+place_of (frame.BadHeader at) = at
+place_of (frame.TooMany at count) = at
+place_of (frame.TooLong at chunk) = at
 
--- the messages answered are those of the bytes taken, in order; a front of them where writing fails or memory is
--- short; none where the bytes are not served
+-- the status tells how the bytes end: between messages, at a line at fault, or within a message. They end at no fault
+-- where they are too many
+abbrev pub Tells : Status → Ending → Type 0
+Tells status.Done ending = ending ≡ Whole
+Tells (status.BadFrame at) ending = (fault : FrameFault) × (ending ≡ Bad fault) × (at ≡ place_of fault)
+Tells (status.Truncated at) ending = ending ≡ Short at
+Tells status.LongInput ending = (fault : FrameFault) → ending ≢ Bad fault
+Tells _ ending = ⊤
+
+-- these messages and perhaps others after them are those of the bytes
+abbrev pub ReadFront : List ℕ → List (List (List ℕ)) → Type 0
+ReadFront bytes messages = (rest : List (List (List ℕ))) × (ending : Ending) × IsReadAs bytes (messages ++ rest) ending
+
+abbrev pub CallsSo : Status → List ℕ → List Entry → Type 0
+CallsSo status.WriteFault taken h = ReadFront taken (calls h)
+CallsSo status.NoMemory taken h = ReadFront taken (calls h)
+CallsSo s taken h = (ending : Ending) × IsReadAs taken (calls h) ending × Tells s ending
+
+-- the messages answered are those of the bytes taken, in order; where writing fails or memory is short, a front of them
 abbrev pub MessagesRead : Status → Option (List ℕ) → Option (List ℕ) → List Entry → Type 0
 MessagesRead s old new h = (taken : List ℕ) × Consumes old new taken × CallsSo s taken h
 
@@ -51,7 +72,7 @@ MessagesRead s old new h = (taken : List ℕ) × Consumes old new taken × Calls
 -- each other assigned execution as pending
 abbrev pub ShowsSo : List Entry → List (List ℕ) → Type 0
 ShowsSo h message = (id : ℕ) (name : List ℕ) (v : Version) → asked message ≡ Some (asks.Snapshot id name) → version_of h id ≡ Some v
-    → refusal h message ≡ None → reply h (entry.Call message) ≡ spelling (markup_of v (shown h v) (pending h v))
+    → refusal h message ≡ None → reply h (entry.Call message) ≡ plain_spelling (markup_of v (shown h v) (pending h v))
 
 -- an update that is not refused makes a version with an execution for each command of its text, all of them wanted
 abbrev pub CoversSo : List Entry → List (List ℕ) → Type 0
@@ -73,23 +94,40 @@ MadeAlone status.WriteFault h = (waited : Option Version) × IsAlone waited h
 MadeAlone status.NoMemory h = (waited : Option Version) × IsAlone waited h
 MadeAlone _ h = IsAlone None h
 
--- done: the source ended, and the bytes taken are plain spellings, fewer than are too many
+-- how bytes end, whatever their messages
+abbrev pub HasEnding : List ℕ → Ending → Type 0
+HasEnding bytes ending = (messages : List (List (List ℕ))) × IsReadAs bytes messages ending
+
+-- done: the source ended, and the bytes taken end between messages
 abbrev pub DoneSo : Option (List ℕ) → Option (List ℕ) → Type 0
-DoneSo old new = (taken : List ℕ) × Consumes old new taken × IsAtEnd new × (length taken < 2 ^ 40) × IsPlain taken
+DoneSo old new = (taken : List ℕ) × Consumes old new taken × IsAtEnd new × HasEnding taken Whole
 
--- no frame: the source ended, and the bytes taken are not plain spellings
+-- truncated: the source ended, and the bytes taken end within the message that begins at this place
+abbrev pub TruncatedSo : ℕ → Option (List ℕ) → Option (List ℕ) → Type 0
+TruncatedSo at old new = (taken : List ℕ) × Consumes old new taken × IsAtEnd new × HasEnding taken (Short at)
+
+-- no frame: the bytes taken end at a line at fault, whose message begins at this place
 abbrev pub BadFrameSo : ℕ → Option (List ℕ) → Option (List ℕ) → Type 0
-BadFrameSo at old new = (at ≡ 0) × ((taken : List ℕ) × Consumes old new taken × IsAtEnd new × (IsPlain taken → ⊥))
+BadFrameSo at old new = (taken : List ℕ) × Consumes old new taken
+    × ((fault : FrameFault) × HasEnding taken (Bad fault) × (at ≡ place_of fault))
 
--- too long: as many bytes were taken as are too many
-abbrev pub LongSo : Option (List ℕ) → Option (List ℕ) → Type 0
-LongSo old new = (taken : List ℕ) × Consumes old new taken × (length taken ≡ 2 ^ 40)
+abbrev pub TakesSo : Status → List ℕ → Type 0
+TakesSo status.LongInput taken = (length taken ≡ 2 ^ 40) × ((fault : FrameFault) → HasEnding taken (Bad fault) → ⊥)
+TakesSo (status.BadFrame at) taken = length taken ≤ 2 ^ 40
+TakesSo status.WriteFault taken = length taken ≤ 2 ^ 40
+TakesSo status.NoMemory taken = length taken ≤ 2 ^ 40
+TakesSo _ taken = length taken < 2 ^ 40
 
--- where the words are taken, the bytes are plain spellings and fewer than are too many, and no count rises, the run
--- is done, or memory is short
+-- too long: just where 2^40 bytes without a line at fault were taken; else fewer are taken, and never more. Where
+-- writing fails or memory is short any number up to that may be
+abbrev pub LongSo : Status → Option (List ℕ) → Option (List ℕ) → Type 0
+LongSo s old new = (taken : List ℕ) × Consumes old new taken × TakesSo s taken
+
+-- where the words are taken, the bytes end between messages and are fewer than are too many, and no count rises, the
+-- run is done, or memory is short
 abbrev pub CompleteSo : Bool → Option (List ℕ) → ℕ → ℕ → ℕ → ℕ → Status → Type 0
 CompleteSo words left pulls pulls' pushes pushes' s =
-    (bytes : List ℕ) → words ≡ true → left ≡ Some bytes → IsPlain bytes → length bytes < 2 ^ 40 → (Rose pulls pulls' → ⊥) → (Rose pushes pushes' → ⊥)
+    (bytes : List ℕ) → words ≡ true → left ≡ Some bytes → HasEnding bytes Whole → length bytes < 2 ^ 40 → (Rose pulls pulls' → ⊥) → (Rose pushes pushes' → ⊥)
     → (s ≡ status.Done) ⊎ (s ≡ status.NoMemory)
 
 -- what each run keeps, whatever its status
@@ -98,18 +136,8 @@ pub record IsRun (s : Status) (left left' held held' : Option (List ℕ)) (h : L
   pub legal : OneLegalHistory s h
   pub read : MessagesRead s left left' h
   pub alone : MadeAlone s h
-
--- a status at which nothing is served
-abbrev pub ServesNothing : Status → Type 0
-ServesNothing status.ReadFault = ⊤
-ServesNothing (status.BadFrame at) = ⊤
-ServesNothing status.LongInput = ⊤
-ServesNothing _ = ⊥
-
--- how serving these bytes may end
-abbrev pub ServedSo : Status → List ℕ → ℕ → ℕ → Type 0
-ServedSo status.Done bytes before now = IsPlain bytes
-ServedSo (status.BadFrame at) bytes before now = (at ≡ 0) × (IsPlain bytes → ⊥)
-ServedSo status.WriteFault bytes before now = Rose before now
-ServedSo status.NoMemory bytes before now = ⊤
-ServedSo _ bytes before now = ⊥
+  pub bad_frame : (at : ℕ) → s ≡ status.BadFrame at → BadFrameSo at left left'
+  pub truncated : (at : ℕ) → s ≡ status.Truncated at → TruncatedSo at left left'
+  pub long_input : LongSo s left left'
+  pub done : s ≡ status.Done → DoneSo left left'
+  pub never : (at : ℕ) → s ≢ status.BadText at

@@ -1,5 +1,5 @@
 pub mod Headline
 pub mod Runs
 pub mod Served
-pub mod Taken
+pub mod Steps
 pub mod Words

@@ -3,9 +3,10 @@
 //! It is this project's own. It must not know the real streams, nor how a document is kept.
 #![tactic(auto)]
 
+mod input;
 mod outcome;
+mod piece;
 mod program;
-mod reading;
 mod serving;
 mod words;
 

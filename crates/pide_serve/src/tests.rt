@@ -18,12 +18,14 @@ const WRITTEN: &[u8] =
 const MORE: &[u8] =
     b"14,1\nSession.settle216,1,1,0\nSession.snapshot1B14,1,134\nSession.update1\x05\x06:\x05\x05\x06:\x05A\x05\x06\x05\x05\x06:\x05\x05\x060\x05\x05\x06:\x05\x05\x06:\x05\x05\x060\x060=0\x05theory A begin lemma l: \"P --> P\" by (impI h h) end\x05\x06\x05\x05\x06\x05\x05\x06\x05\x05\x06:\x05\x05\x06:\x05\x05\x06:\x051\x05\x06\x05\x05\x06:\x05\x05\x06\x05\x05\x06\x05\x05\x06\x05\x05\x06\x05\x05\x06\x05\x05\x06\x053\nFoo";
 
-/// A run: the words, the input, how many bytes a pull gives at most, and which push fails.
+/// A run: the words, the input, how many bytes a pull gives at most, and which pull and which push
+/// fail, counted from 1.
 #[derive(Drop)]
 struct Run<'a> {
     words: &'a [&'a str],
     input: &'a [u8],
     piece: usize,
+    failing_pull: u64,
     failing_push: u64,
 }
 
@@ -33,11 +35,8 @@ impl Run<'_> {
         requires { 0 < self.now.piece }
     {
         let alloc = rt.alloc();
-        let source = MemSource::new(
-            Vec::from_slice(alloc, self.input)?,
-            self.piece,
-            Vec::new(alloc),
-        );
+        let fails = Vec::from_slice(alloc, &[self.failing_pull])?;
+        let source = MemSource::new(Vec::from_slice(alloc, self.input)?, self.piece, fails);
         let fails = Vec::from_slice(alloc, &[self.failing_push])?;
         let sink = MemSink::new(alloc, 4096, fails).ok().ok_or("a sink")?;
         let outcome = pide(alloc, self.words, source, sink);
@@ -48,11 +47,12 @@ impl Run<'_> {
 
 #[test]
 fn the_worked_example_gives_its_replies_however_it_is_cut(rt: HostRuntime) -> Result<(), Fail> {
-    for piece in [1, 7, 65536] {
+    for piece in [1, 7, 50, 65536] {
         let run = Run {
             words: &["serve", "--workers", "0"],
             input: SENT,
             piece,
+            failing_pull: 0,
             failing_push: 0,
         };
         let (status, written, entries) = run.play(&rt)?;
@@ -69,6 +69,7 @@ fn no_input_is_done_with_nothing_written(rt: HostRuntime) -> Result<(), Fail> {
         words: &["serve"],
         input: b"",
         piece: 9,
+        failing_pull: 0,
         failing_push: 0,
     };
     let (status, written, entries) = run.play(&rt)?;
@@ -79,16 +80,13 @@ fn no_input_is_done_with_nothing_written(rt: HostRuntime) -> Result<(), Fail> {
 }
 
 #[test]
-fn bytes_that_are_no_plain_messages_are_a_bad_frame(rt: HostRuntime) -> Result<(), Fail> {
-    for input in [
-        b"3,x\n".as_slice(),
-        b"014,01\r\nSession.settle1",
-        b"14,1\nSession.settle",
-    ] {
+fn a_line_that_is_none_is_a_bad_frame(rt: HostRuntime) -> Result<(), Fail> {
+    for input in [b"3,x\n".as_slice(), b"16777217\n"] {
         let run = Run {
             words: &["serve"],
             input,
             piece: 3,
+            failing_pull: 0,
             failing_push: 0,
         };
         let (status, written, entries) = run.play(&rt)?;
@@ -96,6 +94,89 @@ fn bytes_that_are_no_plain_messages_are_a_bad_frame(rt: HostRuntime) -> Result<(
         assert_eq!(rt; written.len(), 0);
         assert_eq!(rt; entries, 1);
     }
+    Ok(())
+}
+
+#[test]
+fn a_cr_and_leading_zeros_are_read(rt: HostRuntime) -> Result<(), Fail> {
+    let run = Run {
+        words: &["serve"],
+        input: b"014,01\r\nSession.settle1",
+        piece: 50,
+        failing_pull: 0,
+        failing_push: 0,
+    };
+    let (status, written, _) = run.play(&rt)?;
+    assert_eq!(rt; status, Status::Done);
+    assert!(rt; written.as_slice() == b"7,1\nrefused7".as_slice());
+    Ok(())
+}
+
+#[test]
+fn an_input_may_break_off_after_a_line(rt: HostRuntime) -> Result<(), Fail> {
+    let run = Run {
+        words: &["serve"],
+        input: b"16777216\n",
+        piece: 50,
+        failing_pull: 0,
+        failing_push: 0,
+    };
+    let (status, written, entries) = run.play(&rt)?;
+    assert_eq!(rt; status, Status::Truncated { at: 0 });
+    assert_eq!(rt; written.len(), 0);
+    assert_eq!(rt; entries, 1);
+    Ok(())
+}
+
+/// The example's first message with these bytes after it, in pieces of 1, 7 and 50 bytes: its reply
+/// is written, the history has its call and the end, and this is the status.
+fn first_then(rt: &HostRuntime, after: &[u8], expected: Status) -> Result<bool, Fail> {
+    let mut input = Vec::from_slice(rt.alloc(), &SENT[..158])?;
+    input.extend_from_slice(after)?;
+    for piece in [1, 7, 50] {
+        let run = Run {
+            words: &["serve"],
+            input: input.as_slice(),
+            piece,
+            failing_pull: 0,
+            failing_push: 0,
+        };
+        let (status, written, entries) = run.play(rt)?;
+        if status != expected || written.as_slice() != &WRITTEN[..157] || entries != 2 {
+            return Ok(false);
+        }
+    }
+    Ok(true)
+}
+
+#[test]
+fn whole_messages_are_served_before_one_that_breaks_off(rt: HostRuntime) -> Result<(), Fail> {
+    let at = 158;
+    assert!(rt; first_then(&rt, b"14,1\nSession.set", Status::Truncated { at })?);
+    assert!(rt; first_then(&rt, b"14,1", Status::Truncated { at })?);
+    Ok(())
+}
+
+#[test]
+fn whole_messages_are_served_before_a_bad_line(rt: HostRuntime) -> Result<(), Fail> {
+    let at = 158;
+    assert!(rt; first_then(&rt, b"3,x\nabc", Status::BadFrame { at })?);
+    Ok(())
+}
+
+#[test]
+fn whole_messages_are_served_before_a_pull_that_fails(rt: HostRuntime) -> Result<(), Fail> {
+    let run = Run {
+        words: &["serve"],
+        input: SENT,
+        piece: 50,
+        failing_pull: 5,
+        failing_push: 0,
+    };
+    let (status, written, entries) = run.play(&rt)?;
+    assert_eq!(rt; status, Status::ReadFault);
+    assert!(rt; written.len() + 419 == WRITTEN.len() && WRITTEN.starts_with(written.as_slice()));
+    assert_eq!(rt; entries, 13);
     Ok(())
 }
 
@@ -109,6 +190,7 @@ fn other_messages_are_refused_and_the_session_goes_on(rt: HostRuntime) -> Result
         words: &["serve"],
         input: input.as_slice(),
         piece: 100,
+        failing_pull: 0,
         failing_push: 0,
     };
     let (status, written, _) = run.play(&rt)?;
@@ -123,6 +205,7 @@ fn a_push_that_fails_ends_the_run_with_a_front_of_the_replies(rt: HostRuntime) -
         words: &["serve"],
         input: SENT,
         piece: 1000,
+        failing_pull: 0,
         failing_push: 3,
     };
     let (status, written, _) = run.play(&rt)?;
@@ -145,6 +228,7 @@ fn other_words_are_refused_with_nothing_written(rt: HostRuntime) -> Result<(), F
             words,
             input: SENT,
             piece: 1,
+            failing_pull: 0,
             failing_push: 0,
         };
         let (status, written, entries) = run.play(&rt)?;

@@ -13,7 +13,7 @@ use Rattle.session_core.specs.Legal.{awaited_among}
 use Rattle.session_core.specs.Parts.{are_all_finished}
 use Rattle.session_core.specs.Progress.{is_done}
 use Rattle.session_core.specs.Replies.{assign, reply_among}
-use Rattle.session_core.specs.Stream.{spelling}
+use Rattle.byte_message.specs.Stream.{plain_spelling}
 use Rattle.session_core.proofs.FirstVersions.{settled-of}
 
 abbrev Opens : (Part → Bool) → Option Version → ℕ → FirstText → Version → List ℕ → Type 0
@@ -24,10 +24,10 @@ Opens finished live id t v bytes =
 
 -- the first update opens its version
 pub opens : (finished : Part → Bool) (live : Option Version) (id : ℕ) (t : FirstText) (v : Version) (bytes : List ℕ)
-    → live ≡ None → v ≡ first_version id t → bytes ≡ spelling (assign v) → IsShort t → Opens finished live id t v bytes
+    → live ≡ None → v ≡ first_version id t → bytes ≡ plain_spelling (assign v) → IsShort t → Opens finished live id t v bytes
 opens finished live id t v bytes none first written short =
     subst (λ (l : Option Version). Opens finished l id t v bytes) (sym none)
-    (subst (λ (w : Version). bytes ≡ spelling (assign w) → Opens finished None id t w bytes) (sym first) (λ e. (e, refl, refl, refl, (id, t, refl, short))) written)
+    (subst (λ (w : Version). bytes ≡ plain_spelling (assign w) → Opens finished None id t w bytes) (sym first) (λ e. (e, refl, refl, refl, (id, t, refl, short))) written)
 
 -- the version that is found is the live one
 pub live-is : (P : Version → Type 0) (live : Option Version) (id : ℕ) (v : Version) → version_among (option_to_list live) id ≡ Some v → IfSome live P → P v

@@ -1,12 +1,10 @@
 mod Answered
-mod Decimals
+mod Candidates
 mod Digits
 mod ExampleHistory
 mod FirstVersions
-mod Guessing
 mod Inserted
 mod Reporting
 mod Short
-mod Streaming
 mod Taking
 mod Working

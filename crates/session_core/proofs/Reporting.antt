@@ -17,7 +17,7 @@ use Rattle.session_core.specs.Parts.{are_all_finished, is_finished, is_settled}
 use Rattle.session_core.specs.Progress.{is_done, nth_part}
 use Rattle.session_core.specs.Replies.{report, report_at}
 use Rattle.session_core.specs.Steps.{ReportedSo, WorkedSo}
-use Rattle.session_core.specs.Stream.{spelling}
+use Rattle.byte_message.specs.Stream.{plain_spelling}
 use Rattle.session_core.specs.Work.{unfinished, worked}
 use Rattle.session_core.proofs.Answered.{live-is}
 use Rattle.session_core.proofs.FirstVersions.{settled-of}
@@ -46,15 +46,15 @@ found_in commands execution = find (λ a. a.execution == execution) commands
 
 -- the bytes that were made are the part's report
 report-is : (h : List Entry) (v : Version) (k : ℕ) (ended : Bool) (p : Part) (bytes : List ℕ) → IsKept h (Some v) k ended
-    → bytes ≡ spelling (report_at p (found_in v.commands p.exec)) → bytes ≡ spelling (report h p)
+    → bytes ≡ plain_spelling (report_at p (found_in v.commands p.exec)) → bytes ≡ plain_spelling (report h p)
 report-is h v k ended p bytes kept made =
     let at_home : found_in v.commands p.exec ≡ home (versions h) p.exec =
     ap (λ (commands : List Assigned). found_in commands p.exec) (sym (append-nil v.commands)) ∙ ap (λ (vs : List Version). home vs p.exec) (sym kept.versions_are) in
-    made ∙ ap (λ (o : Option Assigned). spelling (report_at p o)) at_home
+    made ∙ ap (λ (o : Option Assigned). plain_spelling (report_at p o)) at_home
 
 -- what was written of the report says what came of the work
 pub worked-so : (r : Worked) (h h' : List Entry) (v : Version) (k : ℕ) (held held' : Option (List ℕ)) (bytes : List ℕ) → IsKept h (Some v) k false → k < 5
-    → h' ≡ worked (nth_part k) h → bytes ≡ spelling (report_at (nth_part k) (found_in v.commands (nth_part k).exec)) → ReportedSo r held held' bytes
+    → h' ≡ worked (nth_part k) h → bytes ≡ plain_spelling (report_at (nth_part k) (found_in v.commands (nth_part k).exec)) → ReportedSo r held held' bytes
     → WorkedSo h h' held held' r
 worked-so done.Finished h h' v k held held' bytes kept more grown made written =
     let reported = report-is h v k false (nth_part k) bytes kept made in (

@@ -4,7 +4,6 @@ pub mod Commands
 pub mod Document
 pub mod Example
 pub mod FirstText
-pub mod Guess
 pub mod Kept
 pub mod Legal
 pub mod Parts
@@ -14,6 +13,5 @@ pub mod Replies
 pub mod Report
 pub mod Shown
 pub mod Steps
-pub mod Stream
 pub mod Yxml
 pub mod Work

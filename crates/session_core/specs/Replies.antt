@@ -17,7 +17,7 @@ use Rattle.session_core.specs.Reading.{asked}
 use Rattle.session_core.specs.declared.report.Report.{Report}
 use Rattle.session_core.specs.Report.{in_report_order, reports_body}
 use Rattle.session_core.specs.Shown.{shown_among, pending_among, fork_reports}
-use Rattle.session_core.specs.Stream.{spelling}
+use Rattle.byte_message.specs.Stream.{plain_spelling}
 use Rattle.session_core.specs.Yxml.{pair, list}
 
 -- a reply is a message; its chunks may have any length
@@ -45,18 +45,18 @@ markup finished v = markup_of v (in_report_order (shown_among finished v.command
 
 abbrev pub spelled_of : Option Version → (Version → List (List ℕ)) → List ℕ
 spelled_of None chunks = []
-spelled_of (Some v) chunks = spelling (chunks v)
+spelled_of (Some v) chunks = plain_spelling (chunks v)
 
 -- the reply to a message that is not refused: these versions are those after it, these parts are finished
 abbrev pub answer : (Part → Bool) → List Version → Option EditorMessage → List ℕ
 answer finished vs None = []
 answer finished [] (Some (asks.Update id text)) = []
-answer finished (v ∷ vs) (Some (asks.Update id text)) = spelling (assign v)
+answer finished (v ∷ vs) (Some (asks.Update id text)) = plain_spelling (assign v)
 answer finished vs (Some (asks.Settle id)) = spelled_of (version_among vs id) settled
 answer finished vs (Some (asks.Snapshot id name)) = spelled_of (version_among vs id) (markup finished)
 
 abbrev pub told : Option ℕ → List ℕ → List ℕ
-told (Some number) other = spelling (refused number)
+told (Some number) other = plain_spelling (refused number)
 told None other = other
 
 -- the reply to a message, where these were the versions and these parts are finished
@@ -97,8 +97,8 @@ dropped p = codes "dropped" ∷ decimal p.exec ∷ part_name p.kind ∷ []
 abbrev pub reply : List Entry → Entry → List ℕ
 reply h (entry.Call message) = reply_to h message
 reply h (entry.Claimed who part) = []
-reply h (entry.Finished who part) = spelling (report h part)
-reply h (entry.Dropped who part) = spelling (dropped part)
+reply h (entry.Finished who part) = plain_spelling (report h part)
+reply h (entry.Dropped who part) = plain_spelling (dropped part)
 reply h entry.Ended = []
 
 -- all that is written, entry by entry in order

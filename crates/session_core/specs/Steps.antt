@@ -14,7 +14,7 @@ use Rattle.session_core.specs.Document.{version_of}
 use Rattle.session_core.specs.Legal.{awaited}
 use Rattle.session_core.specs.Parts.{first_ready, is_settled}
 use Rattle.session_core.specs.Replies.{reply_to, report}
-use Rattle.session_core.specs.Stream.{spelling}
+use Rattle.byte_message.specs.Stream.{plain_spelling}
 use Rattle.session_core.specs.Work.{unfinished, worked}
 
 -- a message is answered, and its reply is written, or a front of it; or it waits for a version that isn't settled
@@ -42,6 +42,6 @@ abbrev pub WorkedSo : List Entry → List Entry → Option (List ℕ) → Option
 WorkedSo h h' held held' done.Nothing =
     (h' ≡ h) × Keeps held held' × (first_ready h ≡ None) × ((id : ℕ) (v : Version) → version_of h id ≡ Some v → is_settled h v ≡ true)
 WorkedSo h h' held held' done.Finished =
-    (p : Part) × (h' ≡ worked p h) × (first_ready h ≡ Some p) × Appends held held' (spelling (report h p)) × (unfinished h' < unfinished h)
+    (p : Part) × (h' ≡ worked p h) × (first_ready h ≡ Some p) × Appends held held' (plain_spelling (report h p)) × (unfinished h' < unfinished h)
 WorkedSo h h' held held' done.WriteFault =
-    (p : Part) × (h' ≡ worked p h) × (first_ready h ≡ Some p) × AppendsFront held held' (spelling (report h p))
+    (p : Part) × (h' ≡ worked p h) × (first_ready h ≡ Some p) × AppendsFront held held' (plain_spelling (report h p))

@@ -9,7 +9,7 @@ ghost use Rattle.session_core.specs.FirstText.{IsShort};
 ghost use Rattle.session_core.specs.Parts.{are_all_finished};
 ghost use Rattle.session_core.specs.Progress.{is_done};
 ghost use Rattle.session_core.specs.Replies.{markup, settled};
-ghost use Rattle.session_core.specs.Stream.{spelling};
+ghost use Rattle.byte_message.specs.Stream.{plain_spelling};
 
 use crate::commands::first_version;
 use crate::editor_message::EditorMessage;
@@ -46,7 +46,7 @@ fn live(version: &Option<Version>, id: VersionId) -> Option<&Version>
 fn markup_bytes(alloc: Global, version: &Version, done: u64) -> Result<Vec<u8>, AllocError>
     requires few { done ≤ 5 }
     requires first { IsFirst version.now }
-    ensures { IfOk result (λ bytes. bytes.items ≡ spelling (markup (is_done done) version.now)) }
+    ensures { IfOk result (λ bytes. bytes.items ≡ plain_spelling (markup (is_done done) version.now)) }
 {
     let commands = version.commands.as_slice();
     let reports = shown_among(alloc, done, commands)?;

@@ -1,5 +1,5 @@
 //! The history's entries.
-use crate::message::Message;
+use byte_message::Message;
 use pide_base::Part;
 
 /// One event of a session. A history is a list of entries.

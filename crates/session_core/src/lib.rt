@@ -12,7 +12,6 @@ mod commands;
 mod editor_message;
 mod entry;
 mod first_text;
-mod message;
 mod order;
 mod progress;
 mod reading;
@@ -21,7 +20,6 @@ mod report;
 mod session;
 mod shown;
 mod sources;
-mod stream;
 mod update;
 mod version;
 mod words;
@@ -31,13 +29,9 @@ pub use command::Command;
 pub use editor_message::EditorMessage;
 pub use entry::Entry;
 pub use first_text::FirstText;
-pub use message::Message;
 pub use report::{Report, ReportKind};
 pub use session::{Session, Taken, Worked};
-pub use stream::read_stream;
 pub use version::{Assigned, Version};
 
-#[cfg(test)]
-mod stream_tests;
 #[cfg(test)]
 mod tests;

@@ -1,16 +1,16 @@
 //! What the editor's messages ask.
-ghost use Rattle.std.specs.Prelude.{◌≡◌, ◌∷◌, [], IfOk, bytes_eq, MatchOption, Some, None, true, false};
+ghost use Rattle.std.specs.Prelude.{◌≡◌, ◌≤◌, IfOk, bytes_eq, MatchOption, Some, None, true, false, length, drop};
 ghost use Rattle.std.specs.Cmp.Lexicographic.{pointwise};
 ghost use Rattle.session_core.specs.FirstText.{is_first_text};
 ghost use Rattle.session_core.specs.declared.editor_message.EditorMessage.TheVariants.{Update, Settle, Snapshot};
-ghost use Rattle.session_core.specs.Reading.{asked, candidate, chunks_of, fitting, is_id, number_of, text_within, with_arguments};
+ghost use Rattle.session_core.specs.Reading.{asked, candidate, chunks_of, fitting, is_id, number_of, text_within};
 
 use crate::editor_message::EditorMessage;
 use crate::first_text::FirstText;
-use crate::message::Message;
 use crate::update::update_body;
 use crate::words::{is_atom, is_name, word};
 use crate::writing::decimal;
+use byte_message::Message;
 use pide_base::{VersionId, is_node_name};
 use sqlite_items::Items;
 use std::alloc::{AllocError, Global};
@@ -49,13 +49,18 @@ fn text_within(alloc: Global, body: &[u8]) -> Result<FirstText, AllocError>
     })
 }
 
-fn is_same(a: &[Items<u8>], b: &[Items<u8>]) -> bool
-    ensures { result ≡ pointwise bytes_eq a.now b.now }
+/// Whether these are the message's chunks from the one of this number on.
+fn is_same_from(chunks: &[Items<u8>], message: &Message, from: usize) -> bool
+    requires { from ≤ length message.now }
+    ensures { result ≡ pointwise bytes_eq chunks.now (drop from message.now) }
 {
-    match (a, b) {
-        ([], []) => true,
-        ([x, xs @ ..], [y, ys @ ..]) => x.as_slice() == y.as_slice() && is_same(xs, ys),
-        _ => false,
+    match chunks {
+        [] => from == message.count(),
+        [chunk, others @ ..] => {
+            from < message.count()
+                && chunk.as_slice() == message.chunk(from)
+                && is_same_from(others, message, from + 1)
+        }
     }
 }
 
@@ -128,28 +133,14 @@ fn snapshot(alloc: Global, version: &[u8], node: &[u8]) -> Result<Option<EditorM
     Ok(Some(EditorMessage::Snapshot { version, node }))
 }
 
-/// The one fit message that a version and these other arguments can be.
-fn with_arguments(
-    alloc: Global,
-    version: &[u8],
-    others: &[Items<u8>],
-) -> Result<Option<EditorMessage>, AllocError>
-    ensures { IfOk result (λ found. found ≡ fitting (with_arguments version.now others.now)) }
+/// The one fit message that this one can be.
+fn candidate(alloc: Global, message: &Message) -> Result<Option<EditorMessage>, AllocError>
+    ensures { IfOk result (λ found. found ≡ fitting (candidate message.now)) }
 {
-    match others {
-        [] => Ok(settle(version)),
-        [body] => update(alloc, version, body.as_slice()),
-        [node, _] => snapshot(alloc, version, node.as_slice()),
-        _ => Ok(None),
-    }
-}
-
-/// The one fit message that these chunks can be.
-fn candidate(alloc: Global, chunks: &[Items<u8>]) -> Result<Option<EditorMessage>, AllocError>
-    ensures { IfOk result (λ found. found ≡ fitting (candidate chunks.now)) }
-{
-    match chunks {
-        [_, version, others @ ..] => with_arguments(alloc, version.as_slice(), others),
+    match message.count() {
+        2 => Ok(settle(message.chunk(1))),
+        3 => update(alloc, message.chunk(1), message.chunk(2)),
+        4 => snapshot(alloc, message.chunk(1), message.chunk(2)),
         _ => Ok(None),
     }
 }
@@ -158,11 +149,10 @@ fn candidate(alloc: Global, chunks: &[Items<u8>]) -> Result<Option<EditorMessage
 pub(crate) fn asked(alloc: Global, message: &Message) -> Result<Option<EditorMessage>, AllocError>
     ensures { IfOk result (λ found. found ≡ asked message.now) }
 {
-    let chunks = message.chunks();
-    let Some(found) = candidate(alloc, chunks)? else {
+    let Some(found) = candidate(alloc, message)? else {
         return Ok(None);
     };
-    if is_same(chunks_of(alloc, &found)?.as_slice(), chunks) {
+    if is_same_from(chunks_of(alloc, &found)?.as_slice(), message, 0) {
         Ok(Some(found))
     } else {
         Ok(None)

@@ -5,7 +5,7 @@ ghost use Rattle.std.specs.List.{concat};
 ghost use Rattle.std.specs.Option.{option_copied};
 ghost use Rattle.session_core.specs.Replies.{assign, assignment_row, markup_of, part_name, part_reports, refused, report_at, report_of, settled};
 ghost use Rattle.session_core.specs.Report.{kind_name, report_body, reports_body};
-ghost use Rattle.session_core.specs.Stream.{spelling};
+ghost use Rattle.byte_message.specs.Stream.{plain_spelling};
 ghost use Rattle.session_core.specs.Yxml.{attribute, list, node, pair};
 
 use crate::command::Command;
@@ -94,7 +94,7 @@ fn reports_body(alloc: Global, reports: &[Report]) -> Result<Items<u8>, AllocErr
 }
 
 fn spelled(alloc: Global, chunks: &[Items<u8>]) -> Result<Vec<u8>, AllocError>
-    ensures { IfOk result (λ bytes. bytes.items ≡ spelling chunks.now) }
+    ensures { IfOk result (λ bytes. bytes.items ≡ plain_spelling chunks.now) }
 {
     let mut bytes = Vec::new(alloc);
     put_spelling(&mut bytes, chunks)?;
@@ -115,7 +115,7 @@ fn number_chunk(alloc: Global, number: u64) -> Result<Items<u8>, AllocError>
 
 /// The refusal of this number.
 pub(crate) fn refused(alloc: Global, number: u64) -> Result<Vec<u8>, AllocError>
-    ensures { IfOk result (λ bytes. bytes.items ≡ spelling (refused number)) }
+    ensures { IfOk result (λ bytes. bytes.items ≡ plain_spelling (refused number)) }
 {
     spelled(
         alloc,
@@ -150,7 +150,7 @@ fn put_assignment(alloc: Global, out: &mut Vec<u8>, commands: &[Assigned]) -> Re
 
 /// The version's assignment: its node with its commands.
 pub(crate) fn assign(alloc: Global, version: &Version) -> Result<Vec<u8>, AllocError>
-    ensures { IfOk result (λ bytes. bytes.items ≡ spelling (assign version.now)) }
+    ensures { IfOk result (λ bytes. bytes.items ≡ plain_spelling (assign version.now)) }
 {
     let mut rows = Vec::new(alloc);
     put_assignment(alloc, &mut rows, version.commands.as_slice())?;
@@ -168,7 +168,7 @@ pub(crate) fn assign(alloc: Global, version: &Version) -> Result<Vec<u8>, AllocE
 
 /// The version is settled, with no stuck execution.
 pub(crate) fn settled(alloc: Global, version: &Version) -> Result<Vec<u8>, AllocError>
-    ensures { IfOk result (λ bytes. bytes.items ≡ spelling (settled version.now)) }
+    ensures { IfOk result (λ bytes. bytes.items ≡ plain_spelling (settled version.now)) }
 {
     spelled(
         alloc,
@@ -199,7 +199,7 @@ pub(crate) fn markup(
     reports: &[Report],
     pending: &[ExecId],
 ) -> Result<Vec<u8>, AllocError>
-    ensures { IfOk result (λ bytes. bytes.items ≡ spelling (markup_of version.now reports.now pending.now)) }
+    ensures { IfOk result (λ bytes. bytes.items ≡ plain_spelling (markup_of version.now reports.now pending.now)) }
 {
     let mut executions = Vec::new(alloc);
     put_numbers(alloc, &mut executions, pending)?;
@@ -259,7 +259,7 @@ pub(crate) fn part_report(
     part: &Part,
 ) -> Result<Vec<u8>, AllocError>
     ensures { IfOk result (λ bytes. bytes.items
-        ≡ spelling (report_at part.now (find (λ a. a.execution == part.now.exec) version.now.commands))) }
+        ≡ plain_spelling (report_at part.now (find (λ a. a.execution == part.now.exec) version.now.commands))) }
 {
     match home(version.commands.as_slice(), part.exec) {
         Some(assigned) => report(alloc, *part, part_reports(part.kind, &assigned.content)),
@@ -269,7 +269,7 @@ pub(crate) fn part_report(
 
 /// What a finished part reports.
 fn report(alloc: Global, part: Part, reports: &[Report]) -> Result<Vec<u8>, AllocError>
-    ensures { IfOk result (λ bytes. bytes.items ≡ spelling (report_of part reports.now)) }
+    ensures { IfOk result (λ bytes. bytes.items ≡ plain_spelling (report_of part reports.now)) }
 {
     spelled(
         alloc,

@@ -14,11 +14,11 @@ ghost use Rattle.session_core.specs.Steps.{ReportedSo, TakenSo, WorkedSo, Writte
 
 use crate::answer::{Answer, answer_to};
 use crate::entry::Entry;
-use crate::message::Message;
 use crate::progress::nth_part;
 use crate::reading::asked;
 use crate::replies::part_report;
 use crate::version::Version;
+use byte_message::Message;
 use pide_base::{Sink, push_whole};
 use std::alloc::{AllocError, Global};
 use std::marker::Model;

@@ -1,21 +1,22 @@
 //! The definitions, computed on the worked example, and a session that plays it.
-ghost use Rattle.std.specs.Prelude.{◌≡◌, ℕ, [], ◌∷◌, false, Some};
+ghost use Rattle.std.specs.Prelude.{◌≡◌, ℕ, [], ◌∷◌, ◌++◌, false, Some};
 ghost use Rattle.session_core.specs.declared.entry.Entry.TheVariants.{Ended};
 ghost use Rattle.session_core.specs.Alone.{IsAlone};
 ghost use Rattle.session_core.specs.Document.{versions, first_version};
 ghost use Rattle.session_core.specs.Example.{update_message, settle_message, snapshot_message, sent, updated, worked, answered, written, refused_messages, refusals_written};
 ghost use Rattle.session_core.specs.Legal.{IsLegal, has_ended};
 ghost use Rattle.session_core.specs.Replies.{replies};
-ghost use Rattle.session_core.specs.Stream.{stream};
+ghost use Rattle.byte_message.specs.Stream.{plain_spelling};
 
-use crate::{Message, Session, Taken};
+use crate::{Session, Taken};
+use byte_message::{Frames, Message};
 use pide_base::{Pushed, Sink};
-use sqlite_items::Items;
-use std::alloc::{AllocError, Global};
+use std::alloc::Global;
 use std::test::Fail;
 
 fn the_three_messages_are_spelled_as_sent()
-    ensures { stream (update_message ∷ settle_message ∷ snapshot_message ∷ []) ≡ sent }
+    ensures { plain_spelling update_message ++ plain_spelling settle_message
+        ++ plain_spelling snapshot_message ≡ sent }
 {}
 
 fn the_history_calls_for_eight_replies()
@@ -49,9 +50,9 @@ fn the_definitions_give_the_worked_example() {
 const WRITTEN: &[u8] =
     b"6,1,142\nassign1\x05\x06:\x05\x05\x06:\x05A\x05\x06\x05\x05\x06:\x05\x05\x06:\x05\x05\x06:\x051\x05\x06\x05\x05\x06:\x05\x05\x06:\x051\x05\x06\x05\x05\x06\x05\x05\x06\x05\x05\x06:\x05\x05\x06:\x052\x05\x06\x05\x05\x06:\x05\x05\x06:\x052\x05\x06\x05\x05\x06\x05\x05\x06\x05\x05\x06:\x05\x05\x06:\x053\x05\x06\x05\x05\x06:\x05\x05\x06:\x053\x05\x06\x05\x05\x06\x05\x05\x06\x05\x05\x06:\x05\x05\x06:\x054\x05\x06\x05\x05\x06:\x05\x05\x06:\x054\x05\x06\x05\x05\x06\x05\x05\x06\x05\x05\x06\x05\x05\x06\x056,1,4,88\nreport1eval\x05\x06command\x06offset=0\x06end_offset=6\x06name=theory\x05\x05\x06\x05\x05\x06theory\x06offset=7\x06end_offset=8\x06name=A\x05\x05\x06\x056,1,4,136\nreport2eval\x05\x06command\x06offset=0\x06end_offset=5\x06name=lemma\x05\x05\x06\x05\x05\x06def\x06offset=6\x06end_offset=7\x06theory=A\x06name=l\x05\x05\x06\x05\x05\x06formula\x06offset=9\x06end_offset=18\x05P --> P\x05\x06\x056,1,4,43\nreport3eval\x05\x06command\x06offset=0\x06end_offset=2\x06name=by\x05\x05\x06\x056,1,4,44\nreport4eval\x05\x06command\x06offset=0\x06end_offset=3\x06name=end\x05\x05\x06\x056,1,4,75\nreport3fork\x05\x06proved\x06offset=0\x06end_offset=13\x05\x05\x06\x05\x05\x06ref\x06offset=11\x06end_offset=12\x06name=h\x05\x05\x06\x057,1,0\nsettled16,1,1,396,0,1\nmarkup1A\x05\x06command\x06offset=0\x06end_offset=6\x06name=theory\x05\x05\x06\x05\x05\x06theory\x06offset=7\x06end_offset=8\x06name=A\x05\x05\x06\x05\x05\x06command\x06offset=15\x06end_offset=20\x06name=lemma\x05\x05\x06\x05\x05\x06def\x06offset=21\x06end_offset=22\x06theory=A\x06name=l\x05\x05\x06\x05\x05\x06formula\x06offset=24\x06end_offset=33\x05P --> P\x05\x06\x05\x05\x06proved\x06offset=34\x06end_offset=47\x05\x05\x06\x05\x05\x06command\x06offset=34\x06end_offset=36\x06name=by\x05\x05\x06\x05\x05\x06ref\x06offset=45\x06end_offset=46\x06name=h\x05\x05\x06\x05\x05\x06command\x06offset=48\x06end_offset=51\x06name=end\x05\x05\x06\x050";
 
-/// The update's argument in the worked example.
-const UPDATE_BODY: &[u8] =
-    b"\x05\x06:\x05\x05\x06:\x05A\x05\x06\x05\x05\x06:\x05\x05\x060\x05\x05\x06:\x05\x05\x06:\x05\x05\x060\x060=0\x05theory A begin lemma l: \"P --> P\" by (impI h h) end\x05\x06\x05\x05\x06\x05\x05\x06\x05\x05\x06:\x05\x05\x06:\x05\x05\x06:\x051\x05\x06\x05\x05\x06:\x05\x05\x06\x05\x05\x06\x05\x05\x06\x05\x05\x06\x05\x05\x06\x05\x05\x06\x05";
+/// The update of the worked example.
+const UPDATE: &[u8] =
+    b"14,1,134\nSession.update1\x05\x06:\x05\x05\x06:\x05A\x05\x06\x05\x05\x06:\x05\x05\x060\x05\x05\x06:\x05\x05\x06:\x05\x05\x060\x060=0\x05theory A begin lemma l: \"P --> P\" by (impI h h) end\x05\x06\x05\x05\x06\x05\x05\x06\x05\x05\x06:\x05\x05\x06:\x05\x05\x06:\x051\x05\x06\x05\x05\x06:\x05\x05\x06\x05\x05\x06\x05\x05\x06\x05\x05\x06\x05\x05\x06\x05\x05\x06\x05";
 
 /// Keeps all that it is given.
 #[derive(Drop)]
@@ -74,21 +75,20 @@ impl Sink for Page {
     }
 }
 
-fn message(alloc: Global, chunks: &[&[u8]]) -> Result<Message, AllocError> {
-    let mut items = Vec::new(alloc);
-    for chunk in chunks {
-        items.push(Items::from_slice(alloc, chunk)?)?;
-    }
-    Ok(Message::new(Items::from_vec(items)))
+/// The message that these bytes spell.
+fn message(alloc: Global, bytes: &[u8]) -> Result<Message, Fail> {
+    let mut frames = Frames::new(alloc);
+    frames.feed(bytes)?;
+    Ok(frames.next().ok_or("a message")?)
 }
 
 /// Takes a message, working until its version is settled.
-fn serve(alloc: Global, session: &mut Session<Page>, chunks: &[&[u8]]) -> Result<bool, AllocError>
+fn serve(alloc: Global, session: &mut Session<Page>, bytes: &[u8]) -> Result<bool, Fail>
     requires { has_ended session.old.0 ≡ false }
     ensures { has_ended session.new.0 ≡ false }
 {
     'turns: for _ in 0..6 {
-        match session.take(alloc, message(alloc, chunks)?)? {
+        match session.take(alloc, message(alloc, bytes)?)? {
             Taken::Replied => return Ok(true),
             Taken::WriteFault => return Ok(false),
             Taken::Waits(_) => {
@@ -107,13 +107,13 @@ fn a_session_writes_the_eight_replies_and_then_four_refusals(rt: HostRuntime) ->
         faults: 0,
     };
     let mut session = Session::new(alloc, page).ok().ok_or("a session")?;
-    assert!(rt; serve(alloc, &mut session, &[b"Session.update", b"1", UPDATE_BODY])?);
-    assert!(rt; serve(alloc, &mut session, &[b"Session.settle", b"1"])?);
-    assert!(rt; serve(alloc, &mut session, &[b"Session.snapshot", b"1", b"A", b""])?);
-    assert!(rt; serve(alloc, &mut session, &[b"Session.settle", b"2"])?);
-    assert!(rt; serve(alloc, &mut session, &[b"Session.snapshot", b"1", b"B", b""])?);
-    assert!(rt; serve(alloc, &mut session, &[b"Session.update", b"1", UPDATE_BODY])?);
-    assert!(rt; serve(alloc, &mut session, &[b"Foo"])?);
+    assert!(rt; serve(alloc, &mut session, UPDATE)?);
+    assert!(rt; serve(alloc, &mut session, b"14,1\nSession.settle1")?);
+    assert!(rt; serve(alloc, &mut session, b"16,1,1,0\nSession.snapshot1A")?);
+    assert!(rt; serve(alloc, &mut session, b"14,1\nSession.settle2")?);
+    assert!(rt; serve(alloc, &mut session, b"16,1,1,0\nSession.snapshot1B")?);
+    assert!(rt; serve(alloc, &mut session, UPDATE)?);
+    assert!(rt; serve(alloc, &mut session, b"3\nFoo")?);
     session.end();
     let (page, history) = session.into_parts();
     let mut expected = Vec::from_slice(alloc, WRITTEN)?;

@@ -2,7 +2,7 @@
 ghost use Rattle.std.specs.Prelude.{◌≡◌, [], ◌∷◌, ◌++◌, OnOk, IfOk, length, map};
 ghost use Rattle.std.specs.Fmt.{decimal};
 ghost use Rattle.std.specs.List.{concat, join_with_byte};
-ghost use Rattle.session_core.specs.Stream.{header_line, spelling};
+ghost use Rattle.byte_message.specs.Stream.{plain_spelling};
 ghost use Rattle.session_core.specs.Yxml.{attribute, node, pair, list};
 
 use itoa::Buffer;
@@ -117,7 +117,7 @@ fn put_chunks(out: &mut Vec<u8>, chunks: &[Items<u8>]) -> Result<(), AllocError>
 
 /// A message: its header line, and its chunks.
 pub(crate) fn put_spelling(out: &mut Vec<u8>, chunks: &[Items<u8>]) -> Result<(), AllocError>
-    ensures { OnOk result (out.new.items ≡ out.old.items ++ spelling chunks.now) }
+    ensures { OnOk result (out.new.items ≡ out.old.items ++ plain_spelling chunks.now) }
 {
     put_lengths(out, chunks)?;
     out.push(b'\n')?;

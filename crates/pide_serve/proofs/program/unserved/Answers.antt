@@ -7,6 +7,6 @@ use Rattle.pide_serve.proofs.program.unserved.Goals as goal
 
 pub returns-clause-run : goal.returns-clause-run
 returns-clause-run g c =
-    λ before taken took.
-    subst (λ (items : List Entry). IsRun c.args.status before (g.S.Source.left c.args.source) (g.K.Sink.contents c.args.sink) (g.K.Sink.contents c.args.sink) (reverse items))
-    (sym c.new.ensures.items) (unserved-run before _ _ taken took c.args.status c.requires)
+    let left = g.S.Source.left c.args.source in
+    let held = g.K.Sink.contents c.args.sink in
+    subst (λ (items : List Entry). IsRun c.args.status left left held held (reverse items)) (sym c.new.ensures.items) (unserved-run left held c.args.status c.requires)

@@ -8,7 +8,7 @@ use Rattle.session_core.specs.Kept.{IsKept}
 use Rattle.session_core.specs.Work.{worked}
 use Rattle.session_core.specs.Progress.{nth_part}
 use Rattle.session_core.specs.Replies.{report_at}
-use Rattle.session_core.specs.Stream.{spelling}
+use Rattle.byte_message.specs.Stream.{plain_spelling}
 use Rattle.session_core.proofs.Reporting.{found_in, recorded_two, work-kept, worked-so}
 use Rattle.session_core.proofs.session.Session.work.Goals as goal
 
@@ -33,5 +33,5 @@ returns-clause-ok g c =
     let grown : c.write_report.new.self.0 ≡ worked (nth_part c.self.inside.done) (reverse c.self.inside.history.items) =
     c.write_report.ensures.history ∙ recorded_two _ _ _ c.nth_part-part.result claimed c.record-2.ensures.items
     ∙ ap (λ (p : Part). worked p (reverse c.self.inside.history.items)) c.nth_part-part.ensures in
-    let made = c.as_slice.ensures.value ∙ c.in_ok-bytes.ensures ∙ ap (λ (p : Part). spelling (report_at p (found_in c.in-Some.live.commands p.exec))) c.nth_part-part.ensures in
+    let made = c.as_slice.ensures.value ∙ c.in_ok-bytes.ensures ∙ ap (λ (p : Part). plain_spelling (report_at p (found_in c.in-Some.live.commands p.exec))) c.nth_part-part.ensures in
     rw (← c.self.view_is) (worked-so c.write_report.result _ _ c.in-Some.live c.self.inside.done _ _ _ kept more grown made c.write_report.ensures.written)
