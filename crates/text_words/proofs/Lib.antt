@@ -1,0 +1,5 @@
+pub mod KnownTests
+pub mod KnownIdentifiers
+pub mod KnownFronts
+pub mod KnownPieces
+pub mod KnownLists

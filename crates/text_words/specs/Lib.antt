@@ -1,0 +1,4 @@
+pub mod Blanks
+pub mod Identifier
+pub mod Longest
+pub mod Pieces
