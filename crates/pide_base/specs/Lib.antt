@@ -1,5 +1,5 @@
 pub mod Exit
 pub mod Faults
-pub mod Identifier
 pub mod Ids
 pub mod Moves
+pub mod NodeName

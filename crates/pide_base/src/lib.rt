@@ -6,6 +6,7 @@
 //! It must not know of messages, documents, the language, threads or the real streams.
 #![tactic(auto)]
 
+mod flag;
 mod gate;
 mod ids;
 mod node_name;
@@ -17,9 +18,10 @@ mod source;
 mod status;
 mod stop;
 
+pub use flag::Flag;
 pub use gate::{Gate, Point};
 pub use ids::{CommandId, ExecId, VersionId};
-pub use node_name::{NodeName, is_identifier, is_node_name};
+pub use node_name::{NodeName, is_node_name};
 pub use part::{Part, PartKind};
 pub use push_all::push_whole;
 pub use range::Range;
@@ -27,6 +29,3 @@ pub use sink::{Pushed, Sink};
 pub use source::{Pulled, Source};
 pub use status::Status;
 pub use stop::Stop;
-
-#[cfg(test)]
-mod tests;

@@ -1,18 +1,18 @@
 //! Names of nodes. A contract sees one as its bytes.
 ghost use Rattle.std.specs.Prelude.{◌≡◌, ◌↔◌, IsTrue, IsOk, IfOk, IfErr, IfSome, Some, refl};
 ghost use Rattle.std.specs.String.{string_bytes};
-ghost use Rattle.std.specs.List.{list_all};
 ghost use Rattle.std.specs.Ordering.{nat_cmp};
 ghost use Rattle.std.specs.Cmp.{partial_equiv_from_equiv};
 ghost use Rattle.std.specs.Cmp.Lexicographic.{pointwise, slice_cmp, nat_list_eq_equiv, nat_list_cmp_total, texts_ties, texts_po};
 ghost use Rattle.std.specs.Prelude.{nat_eq};
-ghost use Rattle.pide_base.specs.Identifier.{is_identifier_part, is_identifier, is_node_name};
+ghost use Rattle.pide_base.specs.NodeName.{is_node_name};
 
 use std::alloc::{AllocError, Global};
 use std::cmp::Ordering;
 use std::convert::AsStr;
 use std::fmt;
 use std::marker::Model;
+use text_words::is_identifier;
 
 /// The most characters of a node's name.
 const MOST_CHARACTERS: usize = 64;
@@ -26,35 +26,13 @@ pub struct NodeName {
 impl Model for NodeName {
     ghost use Rattle.std.specs.Prelude.{ℕ, List, IsTrue};
     ghost use Rattle.std.specs.String.{string_bytes};
-    ghost use Rattle.pide_base.specs.Identifier.{is_node_name};
+    ghost use Rattle.pide_base.specs.NodeName.{is_node_name};
 
     ghost Value = { List ℕ };
 
     ghost view = { λ name. string_bytes name.text };
 
     ghost invariant = { λ name. IsTrue (is_node_name (string_bytes name.text)) };
-}
-
-fn is_identifier_part(byte: u8) -> bool
-    ensures { result ≡ is_identifier_part byte }
-{
-    byte.is_ascii_alphanumeric() || byte == b'_' || byte == b'\''
-}
-
-fn are_identifier_parts(bytes: &[u8]) -> bool
-    ensures { result ≡ list_all is_identifier_part bytes.now }
-{
-    bytes.iter().all(|byte| is_identifier_part(*byte))
-}
-
-/// Whether the bytes are an identifier: a letter, then letters, digits, `_` and `'`.
-pub fn is_identifier(bytes: &[u8]) -> bool
-    ensures { result ≡ is_identifier bytes.now }
-{
-    match bytes {
-        [first, rest @ ..] => first.is_ascii_alphabetic() && are_identifier_parts(rest),
-        [] => false,
-    }
 }
 
 /// Whether the bytes are a node's name: an identifier of at most 64 characters.

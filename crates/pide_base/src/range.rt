@@ -1,8 +1,10 @@
 //! Ranges of a text.
 
-/// A range of scalars of a text, counted from 0: `start` is the first, `stop` the one after the last.
+/// A range of scalars of a text, counted from 0.
 #[derive(Clone, Copy, Debug, PartialEq, Eq, PartialOrd, Ord, Hash)]
 pub struct Range {
+    /// The first scalar.
     pub start: usize,
+    /// The one after the last.
     pub stop: usize,
 }

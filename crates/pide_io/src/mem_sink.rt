@@ -25,19 +25,32 @@ impl Model for MemSink {
 
     ghost Value = { SinkState };
 
-    ghost view = { λ k. record { contents = k.bytes.items; room = k.room; fails = k.fails.items; calls = k.calls; faults = k.faults } };
+    ghost view = { λ k. record {
+      contents = k.bytes.items;
+      room = k.room;
+      fails = k.fails.items;
+      calls = k.calls;
+      faults = k.faults;
+    } };
 
     ghost invariant = { λ k. vec_len k.bytes + k.room ≤ vec_capacity k.bytes };
 }
 
 impl MemSink {
-    /// An empty sink with room for so many bytes. Where there is no memory, the list is handed back.
+    /// An empty sink with room for so many bytes. Where there is no memory, the list is handed
+    /// back.
     pub fn new(
         alloc: Global,
         room: usize,
         fails: Vec<u64>,
     ) -> Result<MemSink, AllocFailed<Vec<u64>>>
-        ensures ok { IfOk result (λ sink. sink ≡ record { contents = []; room = room; fails = fails.items; calls = 0; faults = 0 }) }
+        ensures ok { IfOk result (λ sink. sink ≡ record {
+          contents = [];
+          room = room;
+          fails = fails.items;
+          calls = 0;
+          faults = 0;
+        }) }
         ensures err { IfErr result (λ failed. failed.value ≡ fails) }
     {
         match Vec::with_capacity(alloc, room) {

@@ -25,7 +25,13 @@ impl Model for MemSource {
 
     ghost Value = { SourceState };
 
-    ghost view = { λ s. record { left = drop s.at s.bytes.items; piece = s.piece; fails = s.fails.items; calls = s.calls; faults = s.faults } };
+    ghost view = { λ s. record {
+      left = drop s.at s.bytes.items;
+      piece = s.piece;
+      fails = s.fails.items;
+      calls = s.calls;
+      faults = s.faults;
+    } };
 
     ghost invariant = { λ s. (s.at ≤ vec_len s.bytes) × (0 < s.piece) };
 }
@@ -34,7 +40,13 @@ impl MemSource {
     /// A source of these bytes, none of which is pulled yet.
     pub fn new(bytes: Vec<u8>, piece: usize, fails: Vec<u64>) -> MemSource
         requires { 0 < piece }
-        ensures { result ≡ record { left = bytes.items; piece = piece; fails = fails.items; calls = 0; faults = 0 } }
+        ensures { result ≡ record {
+          left = bytes.items;
+          piece = piece;
+          fails = fails.items;
+          calls = 0;
+          faults = 0;
+        } }
     {
         MemSource {
             bytes,
@@ -47,6 +59,7 @@ impl MemSource {
     }
 }
 
+/// Moves the first bytes of what is left to the front of the buffer.
 fn copy_front(buffer: &mut [u8], left: &[u8], count: usize)
     requires fits { count ≤ length buffer.old }
     requires enough { count ≤ length left.now }

@@ -5,7 +5,8 @@ use pide_base::{Pulled, Source};
 use std::io::Read;
 use std::marker::Model;
 
-/// The bytes of a reader, as standard input is. It tells no content, and counts the reader's errors.
+/// The bytes of a reader, as standard input is. It tells no content, and counts the reader's
+/// errors.
 #[derive(Drop)]
 pub struct StdSource<R> {
     reader: R,

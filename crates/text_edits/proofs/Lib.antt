@@ -1,3 +1,3 @@
-pub mod EditLemmas
-pub mod MovedLemmas
-pub mod OffsetLemmas
+mod EditLemmas
+mod MovedLemmas
+mod OffsetLemmas

@@ -5,25 +5,25 @@ use Rattle.std.specs.List.{slice_get}
 use Rattle.text_edits.specs.declared.edit.Edit.{Edit}
 use Rattle.text_edits.specs.declared.edit.Edit.TheVariants.{Insert, Remove}
 use Rattle.text_edits.specs.Edits.{Applies, AppliesList}
-use Rattle.text_edits.specs.Kept.{Keeps, KeepsList}
+use Rattle.text_edits.specs.Kept.{KeepsAt, KeepsAllAt}
 use Rattle.text_edits.specs.Offsets.{convert, revert, convert_list, revert_list}
 
-pub moved : (edit : Edit) (before after : List ℕ) (i : ℕ) → Applies edit before after → Keeps edit i
+pub moved : (edit : Edit) (before after : List ℕ) (i : ℕ) → Applies edit before after → KeepsAt edit i
     → slice_get after (convert edit i) ≡ slice_get before i
 moved (Insert start x) before after i h k = grind (arith, elements)
 moved (Remove start x) before after i h k = grind (arith, elements)
 
-pub moved_through : (edits : List Edit) (before after : List ℕ) (i : ℕ) → AppliesList edits before after → KeepsList edits i
+pub moved_through : (edits : List Edit) (before after : List ℕ) (i : ℕ) → AppliesList edits before after → KeepsAllAt edits i
     → slice_get after (convert_list edits i) ≡ slice_get before i
 moved_through [] before after i h k = ap (λ text. slice_get text i) h
 moved_through (e ∷ es) before after i (between, one, rest) (k, ks) =
     moved_through es between after (convert e i) rest ks ∙ moved e before between i one k
 
-pub undone : (edit : Edit) (i : ℕ) → Keeps edit i → revert edit (convert edit i) ≡ i
+pub undone : (edit : Edit) (i : ℕ) → KeepsAt edit i → revert edit (convert edit i) ≡ i
 undone (Insert start x) i k = search rules
 undone (Remove start x) i k = search rules
 
-pub undone_through : (edits : List Edit) (i : ℕ) → KeepsList edits i → revert_list edits (convert_list edits i) ≡ i
+pub undone_through : (edits : List Edit) (i : ℕ) → KeepsAllAt edits i → revert_list edits (convert_list edits i) ≡ i
 undone_through [] i k = refl
 undone_through (e ∷ es) i (k, ks) = ap (revert e) (undone_through es (convert e i) ks) ∙ undone e i k
 

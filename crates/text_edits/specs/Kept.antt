@@ -6,11 +6,11 @@ use Rattle.text_edits.specs.Offsets.{convert}
 
 -- the edit keeps what stands at the place: an insert all, a remove what is outside of its text
 -- (this project's own)
-abbrev pub Keeps : Edit → ℕ → Type 0
-Keeps (Insert start x) i = Unit {0}
-Keeps (Remove start x) i = (i < start) ⊎ (start + length x ≤ i)
+abbrev pub KeepsAt : Edit → ℕ → Type 0
+KeepsAt (Insert start x) i = Unit {0}
+KeepsAt (Remove start x) i = (i < start) ⊎ (start + length x ≤ i)
 
 -- each of the edits keeps it, where the ones before have moved it (this project's own)
-abbrev pub KeepsList : List Edit → ℕ → Type 0
-KeepsList [] i = Unit {0}
-KeepsList (e ∷ es) i = Keeps e i × KeepsList es (convert e i)
+abbrev pub KeepsAllAt : List Edit → ℕ → Type 0
+KeepsAllAt [] i = Unit {0}
+KeepsAllAt (e ∷ es) i = KeepsAt e i × KeepsAllAt es (convert e i)

@@ -3,7 +3,7 @@ ghost use Rattle.std.specs.Prelude.{◌≡◌, ℕ, ◌≤◌, List, length};
 ghost use Rattle.std.specs.List.{slice_get};
 ghost use Rattle.text_edits.specs.declared.edit.Edit.{Edit};
 ghost use Rattle.text_edits.specs.Edits.{Applies, AppliesList};
-ghost use Rattle.text_edits.specs.Kept.{Keeps, KeepsList};
+ghost use Rattle.text_edits.specs.Kept.{KeepsAt, KeepsAllAt};
 ghost use Rattle.text_edits.specs.Offsets.{convert, revert, exchanged, convert_list, revert_list};
 
 /// An edit turns a text into one text alone, and one text alone into a text.
@@ -18,21 +18,21 @@ pub fn one_result()
 /// in stood in the text before it at the reverted place. Through a list of edits too.
 pub fn a_kept_scalar_is_moved()
     ensures converted { (edit : Edit) (before after : List ℕ) (i : ℕ)
-        → Applies edit before after → Keeps edit i
+        → Applies edit before after → KeepsAt edit i
         → slice_get after (convert edit i) ≡ slice_get before i }
     ensures reverted { (edit : Edit) (before after : List ℕ) (i : ℕ)
-        → Applies edit before after → Keeps (exchanged edit) i
+        → Applies edit before after → KeepsAt (exchanged edit) i
         → slice_get before (revert edit i) ≡ slice_get after i }
     ensures through { (edits : List Edit) (before after : List ℕ) (i : ℕ)
-        → AppliesList edits before after → KeepsList edits i
+        → AppliesList edits before after → KeepsAllAt edits i
         → slice_get after (convert_list edits i) ≡ slice_get before i }
 {}
 
 /// A place that edits keep is reverted to itself: for an insert each place, for a remove each place
 /// below its start and from its end on.
 pub fn revert_undoes_convert()
-    ensures one { (edit : Edit) (i : ℕ) → Keeps edit i → revert edit (convert edit i) ≡ i }
-    ensures through { (edits : List Edit) (i : ℕ) → KeepsList edits i
+    ensures one { (edit : Edit) (i : ℕ) → KeepsAt edit i → revert edit (convert edit i) ≡ i }
+    ensures through { (edits : List Edit) (i : ℕ) → KeepsAllAt edits i
         → revert_list edits (convert_list edits i) ≡ i }
 {}
 

@@ -12,8 +12,6 @@ mod edit;
 mod fault;
 mod laws;
 mod offsets;
-#[cfg(test)]
-mod tests;
 mod text;
 
 pub use change::apply;
