@@ -9,11 +9,11 @@ use Rattle.byte_message.specs.Feeding.{Continues}
 use Rattle.byte_message.specs.declared.line_fault.LineFault.{LineFault}
 use Rattle.byte_message.specs.declared.frame_fault.FrameFault.{FrameFault}
 use Rattle.byte_message.proofs.Headings.{faulty-more}
-use Rattle.byte_message.specs.Kept.{Framing, Reached, Keeps, Stands, Advances}
+use Rattle.byte_message.specs.Kept.{Framing, Reached, KeepsRest, Stands, Advances}
 use Rattle.byte_message.proofs.Reaching.{reached-same, reached-one, reached-then, reached-longer, reached-after}
 
 -- the same of a rest that is kept
-kept_same : (old : Framing) (at : ℕ) (rest : List ℕ) → old.fault ≡ None → Keeps old.fault at rest old.rest → rest ≡ old.rest
+kept_same : (old : Framing) (at : ℕ) (rest : List ℕ) → old.fault ≡ None → KeepsRest old.fault at rest old.rest → rest ≡ old.rest
 kept_same old at rest e k = (rw e at k).0
 
 pub advanced : (old new : Framing) (piece stream : List ℕ) (taken : List (List (List ℕ))) → old.fault ≡ None → Stands stream taken old → Advances old piece new → Stands (stream ++ piece) taken new
@@ -55,7 +55,7 @@ turns-bad old piece wrong fault n bad at = record {
 -- the message in progress is whole, and what follows was read
 pub reads-on : (old new : Framing) (piece front after rest : List ℕ) (m : List (List ℕ)) (before made : List (List (List ℕ))) (from to : ℕ) (kept : List ℕ) (fault : Option FrameFault)
     → old.rest ++ piece ≡ front ++ after → IsSpelling front m → from ≡ told (old.at + length front) → before ≡ m ∷ []
-    → Reached before from after made to rest → Keeps fault to rest kept
+    → Reached before from after made to rest → KeepsRest fault to rest kept
     → new.waiting ≡ old.waiting ++ made → new.at ≡ to → new.rest ≡ kept → new.fault ≡ fault
     → Advances old piece new
 reads-on old new piece front after rest m before made from to kept fault split one place first reached keeps waiting at same bad =
@@ -73,8 +73,8 @@ reads-on old new piece front after rest m before made from to kept fault split o
 -- a fault stays the first
 pub stays-bad : (old : Framing) (fault : FrameFault) (piece : List ℕ) → old.fault ≡ Some fault → Continues old piece old
 stays-bad old fault piece e = λ stream taken s.
-    let k : Keeps (Some fault) old.at s.rest old.rest = rw e at s.kept in
-    let still : Keeps (Some fault) old.at (s.rest ++ piece) old.rest = (k.0, faulty-more s.rest piece k.0 k.1, k.2) in
+    let k : KeepsRest (Some fault) old.at s.rest old.rest = rw e at s.kept in
+    let still : KeepsRest (Some fault) old.at (s.rest ++ piece) old.rest = (k.0, faulty-more s.rest piece k.0 k.1, k.2) in
     record { rest = s.rest ++ piece; reached = reached-longer piece s.reached; kept = rw e still }
 
 pub continues : (old new : Framing) (piece : List ℕ) → old.fault ≡ None → Advances old piece new → Continues old piece new

@@ -5,7 +5,7 @@ mod Cutting
 mod Reaching
 mod Spelled
 mod Advancing
-pub mod Ending
+pub mod KnownEndings
 mod Numbers
 mod Written
-pub mod Longer
+pub mod KnownLonger

@@ -7,7 +7,8 @@ use Rattle.byte_message.specs.Line.{is_digit, too_long, judge, judge_numbers}
 use Rattle.byte_message.specs.Heading.{heading, judged, after_line}
 use Rattle.byte_message.specs.Stream.{IsMessage, IsSpelling, plain_spelling}
 use Rattle.byte_message.proofs.Headings.{heading-line}
-use Rattle.byte_message.proofs.Numbers.{both_true, IsPlain, digit_range, line_for, Fine, digits, numbers-line, line_len}
+use Rattle.text_words.proofs.KnownTests.{both-parts}
+use Rattle.byte_message.proofs.Numbers.{IsPlain, digit_range, line_for, Fine, digits, numbers-line, line_len}
 
 -- a line that is written has no newline, and no CR at its end
 plain_byte : (b : ℕ) → IsPlain b → ((b == 10) ≡ false) × ((b == 13) ≡ false)
@@ -16,7 +17,7 @@ plain_byte b (inr e) = let r = digit_range b e in (grind (arith, r.0), grind (ar
 
 plain_digits : (ds : List ℕ) → list_all is_digit ds ≡ true → AllByRecursion IsPlain ds
 plain_digits [] e = tt
-plain_digits (d ∷ ds) e = let p = both_true (is_digit d) (list_all is_digit ds) e in (inr p.0, plain_digits ds p.1)
+plain_digits (d ∷ ds) e = let p = both-parts (is_digit d) (list_all is_digit ds) e in (inr p.0, plain_digits ds p.1)
 
 plain_append : (xs ys : List ℕ) → AllByRecursion IsPlain xs → AllByRecursion IsPlain ys → AllByRecursion IsPlain (xs ++ ys)
 plain_append [] ys p q = q

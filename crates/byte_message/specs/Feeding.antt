@@ -31,6 +31,7 @@ ending_by (Some fault) at rest = Bad fault
 ending_by None at [] = Whole
 ending_by None at (b ∷ rest) = Short at
 
+-- how the stream that a decoder has read ends
 abbrev pub ending_of : Framing → Ending
 ending_of now = ending_by now.fault now.at now.rest
 

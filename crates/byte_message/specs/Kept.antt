@@ -25,9 +25,9 @@ pub record Reached (before : List (List (List ℕ))) (from : ℕ) (bytes : List 
   pub place : to ≡ told (from + length front)
 
 -- a rest is kept, less than a message, or judged as a fault
-abbrev pub Keeps : Option FrameFault → ℕ → List ℕ → List ℕ → Type 0
-Keeps None at rest kept = (rest ≡ kept) × IsShort rest
-Keeps (Some fault) at rest kept =
+abbrev pub KeepsRest : Option FrameFault → ℕ → List ℕ → List ℕ → Type 0
+KeepsRest None at rest kept = (rest ≡ kept) × IsShort rest
+KeepsRest (Some fault) at rest kept =
     (wrong : LineFault) × (heading rest ≡ Faulty wrong) × (fault ≡ placed at wrong)
 
 -- the decoder has read this stream, and handed out the messages that were taken: those that
@@ -35,7 +35,7 @@ Keeps (Some fault) at rest kept =
 pub record Stands (stream : List ℕ) (taken : List (List (List ℕ))) (now : Framing) : Type 0 where
   pub rest : List ℕ
   pub reached : Reached [] 0 stream (taken ++ now.waiting) now.at rest
-  pub kept : Keeps now.fault now.at rest now.rest
+  pub kept : KeepsRest now.fault now.at rest now.rest
 
 -- one piece more, and messages made of it
 pub record Advances (old : Framing) (piece : List ℕ) (new : Framing) : Type 0 where
@@ -43,4 +43,4 @@ pub record Advances (old : Framing) (piece : List ℕ) (new : Framing) : Type 0 
   pub rest : List ℕ
   pub reached : Reached [] old.at (old.rest ++ piece) made new.at rest
   pub waiting : new.waiting ≡ old.waiting ++ made
-  pub kept : Keeps new.fault new.at rest new.rest
+  pub kept : KeepsRest new.fault new.at rest new.rest

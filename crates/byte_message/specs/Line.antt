@@ -1,6 +1,7 @@
 -- A header line: which lines are fit, and what is wrong with the others.
 use Rattle.std.specs.Prelude.{◌==◌, ℕ, ◌+◌, ◌-◌, ◌*◌, Bool, false, cond, nat_lt, nat_le, ◌&&◌, List, [], ◌∷◌, length, take, map, Option, Some, None, option_map, Result, Ok, Err}
 use Rattle.std.specs.List.{list_all, slice_index_or}
+use Rattle.byte_message.specs.Limits.{longest_line, most_chunks, longest_chunk}
 use Rattle.byte_message.specs.declared.line_fault.LineFault.{LineFault}
 use Rattle.byte_message.specs.declared.line_fault.LineFault.TheVariants.{BadHeader, TooMany, TooLong}
 
@@ -38,24 +39,27 @@ abbrev pub without_cr : List ℕ → List ℕ
 without_cr line =
     cond (slice_index_or line (length line - 1) 0 == 13) (take (length line - 1) line) line
 
--- the place of the first chunk of more than 2^24 bytes
+-- the place of the first chunk that is too long
 abbrev pub too_long : List ℕ → Option ℕ
 too_long [] = None
 too_long (n ∷ lengths) =
-    cond (nat_lt 16777216 n) (Some 0) (option_map (λ chunk. chunk + 1) (too_long lengths))
+    cond (nat_lt longest_chunk n) (Some 0) (option_map (λ chunk. chunk + 1) (too_long lengths))
 
+-- so many chunks, of which none or this one is too long
 abbrev pub judge_lengths : List ℕ → Option ℕ → Result (List ℕ) LineFault
 judge_lengths lengths None = Ok lengths
 judge_lengths lengths (Some chunk) = Err (TooLong chunk)
 
+-- the numbers of a line, if it has nothing else: at most so many chunks, none too long
 abbrev pub judge_numbers : Option (List ℕ) → Result (List ℕ) LineFault
 judge_numbers None = Err BadHeader
-judge_numbers (Some lengths) = cond (nat_lt 16 (length lengths))
+judge_numbers (Some lengths) = cond (nat_lt most_chunks (length lengths))
     (Err (TooMany (length lengths))) (judge_lengths lengths (too_long lengths))
 
--- the lengths of the chunks that a line names, or the first thing that is wrong with it: more
--- than 200 bytes, or no decimal numbers joined by commas; more than 16 of them; a chunk of more
--- than 2^24 bytes (Isabelle's byte messages, with this project's own limits)
+-- the lengths of the chunks that a line names, or the first thing that is wrong with it: too many
+-- bytes, or no decimal numbers joined by commas; too many of them; a chunk that is too long
+-- (Isabelle's byte messages, with this project's own limits)
 abbrev pub judge : List ℕ → Result (List ℕ) LineFault
 judge line =
-    cond (nat_lt 200 (length line)) (Err BadHeader) (judge_numbers (numbers (without_cr line)))
+    cond (nat_lt longest_line (length line)) (Err BadHeader)
+    (judge_numbers (numbers (without_cr line)))

@@ -1,11 +1,12 @@
 -- The numbers of a text, read byte by byte, as far as they matter.
 use Rattle.std.specs.Prelude.{◌==◌, ℕ, ◌+◌, ◌-◌, ◌*◌, min, cond, List, [], ◌∷◌, Option, Some, None, option_map}
 use Rattle.std.specs.Option.{unwrap_or}
+use Rattle.byte_message.specs.Limits.{longest_chunk}
 use Rattle.byte_message.specs.Line.{is_digit}
 
 -- a length, where more than the longest chunk's is told as one more than that
 abbrev pub clamp : ℕ → ℕ
-clamp n = min n 16777217
+clamp n = min n (longest_chunk + 1)
 
 -- a number with one more digit
 abbrev pub grown : Option ℕ → ℕ → ℕ

@@ -4,6 +4,7 @@ use Rattle.std.specs.Fmt.{decimal}
 use Rattle.std.specs.List.{AllByRecursion, concat, join_with_byte}
 use Rattle.byte_message.specs.Heading.{heading}
 use Rattle.byte_message.specs.Heading.Heading.{Fit, Faulty, Unended}
+use Rattle.byte_message.specs.Limits.{most_chunks, longest_chunk}
 use Rattle.byte_message.specs.declared.line_fault.LineFault.{LineFault}
 use Rattle.byte_message.specs.declared.line_fault.LineFault.TheVariants.{BadHeader, TooMany, TooLong}
 use Rattle.byte_message.specs.declared.frame_fault.FrameFault.{FrameFault}
@@ -57,11 +58,11 @@ pub record IsReadAs (stream : List ℕ) (messages : List (List (List ℕ)))
   pub spelled : AreSpelled front messages
   pub ends : EndsAs (length front) rest ending
 
--- 1 to 16 chunks of at most 2^24 bytes (this project's own limits)
+-- some chunks, not too many, and none too long (this project's own limits)
 pub record IsMessage (chunks : List (List ℕ)) : Type 0 where
   pub some : 1 ≤ length chunks
-  pub few : length chunks ≤ 16
-  pub short : AllByRecursion (λ chunk. length chunk ≤ 16777216) chunks
+  pub few : length chunks ≤ most_chunks
+  pub short : AllByRecursion (λ chunk. length chunk ≤ longest_chunk) chunks
 
 -- the plain spelling: lengths without leading zeros joined by commas, a newline, the chunks
 -- (Isabelle's byte messages)

@@ -7,6 +7,7 @@ use std::alloc::AllocError;
 /// The stream ends within the message that begins at byte `at`.
 #[derive(Clone, Copy, Debug, PartialEq, Eq)]
 pub struct Truncated {
+    /// The first byte of that message, counted from the stream's beginning.
     pub at: u64,
 }
 

@@ -23,7 +23,4 @@ pub use frame_fault::FrameFault;
 pub use frames::Frames;
 pub use laws::{any_pieces, longer_streams, one_reading, written_is_read};
 pub use message::Message;
-pub use write::write_message;
-
-#[cfg(test)]
-mod tests;
+pub use write::{append_message, write_message};

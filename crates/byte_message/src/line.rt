@@ -1,6 +1,7 @@
 //! Judging a header line.
 ghost use Rattle.std.specs.Prelude.{◌≡◌, ◌<◌, ◌≤◌, ◌+◌, IfOk, IsTrue, Some, None, take, drop, length, MatchOption};
 ghost use Rattle.std.specs.Option.{unwrap_or, IfSome};
+ghost use Rattle.byte_message.specs.Limits.{longest_chunk};
 ghost use Rattle.byte_message.specs.Line.{judge, judge_numbers, too_long, without_cr, is_digit};
 ghost use Rattle.byte_message.specs.Scan.{scan, grown};
 ghost use Rattle.byte_message.specs.Heading.{line_of, after_line};
@@ -51,7 +52,7 @@ fn without_cr(line: &[u8]) -> &[u8]
 /// A number with one digit more. What is past the longest chunk's length is told as one more.
 fn grown(before: Option<usize>, digit: u8) -> usize
     requires digit { IsTrue (is_digit digit) }
-    requires small { unwrap_or before 0 ≤ 16777217 }
+    requires small { unwrap_or before 0 ≤ longest_chunk + 1 }
     ensures { result ≡ grown before digit }
 {
     let more = before.unwrap_or(0) * 10 + (digit - b'0') as usize;

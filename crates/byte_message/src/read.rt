@@ -1,6 +1,6 @@
 //! Reading from between two messages on.
 ghost use Rattle.std.specs.Prelude.{ℕ, List, IfOk};
-ghost use Rattle.byte_message.specs.Kept.{Reached, Keeps};
+ghost use Rattle.byte_message.specs.Kept.{Reached, KeepsRest};
 ghost use Rattle.byte_message.specs.Parts.{rest_of, fault_of};
 
 use crate::begin::{Begun, begin};
@@ -26,7 +26,7 @@ pub(crate) fn read(
 ) -> Result<Reading, AllocError>
     ensures { IfOk result (λ reading. (rest : List ℕ)
         × Reached before.items at bytes.now reading.made.items reading.at rest
-        × Keeps (fault_of reading.part) reading.at rest (rest_of reading.part)) }
+        × KeepsRest (fault_of reading.part) reading.at rest (rest_of reading.part)) }
 {
     let mut made = before;
     let mut place = at;

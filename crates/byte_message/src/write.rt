@@ -45,15 +45,23 @@ fn put_chunks(out: &mut Vec<u8>, chunks: &[Items<u8>]) -> Result<(), AllocError>
     }
 }
 
-/// The bytes of a message of 1 to 16 chunks, of at most 2^24 bytes each: without CR or leading
-/// zeros. What is written is read as it was, whatever follows it (`written_is_read`).
+/// Appends a message's bytes: its header line, without CR or leading zeros, and its chunks, which
+/// may be of any number and length here. Where memory runs out a front of them may be there.
+pub fn append_message(out: &mut Vec<u8>, chunks: &[Items<u8>]) -> Result<(), AllocError>
+    ensures { OnOk result (out.new.items ≡ out.old.items ++ plain_spelling chunks.now) }
+{
+    put_lengths(out, chunks)?;
+    out.push(b'\n')?;
+    put_chunks(out, chunks)
+}
+
+/// The bytes of a message of 1 to 16 chunks, of at most 2^24 bytes each, which are read as it was,
+/// whatever follows them (`written_is_read`).
 pub fn write_message(alloc: Global, chunks: &[Items<u8>]) -> Result<Vec<u8>, AllocError>
     requires { IsMessage chunks.now }
     ensures { IfOk result (λ bytes. bytes.items ≡ plain_spelling chunks.now) }
 {
     let mut out = Vec::new(alloc);
-    put_lengths(&mut out, chunks)?;
-    out.push(b'\n')?;
-    put_chunks(&mut out, chunks)?;
+    append_message(&mut out, chunks)?;
     Ok(out)
 }

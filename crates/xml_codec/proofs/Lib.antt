@@ -1,5 +1,7 @@
-pub mod Nodes
-pub mod Numbered
-pub mod Numbers
-pub mod Parts
-pub mod Single
+mod Bodies
+mod Graphic
+mod Nodes
+mod Numbered
+mod Numbers
+mod Parts
+mod Single

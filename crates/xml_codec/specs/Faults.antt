@@ -25,20 +25,24 @@ pub record IsFirstOther (body : List Tree) (place : ℕ) : Type 0 where
   pub number : length before ≡ place
   pub other : (inside : List Tree) → child ≢ node inside
 
--- how many nodes the body of a list, of a pair and of an option may have
+-- how many nodes the body of a list may have
 abbrev pub any_number : ℕ → Bool
 any_number n = true
 
+-- how many that of a pair has
 abbrev pub two : ℕ → Bool
 two n = n == 2
 
+-- how many that of an option may have
 abbrev pub at_most_one : ℕ → Bool
 at_most_one n = nat_lt n 2
 
--- a wrong number of children is a fault of the body itself; else the first child that is no node is the place
+-- a wrong number of children is a fault of the body itself; else the first child that is no node is
+-- the place
 abbrev pub IsNodesFault : (ℕ → Bool) → List Tree → DataFault → Type 0
 IsNodesFault may body NoMemory = Unit {0}
-IsNodesFault may body (Wrong path) = MatchBool (may (length body)) ((place : ℕ) × IsFirstOther body place × (path ≡ place ∷ [])) (path ≡ [])
+IsNodesFault may body (Wrong path) = MatchBool (may (length body))
+    ((place : ℕ) × IsFirstOther body place × (path ≡ place ∷ [])) (path ≡ [])
 
 -- the body of a variant is one element, and that element is the place
 abbrev pub IsVariantFault : List Tree → DataFault → Type 0

@@ -1,3 +1,4 @@
+//! Laws over the definitions, as contracts of functions that do nothing.
 ghost use Rattle.std.specs.Prelude.{◌≡◌, ◌≢◌, ◌<◌, ◌≤◌, ◌+◌, ◌^◌, max, length, ℕ, ℤ, Bool, List, Option, Some};
 ghost use Rattle.std.specs.List.{AllByRecursion};
 ghost use Rattle.xml_tree.specs.declared.tree.Tree.{Tree};
@@ -29,8 +30,8 @@ pub fn bodies_nest()
     ensures string { (text : List ℕ) → height (string_body text) ≡ 0 }
     ensures pair { (first second : List Tree)
         → height (pair_body first second) ≡ 1 + max (height first) (height second) }
-    ensures list { (items : List (List Tree)) (n : ℕ) → AllByRecursion (λ item. height item ≤ n) items
-        → height (list_body items) ≤ 1 + n }
+    ensures list { (items : List (List Tree)) (n : ℕ)
+        → AllByRecursion (λ item. height item ≤ n) items → height (list_body items) ≤ 1 + n }
     ensures option { (item : List Tree) → height (option_body (Some item)) ≡ 1 + height item }
     ensures variant { (index : ℕ) (values : List (List ℕ)) (argument : List Tree)
         → height (variant_body index values argument) ≡ 1 + height argument }

@@ -10,8 +10,6 @@ mod laws;
 mod leaf;
 mod node;
 mod number;
-#[cfg(test)]
-mod tests;
 mod variant;
 
 pub use fault::DataFault;

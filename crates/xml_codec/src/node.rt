@@ -21,7 +21,8 @@ fn node(alloc: Global, body: Body) -> Result<Tree, AllocError>
 
 /// What stands in an element `:` without attributes.
 fn node_body(tree: Tree) -> Option<Body>
-    ensures { MatchOption result ((inside : List Tree) → tree ≢ node inside) (λ inside. tree ≡ node inside) }
+    ensures { MatchOption result ((inside : List Tree) → tree ≢ node inside)
+        (λ inside. tree ≡ node inside) }
 {
     match tree {
         Tree::Elem {

@@ -87,7 +87,8 @@ pub fn get_variant(alloc: Global, body: Body) -> Result<(u64, Items<XmlString>, 
     ensures value { IfOk result (λ v. body ≡ variant_body v.0 v.1 v.2) }
     ensures place { IfErr result (IsVariantFault body) }
     ensures none { IfErr result (λ f. f ≢ DataFault.NoMemory → (index : ℕ) → index < 2 ^ 64
-        → (values : List (List ℕ)) (argument : List Tree) → body ≢ variant_body index values argument) }
+        → (values : List (List ℕ)) (argument : List Tree)
+        → body ≢ variant_body index values argument) }
 {
     if body.len() != 1 {
         return Err(DataFault::here(alloc));

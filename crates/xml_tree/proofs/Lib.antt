@@ -1,3 +1,4 @@
-pub mod Joined
-pub mod Nesting
-pub mod Rebuilt
+pub mod KnownMarks
+pub mod KnownNesting
+pub mod KnownRebuilt
+pub mod KnownBuilding

@@ -10,13 +10,15 @@ pub data Mark : Type 0 where
   closing : Mark
   words : (text : List ℕ) → Mark
 
+-- lists of marks, one after the other
 abbrev pub concat : List (List Mark) → List Mark
 concat [] = []
 concat (x ∷ xs) = x ++ concat xs
 
 -- one tree, with the marks of each tree in its body already found
 abbrev pub mark_step : Tree-F (List Mark) → List Mark
-mark_step (Tree-F.Elem name attributes body) = opening name attributes ∷ (concat body ++ closing ∷ [])
+mark_step (Tree-F.Elem name attributes body) =
+    opening name attributes ∷ (concat body ++ closing ∷ [])
 mark_step (Tree-F.Text text) = words text ∷ []
 
 -- the marks of a tree, in document order (this project's own)

@@ -4,7 +4,9 @@ use sqlite_items::Items;
 /// An attribute of an element. Keys may repeat.
 #[derive(Debug, Drop)]
 pub struct Attribute {
+    /// What stands before the `=`.
     pub key: XmlString,
+    /// What stands after it; it may be empty.
     pub value: XmlString,
 }
 

@@ -38,24 +38,28 @@ impl XmlString {
         Ok(XmlString { inner })
     }
 
+    /// The string of this text, which is not copied.
     pub fn from_string(text: String) -> XmlString
         ensures { result ≡ string_bytes text }
     {
         XmlString { inner: text }
     }
 
+    /// Its text, which is not copied.
     pub fn into_string(self) -> String
         ensures { string_bytes result ≡ self }
     {
         self.inner
     }
 
+    /// Its text.
     pub fn as_str(&self) -> &str
         ensures { result.now ≡ self.now }
     {
         self.inner.as_str()
     }
 
+    /// Whether it has no byte.
     pub fn is_empty(&self) -> bool
         ensures { IsTrue result ↔ (self.now ≡ []) }
     {

@@ -6,12 +6,12 @@ use Rattle.std.proofs.lemmas.List.{append-nil}
 use Rattle.xml_tree.specs.declared.tree.Tree.{Tree}
 use Rattle.xml_tree.specs.declared.tree.Tree.TheVariants.{Elem, Text}
 use Rattle.xml_tree.specs.Marks.{Mark, opening, closing, words, marks, open_after}
-use Rattle.xml_tree.proofs.Joined.{marks-append, tree_marks-Text, tree_marks-Elem}
+use Rattle.xml_tree.proofs.KnownMarks.{marks-append, tree_marks-Text, tree_marks-Elem}
 use Rattle.yxml.specs.declared.builder.Frame.{Frame}
 use Rattle.yxml.specs.declared.builder.Builder.{Builder}
-use Rattle.yxml.specs.Spelling.{joined}
-use Rattle.yxml.specs.Builder.{frame_marks, text_marks, with_text, base, flat, IsSettled, Takes}
-use Rattle.yxml.proofs.Settled.{joined-words, settled-append, settled-opening, settled-closing}
+use Rattle.yxml.specs.Spelling.{merged}
+use Rattle.yxml.specs.Builder.{frame_marks, text_marks, with_text, base, flat, IsSettled, HasRead}
+use Rattle.yxml.proofs.Settled.{merged-words, settled-append, settled-opening, settled-closing}
 
 pub marks-with_text : (body : List Tree) (text : List ℕ) → marks (with_text body text) ≡ marks body ++ text_marks text
 marks-with_text body [] = sym (append-nil (marks body))
@@ -19,11 +19,11 @@ marks-with_text body (b ∷ bs) = marks-append body (Text (b ∷ bs) ∷ []) ∙
 
 -- a builder that has read one mark more, and no text after it
 takes-mark : (old new : Builder) (m : Mark) → base new ≡ flat old ++ m ∷ [] → new.text ≡ []
-    → IsSettled (text_marks old.text ++ m ∷ []) → length new.stack ≡ open_after (length old.stack) (m ∷ []) → Takes old new (m ∷ [])
+    → IsSettled (text_marks old.text ++ m ∷ []) → length new.stack ≡ open_after (length old.stack) (m ∷ []) → HasRead old new (m ∷ [])
 takes-mark old new m is none settled depth =
     let whole : flat new ≡ flat old ++ m ∷ [] = ap (λ t. base new ++ text_marks t) none ∙ append-nil (base new) ∙ is in
     record {
-      reads = λ rest. ap (λ ms. joined (ms ++ rest)) whole ∙ ap joined (append_assoc (flat old) (m ∷ []) rest);
+      reads = λ rest. ap (λ ms. merged (ms ++ rest)) whole ∙ ap merged (append_assoc (flat old) (m ∷ []) rest);
       settled = λ p. subst IsSettled (sym (is ∙ append_assoc (base old) (text_marks old.text) (m ∷ []))) (settled-append _ _ p settled);
       depth = depth;
     }
@@ -33,14 +33,14 @@ frames-opened : (stack : List Frame) (f : Frame) → flat_map frame_marks (stack
 frames-opened [] f = append-nil _
 frames-opened (g ∷ stack) f = ap (λ ms. frame_marks g ++ ms) (frames-opened stack f) ∙ sym (append_assoc (frame_marks g) (flat_map frame_marks stack) (frame_marks f))
 
-pub takes-text : (old : Builder) (text : List ℕ) → text ≢ [] → Takes old (record old { text = old.text ++ text }) (words text ∷ [])
+pub takes-text : (old : Builder) (text : List ℕ) → text ≢ [] → HasRead old (record old { text = old.text ++ text }) (words text ∷ [])
 takes-text old text some = record { reads = λ rest. reads old.text text some rest; settled = λ p. p; depth = refl } where
   reads : (before after : List ℕ) → after ≢ [] → (rest : List Mark)
-      → joined ((base old ++ text_marks (before ++ after)) ++ rest) ≡ joined ((base old ++ text_marks before) ++ (words after ∷ rest))
+      → merged ((base old ++ text_marks (before ++ after)) ++ rest) ≡ merged ((base old ++ text_marks before) ++ (words after ∷ rest))
   reads before [] some rest = absurd (some refl)
-  reads [] (b ∷ bs) some rest = ap joined (append_assoc (base old) (words (b ∷ bs) ∷ []) rest ∙ ap (λ ms. ms ++ words (b ∷ bs) ∷ rest) (sym (append-nil (base old))))
-  reads (a ∷ before) (b ∷ bs) some rest = ap joined (append_assoc (base old) (words (a ∷ before ++ b ∷ bs) ∷ []) rest)
-      ∙ joined-words (base old) (a ∷ before) (b ∷ bs) rest ∙ ap joined (sym (append_assoc (base old) (words (a ∷ before) ∷ []) (words (b ∷ bs) ∷ rest)))
+  reads [] (b ∷ bs) some rest = ap merged (append_assoc (base old) (words (b ∷ bs) ∷ []) rest ∙ ap (λ ms. ms ++ words (b ∷ bs) ∷ rest) (sym (append-nil (base old))))
+  reads (a ∷ before) (b ∷ bs) some rest = ap merged (append_assoc (base old) (words (a ∷ before ++ b ∷ bs) ∷ []) rest)
+      ∙ merged-words (base old) (a ∷ before) (b ∷ bs) rest ∙ ap merged (sym (append_assoc (base old) (words (a ∷ before) ∷ []) (words (b ∷ bs) ∷ rest)))
 
 -- the text has ended
 abbrev pub ended : Builder → Builder
@@ -54,7 +54,7 @@ module _ {A : Type 0} where
   regroup-closing a b o c t m = simp (append_assoc, append-nil)
 
 pub takes-opening : (old mid new : Builder) (f : Frame) → mid ≡ ended old → f.before ≡ mid.body → new.stack ≡ mid.stack ++ f ∷ []
-    → new.body ≡ [] → new.text ≡ mid.text → Takes old new (opening f.name f.attributes ∷ [])
+    → new.body ≡ [] → new.text ≡ mid.text → HasRead old new (opening f.name f.attributes ∷ [])
 takes-opening old mid new f is before stack body text =
     let opened = opening f.name f.attributes in
     let held : marks f.before ≡ marks old.body ++ text_marks old.text = ap marks (before ∙ ap (λ (b : Builder). b.body) is) ∙ marks-with_text old.body old.text in
@@ -67,7 +67,7 @@ takes-opening old mid new f is before stack body text =
     (ap length stack' ∙ length-append old.stack (f ∷ []))
 
 pub takes-closing : (old mid new : Builder) (f : Frame) (inner outer : List Tree) → mid ≡ ended old → mid.stack ≡ new.stack ++ f ∷ []
-    → inner ≡ mid.body → outer ≡ f.before → new.body ≡ outer ++ Elem f.name f.attributes inner ∷ [] → new.text ≡ mid.text → Takes old new (closing ∷ [])
+    → inner ≡ mid.body → outer ≡ f.before → new.body ≡ outer ++ Elem f.name f.attributes inner ∷ [] → new.text ≡ mid.text → HasRead old new (closing ∷ [])
 takes-closing old mid new f inner outer is stack held put body text =
     let stack' : old.stack ≡ new.stack ++ f ∷ [] = ap (λ (b : Builder). b.stack) (sym is) ∙ stack in
     let inside : marks inner ≡ marks old.body ++ text_marks old.text = ap marks (held ∙ ap (λ (b : Builder). b.body) is) ∙ marks-with_text old.body old.text in

@@ -5,10 +5,11 @@ use Rattle.std.specs.List.{slice_split}
 use Rattle.std.proofs.lemmas.Bool.{ltb-true, eqb-false}
 use Rattle.xml_tree.specs.Marks.{Mark, opening, closing, words, open_after}
 use Rattle.xml_tree.specs.declared.tree.Attribute.{Attribute}
-use Rattle.xml_tree.proofs.Nesting.{IsWithin}
+use Rattle.xml_tree.specs.Normal.{most_nested}
+use Rattle.xml_tree.proofs.KnownNesting.{IsWithin}
 use Rattle.yxml.specs.declared.fault.YxmlFault.{YxmlFault}
 use Rattle.yxml.specs.declared.fault.YxmlFault.TheVariants.{TooDeep, Unbalanced}
-use Rattle.yxml.specs.Reading.{said, tag_said, opened, attributes_of, nesting_fault, or_later, marks_said, marks_from, first_fault, is_y}
+use Rattle.yxml.specs.Reading.{said, tag_said, start_said, attributes_of, nesting_fault, or_later, marks_said, marks_from, first_fault, is_y}
 
 -- at most one mark
 abbrev pub IsShort : Result (List Mark) YxmlFault → Type 0
@@ -17,15 +18,15 @@ IsShort (Ok (m ∷ [])) = Unit {0}
 IsShort (Ok (m ∷ n ∷ ms)) = ⊥
 IsShort (Err f) = Unit {0}
 
-opened-short : (at : ℕ) (name : List ℕ) (list : Option (List Attribute)) → IsShort (opened at name list)
-opened-short at name (Some list) = tt
-opened-short at name None = tt
+start-short : (at : ℕ) (name : List ℕ) (list : Option (List Attribute)) → IsShort (start_said at name list)
+start-short at name (Some list) = tt
+start-short at name None = tt
 
 tag-short : (at : ℕ) (pieces : List (List ℕ)) → IsShort (tag_said at pieces)
 tag-short at [] = tt
 tag-short at ([] ∷ []) = tt
 tag-short at ([] ∷ piece ∷ pieces) = tt
-tag-short at ((b ∷ bs) ∷ pieces) = opened-short at (b ∷ bs) (attributes_of pieces)
+tag-short at ((b ∷ bs) ∷ pieces) = start-short at (b ∷ bs) (attributes_of pieces)
 
 said-short : (at : ℕ) (pieces : List (List ℕ)) → IsShort (said at pieces)
 said-short at [] = tt
@@ -34,11 +35,11 @@ said-short at ((b ∷ bs) ∷ []) = tt
 said-short at ([] ∷ piece ∷ pieces) = tag-short at (piece ∷ pieces)
 said-short at ((b ∷ bs) ∷ piece ∷ pieces) = tt
 
-or_later-None : (a b : Option YxmlFault) → or_later a b ≡ None → (a ≡ None) × (b ≡ None)
+pub or_later-None : (a b : Option YxmlFault) → or_later a b ≡ None → (a ≡ None) × (b ≡ None)
 or_later-None None b e = (refl, e)
 or_later-None (Some f) b e = absurd (cc)
 
-opening-within : (d at : ℕ) (b : Bool) → nat_lt d 200 ≡ b → (let o : Option YxmlFault = if b then None else Some (TooDeep at) in o ≡ None) → d < 200
+opening-within : (d at : ℕ) (b : Bool) → nat_lt d most_nested ≡ b → (let o : Option YxmlFault = if b then None else Some (TooDeep at) in o ≡ None) → d < most_nested
 opening-within d at true e h = ltb-true _ _ e
 opening-within d at false e h = absurd (cc)
 
@@ -50,7 +51,7 @@ says-within : (d at : ℕ) (r : Result (List Mark) YxmlFault) (rest : List Mark)
     → IsWithin (open_after d (marks_said r)) rest → IsWithin d (marks_said r ++ rest)
 says-within d at (Err f) rest s e h = absurd (cc)
 says-within d at (Ok []) rest s e h = h
-says-within d at (Ok (opening name attributes ∷ [])) rest s e h = (opening-within d at (nat_lt d 200) refl e, h)
+says-within d at (Ok (opening name attributes ∷ [])) rest s e h = (opening-within d at (nat_lt d most_nested) refl e, h)
 says-within d at (Ok (closing ∷ [])) rest s e h = (closing-within d at (d == 0) refl e, h)
 says-within d at (Ok (words text ∷ [])) rest s e h = h
 says-within d at (Ok (m ∷ n ∷ ms)) rest s e h = absurd s

@@ -8,8 +8,9 @@ use Rattle.std.proofs.lemmas.List.Sums.{split_at_first}
 use Rattle.std.proofs.lemmas.Bool.{ltb-true}
 use Rattle.xml_tree.specs.declared.tree.Attribute.{Attribute}
 use Rattle.xml_tree.specs.Normal.{Lacks, IsPlain, IsFilled, IsAttribute, IsFit}
-use Rattle.yxml.specs.Reading.{said, tag_said, opened, attribute_of, attributes_of, with_attribute, marks_said, marks_from, marks_in, is_x, is_y, is_equals}
-use Rattle.yxml.proofs.Pieces.{All-append, All-parts, All-map, IsPiece, each-piece, all-true}
+use Rattle.yxml.specs.Reading.{said, tag_said, start_said, attribute_of, attributes_of, with_attribute, marks_said, marks_from, marks_in, is_x, is_y, is_equals}
+use Rattle.text_words.proofs.KnownLists.{each-both, each-part, each-so}
+use Rattle.yxml.proofs.Pieces.{IsPiece, each-piece, all-true}
 
 abbrev IfAttribute : Option Attribute → Type 0
 IfAttribute (Some a) = IsAttribute a
@@ -25,8 +26,8 @@ attribute-parts : (piece : List ℕ) → IsPlain piece → 0 < position_or_len i
 attribute-parts piece plain some small =
     let n = position_or_len is_equals piece in
     let parts = split_at_first is_equals piece 0 small in
-    let five = All-parts _ _ _ (subst (Lacks 5) parts plain.0) in
-    let six = All-parts _ _ _ (subst (Lacks 6) parts plain.1) in
+    let five = each-part _ _ _ (subst (Lacks 5) parts plain.0) in
+    let six = each-part _ _ _ (subst (Lacks 6) parts plain.1) in
     let first = subst (AllByRecursion (IsPiece is_equals (λ _. Unit {0}))) (slice_split_first is_equals piece 0 small) (each-piece is_equals (λ _. Unit {0}) piece (all-true piece)) in
     (((λ e. omega (arith, length-take n piece, ap length e)), (five.0, six.0)), first.0.1, (five.1.1, six.1.1))
 
@@ -50,9 +51,9 @@ attributes-fit : (pieces : List (List ℕ)) → AllByRecursion IsPlain pieces �
 attributes-fit [] h = tt
 attributes-fit (piece ∷ pieces) h = with-fit (attribute_of piece) (attributes_of pieces) (attribute-fit piece h.0) (attributes-fit pieces h.1)
 
-opened-fit : (at : ℕ) (name : List ℕ) (list : Option (List Attribute)) → IsFilled name → IfAttributes list → AllByRecursion IsFit (marks_said (opened at name list))
-opened-fit at name (Some list) h k = ((h, k), tt)
-opened-fit at name None h k = tt
+start-fit : (at : ℕ) (name : List ℕ) (list : Option (List Attribute)) → IsFilled name → IfAttributes list → AllByRecursion IsFit (marks_said (start_said at name list))
+start-fit at name (Some list) h k = ((h, k), tt)
+start-fit at name None h k = tt
 
 filled : (b : ℕ) (bs : List ℕ) → IsPlain (b ∷ bs) → IsFilled (b ∷ bs)
 filled b bs plain = ((λ e. absurd (cc)), plain)
@@ -61,7 +62,7 @@ tag-fit : (at : ℕ) (pieces : List (List ℕ)) → AllByRecursion IsPlain piece
 tag-fit at [] h = tt
 tag-fit at ([] ∷ []) h = (tt, tt)
 tag-fit at ([] ∷ piece ∷ pieces) h = tt
-tag-fit at ((b ∷ bs) ∷ pieces) h = opened-fit at (b ∷ bs) (attributes_of pieces) (filled b bs h.0) (attributes-fit pieces h.1)
+tag-fit at ((b ∷ bs) ∷ pieces) h = start-fit at (b ∷ bs) (attributes_of pieces) (filled b bs h.0) (attributes-fit pieces h.1)
 
 pub said-fit : (at : ℕ) (pieces : List (List ℕ)) → AllByRecursion IsPlain pieces → AllByRecursion IsFit (marks_said (said at pieces))
 said-fit at [] h = tt
@@ -73,8 +74,8 @@ said-fit at ((b ∷ bs) ∷ piece ∷ pieces) h = tt
 -- chunks without X say fit marks
 chunks-fit : (at : ℕ) (chunks : List (List ℕ)) → AllByRecursion (Lacks 5) chunks → AllByRecursion IsFit (marks_from at chunks)
 chunks-fit at [] h = tt
-chunks-fit at (chunk ∷ chunks) h = All-append IsFit _ _ (said-fit at (slice_split is_y chunk) (each-piece is_y (λ b. is_x b ≡ false) chunk h.0)) (chunks-fit (at + length chunk + 1) chunks h.1)
+chunks-fit at (chunk ∷ chunks) h = each-both IsFit _ _ (said-fit at (slice_split is_y chunk) (each-piece is_y (λ b. is_x b ≡ false) chunk h.0)) (chunks-fit (at + length chunk + 1) chunks h.1)
 
 -- the marks of any text are fit
 pub marks-fit : (text : List ℕ) → AllByRecursion IsFit (marks_in text)
-marks-fit text = chunks-fit 0 (slice_split is_x text) (All-map _ _ (λ piece h. h.1) _ (each-piece is_x (λ _. Unit {0}) text (all-true text)))
+marks-fit text = chunks-fit 0 (slice_split is_x text) (each-so _ _ (λ piece h. h.1) _ (each-piece is_x (λ _. Unit {0}) text (all-true text)))

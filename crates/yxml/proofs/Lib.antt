@@ -1,13 +1,14 @@
-pub mod Attributes
-pub mod Builders
-pub mod Cuts
-pub mod Depths
-pub mod Fit
-pub mod Joining
-pub mod Pieces
-pub mod Progress
-pub mod Settled
-pub mod Spelled
-pub mod Spelt
-pub mod Tags
-pub mod Written
+mod Answering
+mod Attributes
+mod Builders
+mod Cuts
+mod Depths
+mod Fit
+mod Joining
+mod Pieces
+mod Progress
+mod Settled
+mod Spelled
+mod Spelt
+mod Tags
+mod Written

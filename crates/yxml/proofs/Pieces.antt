@@ -1,19 +1,7 @@
 -- What holds of the pieces of a text.
-use Rattle.std.proofs.Common.{◌≡◌, ℕ, List, [], ◌∷◌, ◌++◌, Bool, true, false, refl, sym, subst}
+use Rattle.std.proofs.Common.{◌≡◌, ℕ, List, [], ◌∷◌, Bool, true, false, refl, sym, subst}
 use Rattle.std.specs.List.{AllByRecursion, slice_split, onto_first}
 use Rattle.std.proofs.lemmas.List.Splits.{slice_split-cons_yes, slice_split-cons_no}
-
-pub All-append : {X : Type 0} (P : X → Type 0) (xs ys : List X) → AllByRecursion P xs → AllByRecursion P ys → AllByRecursion P (xs ++ ys)
-All-append P [] ys h k = k
-All-append P (x ∷ xs) ys h k = (h.0, All-append P xs ys h.1 k)
-
-pub All-parts : {X : Type 0} (P : X → Type 0) (xs ys : List X) → AllByRecursion P (xs ++ ys) → AllByRecursion P xs × AllByRecursion P ys
-All-parts P [] ys h = (tt, h)
-All-parts P (x ∷ xs) ys h = ((h.0, (All-parts P xs ys h.1).0), (All-parts P xs ys h.1).1)
-
-pub All-map : {X : Type 0} (P Q : X → Type 0) → ((x : X) → P x → Q x) → (xs : List X) → AllByRecursion P xs → AllByRecursion Q xs
-All-map P Q f [] h = tt
-All-map P Q f (x ∷ xs) h = (f x h.0, All-map P Q f xs h.1)
 
 module _ (p : ℕ → Bool) (P : ℕ → Type 0) where
   -- a piece is made of what the text is made of, and has no separator

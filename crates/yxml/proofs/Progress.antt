@@ -9,27 +9,27 @@ use Rattle.xml_tree.specs.Marks.{marks, open_after}
 use Rattle.yxml.specs.declared.builder.Builder.{Builder}
 use Rattle.yxml.specs.declared.fault.YxmlFault.{YxmlFault}
 use Rattle.yxml.specs.declared.fault.YxmlFault.TheVariants.{Unbalanced}
-use Rattle.yxml.specs.Builder.{base, flat, IsSettled, Takes}
+use Rattle.yxml.specs.Builder.{base, flat, IsSettled, HasRead}
 use Rattle.yxml.specs.Reading.{said, is_x, is_y, nesting_fault, or_later, marks_said, first_fault, fault_in, marks_in, marks_from}
-use Rattle.yxml.specs.Spelling.{joined, Spells}
-use Rattle.yxml.proofs.Settled.{joined-last}
+use Rattle.yxml.specs.Spelling.{merged, Spells}
+use Rattle.yxml.proofs.Settled.{merged-last}
 
 pub record Progress (text : List ℕ) (b : Builder) (at : ℕ) (chunks : List (List ℕ)) : Type 0 where
   pub fault : fault_in text ≡ first_fault (length b.stack) at chunks (length text)
-  pub marks : joined (marks_in text) ≡ joined (flat b ++ marks_from at chunks)
+  pub marks : merged (marks_in text) ≡ merged (flat b ++ marks_from at chunks)
   pub settled : IsSettled (base b)
 
 -- nothing is read yet
 pub started : (text : List ℕ) (b : Builder) → flat b ≡ [] → IsSettled (base b) → length b.stack ≡ 0 → Progress text b 0 (slice_split is_x text)
 started text b none settled depth = record {
   fault = ap (λ d. first_fault d 0 (slice_split is_x text) (length text)) (sym depth);
-  marks = ap (λ ms. joined (ms ++ marks_in text)) (sym none);
+  marks = ap (λ ms. merged (ms ++ marks_in text)) (sym none);
   settled = settled;
 }
 
 -- the chunk says its marks
 pub taken : (text : List ℕ) (b c : Builder) (at : ℕ) (chunk : List ℕ) (chunks : List (List ℕ)) → Progress text b at (chunk ∷ chunks)
-    → nesting_fault (length b.stack) at (said at (slice_split is_y chunk)) ≡ None → Takes b c (marks_said (said at (slice_split is_y chunk)))
+    → nesting_fault (length b.stack) at (said at (slice_split is_y chunk)) ≡ None → HasRead b c (marks_said (said at (slice_split is_y chunk)))
     → Progress text c (at + length chunk + 1) chunks
 taken text b c at chunk chunks p fine takes = record {
   fault = p.fault ∙ ap (λ f. or_later f (first_fault (open_after (length b.stack) (marks_said (said at (slice_split is_y chunk)))) (at + length chunk + 1) chunks (length text))) fine ∙ ap (λ d. first_fault d (at + length chunk + 1) chunks (length text)) (sym takes.depth);
@@ -51,5 +51,5 @@ left_open text b at p some = p.fault ∙ ap (λ t. if t then None else Some (Unb
 pub finished : (text : List ℕ) (b : Builder) (at : ℕ) (body : List Tree) → Progress text b at [] → length b.stack ≡ 0 → marks body ≡ flat b → Spells text body
 finished text b at body p none same = record {
   faultless = p.fault ∙ ap (λ d. first_fault d at [] (length text)) none;
-  same = p.marks ∙ ap joined (append-nil (flat b)) ∙ joined-last (base b) b.text p.settled ∙ sym same;
+  same = p.marks ∙ ap merged (append-nil (flat b)) ∙ merged-last (base b) b.text p.settled ∙ sym same;
 }

@@ -1,7 +1,7 @@
--- Texts that are joined, and marks whose texts join nothing behind them.
+-- Texts that are merged, and marks whose texts join nothing behind them.
 use Rattle.std.proofs.Common.{◌≡◌, ℕ, List, [], ◌∷◌, ◌++◌, refl, sym, ap, ◌∙◌, append_assoc}
 use Rattle.xml_tree.specs.Marks.{Mark, opening, closing, words}
-use Rattle.yxml.specs.Spelling.{onto, joined}
+use Rattle.yxml.specs.Spelling.{onto, merged}
 use Rattle.yxml.specs.Builder.{IsSettled, text_marks}
 
 onto-onto : (s t : List ℕ) (ms : List Mark) → onto (words s) (onto (words t) ms) ≡ onto (words (s ++ t)) ms
@@ -10,19 +10,19 @@ onto-onto s t (opening name attributes ∷ ms) = refl
 onto-onto s t (closing ∷ ms) = refl
 onto-onto s t (words u ∷ ms) = ap (λ x. words x ∷ ms) (sym (append_assoc s t u))
 
--- it makes no difference which texts are joined first
-pub joined-words : (ms : List Mark) (s t : List ℕ) (rest : List Mark)
-    → joined (ms ++ words (s ++ t) ∷ rest) ≡ joined (ms ++ words s ∷ words t ∷ rest)
-joined-words [] s t rest = sym (onto-onto s t (joined rest))
-joined-words (m ∷ ms) s t rest = ap (onto m) (joined-words ms s t rest)
+-- it makes no difference which texts are merged first
+pub merged-words : (ms : List Mark) (s t : List ℕ) (rest : List Mark)
+    → merged (ms ++ words (s ++ t) ∷ rest) ≡ merged (ms ++ words s ∷ words t ∷ rest)
+merged-words [] s t rest = sym (onto-onto s t (merged rest))
+merged-words (m ∷ ms) s t rest = ap (onto m) (merged-words ms s t rest)
 
 pub settled-none : IsSettled []
 settled-none = record { settled = λ rest. refl }
 
 pub settled-append : (xs ys : List Mark) → IsSettled xs → IsSettled ys → IsSettled (xs ++ ys)
 settled-append xs ys p q = record {
-  settled = λ rest. ap joined (append_assoc xs ys rest) ∙ p.settled (ys ++ rest)
-      ∙ ap (λ zs. xs ++ zs) (q.settled rest) ∙ sym (append_assoc xs ys (joined rest));
+  settled = λ rest. ap merged (append_assoc xs ys rest) ∙ p.settled (ys ++ rest)
+      ∙ ap (λ zs. xs ++ zs) (q.settled rest) ∙ sym (append_assoc xs ys (merged rest));
 }
 
 pub settled-opening : (text name : List ℕ) (attributes : List _) → IsSettled (text_marks text ++ opening name attributes ∷ [])
@@ -34,6 +34,6 @@ settled-closing [] = record { settled = λ rest. refl }
 settled-closing (b ∷ bs) = record { settled = λ rest. refl }
 
 -- a last text joins nothing either, where nothing follows
-pub joined-last : (ms : List Mark) (text : List ℕ) → IsSettled ms → joined (ms ++ text_marks text) ≡ ms ++ text_marks text
-joined-last ms [] p = p.settled []
-joined-last ms (b ∷ bs) p = p.settled (words (b ∷ bs) ∷ [])
+pub merged-last : (ms : List Mark) (text : List ℕ) → IsSettled ms → merged (ms ++ text_marks text) ≡ ms ++ text_marks text
+merged-last ms [] p = p.settled []
+merged-last ms (b ∷ bs) p = p.settled (words (b ∷ bs) ∷ [])

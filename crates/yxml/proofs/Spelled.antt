@@ -4,24 +4,24 @@ use Rattle.std.specs.List.{AllByRecursion, slice_split}
 use Rattle.std.proofs.lemmas.List.{append-nil}
 use Rattle.xml_tree.specs.declared.tree.Tree.{Tree}
 use Rattle.xml_tree.specs.Marks.{marks}
-use Rattle.xml_tree.specs.Normal.{IsNormal, IsFit, AreApart, height}
-use Rattle.xml_tree.proofs.Nesting.{IsWithin, Nests-trees}
-use Rattle.xml_tree.proofs.Rebuilt.{same_from_marks}
+use Rattle.xml_tree.specs.Normal.{IsNormal, IsFit, AreApart, height, most_nested}
+use Rattle.xml_tree.proofs.KnownNesting.{IsWithin, Nests-trees}
+use Rattle.xml_tree.proofs.KnownRebuilt.{same_from_marks}
 use Rattle.yxml.specs.declared.fault.YxmlFault.{YxmlFault}
 use Rattle.yxml.specs.declared.fault.YxmlFault.TheVariants.{Unbalanced, BadTag, BadAttribute, BadText, TooDeep, NoMemory}
 use Rattle.yxml.specs.Reading.{fault_in, marks_in, is_x}
 use Rattle.yxml.specs.Spelling.{Spells, ReadsAs}
 use Rattle.yxml.proofs.Fit.{marks-fit}
-use Rattle.yxml.proofs.Joining.{joined-fit, joined-apart, joined-within}
+use Rattle.yxml.proofs.Joining.{merged-fit, merged-apart, merged-within}
 use Rattle.yxml.proofs.Depths.{chunks-within}
 
 pub normal_from_spells : (text : List ℕ) (body : List Tree) → Spells text body → IsNormal body
 normal_from_spells text body s =
-    let within : IsWithin 0 (marks body) = subst (IsWithin 0) s.same (joined-within 0 (marks_in text) (chunks-within 0 0 (slice_split is_x text) (length text) s.faultless)) in
-    let low : 0 + height body ≤ 200 = (Nests-trees body).low 0 [] (subst (IsWithin 0) (sym (append-nil (marks body))) within) (omega arith) in
+    let within : IsWithin 0 (marks body) = subst (IsWithin 0) s.same (merged-within 0 (marks_in text) (chunks-within 0 0 (slice_split is_x text) (length text) s.faultless)) in
+    let low : 0 + height body ≤ most_nested = (Nests-trees body).low 0 [] (subst (IsWithin 0) (sym (append-nil (marks body))) within) (omega arith) in
     record {
-      fit = subst (AllByRecursion IsFit) s.same (joined-fit _ (marks-fit text));
-      apart = subst AreApart s.same (joined-apart (marks_in text));
+      fit = subst (AllByRecursion IsFit) s.same (merged-fit _ (marks-fit text));
+      apart = subst AreApart s.same (merged-apart (marks_in text));
       nested = omega arith;
     }
 

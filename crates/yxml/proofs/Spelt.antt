@@ -10,9 +10,9 @@ use Rattle.std.proofs.lemmas.List.Splits.{slice_split-cons_no}
 use Rattle.xml_tree.specs.declared.tree.Attribute.{Attribute}
 use Rattle.xml_tree.specs.Marks.{opening, words}
 use Rattle.xml_tree.specs.Normal.{Lacks, IsFilled, IsAttribute}
-use Rattle.yxml.specs.Reading.{said, opened, attribute_of, attributes_of, with_attribute, is_y, is_equals}
+use Rattle.yxml.specs.Reading.{said, start_said, attribute_of, attributes_of, with_attribute, is_y, is_equals}
 use Rattle.yxml.specs.Spelling.{attribute_spelling}
-use Rattle.yxml.proofs.Pieces.{All-append}
+use Rattle.text_words.proofs.KnownLists.{each-both}
 
 -- what lacks the separator joins the first piece of what follows
 pub text-split : (p : ℕ → Bool) (t s : List ℕ) (more : List (List ℕ)) → AllByRecursion (λ b. p b ≡ false) t
@@ -52,7 +52,7 @@ attributes-read (a ∷ list) h = ap (λ o. with_attribute o (attributes_of (map 
     ∙ ap (with_attribute (Some a)) (attributes-read list h.1)
 
 attribute-lacks : (c : ℕ) (a : Attribute) → Lacks c a.key → Lacks c a.value → (AllByRecursion (λ b. (Rattle.std.specs.Bool.◌==◌ b c) ≡ false) (61 ∷ [])) → Lacks c (attribute_text a)
-attribute-lacks c a k v e = All-append _ a.key (61 ∷ a.value) k (e.0, v)
+attribute-lacks c a k v e = each-both _ a.key (61 ∷ a.value) k (e.0, v)
 
 attributes-split : (list : List Attribute) → AllByRecursion IsAttribute list
     → slice_split is_y (flat_map attribute_spelling list) ≡ [] ∷ map attribute_text list
@@ -65,7 +65,7 @@ attributes-split (a ∷ list) h =
 abbrev pub tag_chunk : List ℕ → List Attribute → List ℕ
 tag_chunk name list = 6 ∷ (name ++ flat_map attribute_spelling list)
 
-named : (at : ℕ) (name : List ℕ) (pieces : List (List ℕ)) → name ≢ [] → said at ([] ∷ name ∷ pieces) ≡ opened at name (attributes_of pieces)
+named : (at : ℕ) (name : List ℕ) (pieces : List (List ℕ)) → name ≢ [] → said at ([] ∷ name ∷ pieces) ≡ start_said at name (attributes_of pieces)
 named at [] pieces some = absurd (some refl)
 named at (b ∷ bs) pieces some = refl
 
@@ -73,15 +73,15 @@ pub opening-said : (at : ℕ) (name : List ℕ) (list : List Attribute) → IsFi
     → said at (slice_split is_y (tag_chunk name list)) ≡ Ok (opening name list ∷ [])
 opening-said at name list filled fit =
     ap (λ ps. said at ([] ∷ ps)) (text-split is_y name (flat_map attribute_spelling list) (map attribute_text list) filled.1.1 (attributes-split list fit))
-    ∙ named at name (map attribute_text list) filled.0 ∙ ap (opened at name) (attributes-read list fit)
+    ∙ named at name (map attribute_text list) filled.0 ∙ ap (start_said at name) (attributes-read list fit)
 
 attributes-lack : (list : List Attribute) → AllByRecursion IsAttribute list → Lacks 5 (flat_map attribute_spelling list)
 attributes-lack [] h = tt
-attributes-lack (a ∷ list) h = All-append _ (attribute_spelling a) _ (refl, attribute-lacks 5 a h.0.0.1.0 h.0.2.0 (refl, tt)) (attributes-lack list h.1)
+attributes-lack (a ∷ list) h = each-both _ (attribute_spelling a) _ (refl, attribute-lacks 5 a h.0.0.1.0 h.0.2.0 (refl, tt)) (attributes-lack list h.1)
 
 -- it lacks X
 pub tag_chunk-lacks : (name : List ℕ) (list : List Attribute) → IsFilled name → AllByRecursion IsAttribute list → Lacks 5 (tag_chunk name list)
-tag_chunk-lacks name list filled fit = (refl, All-append _ name _ filled.1.0 (attributes-lack list fit))
+tag_chunk-lacks name list filled fit = (refl, each-both _ name _ filled.1.0 (attributes-lack list fit))
 
 text-said-by : (at : ℕ) (text : List ℕ) → text ≢ [] → said at (text ∷ []) ≡ Ok (words text ∷ [])
 text-said-by at [] some = absurd (some refl)

@@ -6,12 +6,12 @@ use Rattle.std.proofs.lemmas.Bool.{lt-ltb, ne_eqb}
 use Rattle.std.proofs.lemmas.List.{append-nil}
 use Rattle.xml_tree.specs.declared.tree.Tree.{Tree}
 use Rattle.xml_tree.specs.Marks.{Mark, opening, closing, words, marks, open_after}
-use Rattle.xml_tree.specs.Normal.{IsNormal, IsFit, IsApart, AreApart}
-use Rattle.xml_tree.proofs.Nesting.{IsWithin, Nests-trees}
+use Rattle.xml_tree.specs.Normal.{IsNormal, IsFit, IsApart, AreApart, most_nested}
+use Rattle.xml_tree.proofs.KnownNesting.{IsWithin, Nests-trees}
 use Rattle.yxml.specs.declared.fault.YxmlFault.{YxmlFault}
 use Rattle.yxml.specs.declared.fault.YxmlFault.TheVariants.{Unbalanced, TooDeep}
 use Rattle.yxml.specs.Reading.{said, is_x, is_y, nesting_fault, or_later, marks_said, marks_from, first_fault}
-use Rattle.yxml.specs.Spelling.{onto, joined, spellings, yxml, Spells}
+use Rattle.yxml.specs.Spelling.{onto, merged, spellings, yxml, Spells}
 use Rattle.yxml.proofs.Spelt.{text-split, tag_chunk, tag_chunk-lacks, opening-said, text-said}
 
 -- the chunks say just these marks, and have no fault where the marks nest
@@ -34,7 +34,7 @@ say_skip ms chunks p = record {
 fine_mark : (d at : ℕ) (m : Mark) (ms : List Mark) → IsWithin d (m ∷ ms)
     → (nesting_fault d at (Ok (m ∷ [])) ≡ None) × IsWithin (open_after d (m ∷ [])) ms
 fine_mark d at (opening name attributes) ms w =
-    let e : nat_lt d 200 ≡ true = lt-ltb d 200 w.0 in
+    let e : nat_lt d most_nested ≡ true = lt-ltb d most_nested w.0 in
     (ap (λ t. let o : Option YxmlFault = if t then None else Some (TooDeep at) in o) e, w.1)
 fine_mark d at closing ms w =
     let some : 0 < d = w.0 in
@@ -125,19 +125,19 @@ onto-apart (words text) (words next ∷ ms) h = absurd h
 onto-apart (words text) (opening name attributes ∷ ms) h = refl
 onto-apart (words text) (closing ∷ ms) h = refl
 
-joined-is : (ms : List Mark) → AreApart ms → joined ms ≡ ms
-joined-is [] h = refl
-joined-is (m ∷ ms) h = ap (onto m) (joined-is ms h.1) ∙ onto-apart m ms h.0
+merged-is : (ms : List Mark) → AreApart ms → merged ms ≡ ms
+merged-is [] h = refl
+merged-is (m ∷ ms) h = ap (onto m) (merged-is ms h.1) ∙ onto-apart m ms h.0
 
 pub written : (body : List Tree) → IsNormal body → Spells (yxml body) body
 written body n =
     let ms = marks body in
     let c = chunked ms n.fit n.apart in
     let says = say_all ms n.fit c in
-    let small : 0 + _ ≤ 200 = omega (arith, n.nested) in
+    let small : 0 + _ ≤ most_nested = omega (arith, n.nested) in
     let within : IsWithin 0 ms = subst (IsWithin 0) (append-nil ms) ((Nests-trees body).within 0 [] small tt) in
     let balanced : open_after 0 ms ≡ 0 = ap (open_after 0) (sym (append-nil ms)) ∙ (Nests-trees body).balanced 0 [] in
     record {
       faultless = ap (λ ps. first_fault 0 0 ps (length (yxml body))) c.split ∙ says.fine 0 0 (length (yxml body)) within balanced;
-      same = ap (λ ps. joined (marks_from 0 ps)) c.split ∙ ap joined (says.marks 0) ∙ joined-is ms n.apart;
+      same = ap (λ ps. merged (marks_from 0 ps)) c.split ∙ ap merged (says.marks 0) ∙ merged-is ms n.apart;
     }

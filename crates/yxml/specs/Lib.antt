@@ -1,3 +1,4 @@
+pub mod Answer
 pub mod Builder
 pub mod Cut
 pub mod Reading

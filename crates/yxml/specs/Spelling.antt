@@ -4,19 +4,24 @@ use Rattle.std.specs.List.{flat_map}
 use Rattle.xml_tree.specs.declared.tree.Attribute.{Attribute}
 use Rattle.xml_tree.specs.declared.tree.Tree.{Tree}
 use Rattle.xml_tree.specs.Marks.{Mark, opening, closing, words, marks}
+use Rattle.xml_tree.specs.Normal.{x_byte, y_byte, equals_sign}
 use Rattle.yxml.specs.declared.fault.YxmlFault.{YxmlFault}
 use Rattle.yxml.specs.declared.fault.YxmlFault.TheVariants.{NoMemory}
 use Rattle.yxml.specs.Reading.{marks_in, fault_in}
 
+-- Y key=value
 abbrev pub attribute_spelling : Attribute → List ℕ
-attribute_spelling a = 6 ∷ (a.key ++ 61 ∷ a.value)
+attribute_spelling a = y_byte ∷ (a.key ++ equals_sign ∷ a.value)
 
--- X Y name, Y key=value for each attribute, X; the body; X Y X; texts verbatim (The Isabelle System Manual, "YXML")
+-- X Y name, Y key=value for each attribute, X; the body; X Y X; texts verbatim (The Isabelle System
+-- Manual, "YXML")
 abbrev pub spelling : Mark → List ℕ
-spelling (opening name attributes) = 5 ∷ 6 ∷ (name ++ flat_map attribute_spelling attributes ++ 5 ∷ [])
-spelling closing = 5 ∷ 6 ∷ 5 ∷ []
+spelling (opening name attributes) =
+    x_byte ∷ y_byte ∷ (name ++ flat_map attribute_spelling attributes ++ x_byte ∷ [])
+spelling closing = x_byte ∷ y_byte ∷ x_byte ∷ []
 spelling (words text) = text
 
+-- the spellings of marks, one after the other
 abbrev pub spellings : List Mark → List ℕ
 spellings ms = flat_map spelling ms
 
@@ -24,19 +29,20 @@ spellings ms = flat_map spelling ms
 abbrev pub yxml : List Tree → List ℕ
 yxml body = spellings (marks body)
 
+-- a mark before others; where it is a text and one comes next, they are one text
 abbrev pub onto : Mark → List Mark → List Mark
 onto (words text) (words next ∷ ms) = words (text ++ next) ∷ ms
 onto m ms = m ∷ ms
 
 -- texts side by side are one text
-abbrev pub joined : List Mark → List Mark
-joined [] = []
-joined (m ∷ ms) = onto m (joined ms)
+abbrev pub merged : List Mark → List Mark
+merged [] = []
+merged (m ∷ ms) = onto m (merged ms)
 
--- the text has no fault, and its marks are the body's, once texts side by side are joined
+-- the text has no fault, and its marks are the body's, once texts side by side are merged
 pub record Spells (text : List ℕ) (body : List Tree) : Type 0 where
   pub faultless : fault_in text ≡ None
-  pub same : joined (marks_in text) ≡ marks body
+  pub same : merged (marks_in text) ≡ marks body
 
 -- the answer is the body, or want of memory
 abbrev pub ReadsAs : List Tree → Result (List Tree) YxmlFault → Type 0

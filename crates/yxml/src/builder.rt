@@ -24,7 +24,7 @@ pub(crate) struct Builder {
 
 impl Builder {
     ghost use Rattle.xml_tree.specs.Marks.{marks, opening, closing, words};
-    ghost use Rattle.yxml.specs.Builder.{Takes, flat, with_text, IsSettled, base};
+    ghost use Rattle.yxml.specs.Builder.{HasRead, flat, with_text, IsSettled, base};
 
     pub(crate) fn new(alloc: Global) -> Builder
         ensures empty { flat result ≡ [] }
@@ -60,7 +60,7 @@ impl Builder {
     /// More text, which joins the text before it.
     pub(crate) fn add_text(&mut self, text: &str) -> Result<(), AllocError>
         requires { text.now ≢ [] }
-        ensures { OnOk result (Takes self.old self.new (words text.now ∷ [])) }
+        ensures { OnOk result (HasRead self.old self.new (words text.now ∷ [])) }
     {
         self.text.push_str(text)
     }
@@ -71,7 +71,7 @@ impl Builder {
         name: XmlString,
         attributes: Items<Attribute>,
     ) -> Result<(), AllocError>
-        ensures { OnOk result (Takes self.old self.new (opening name attributes ∷ [])) }
+        ensures { OnOk result (HasRead self.old self.new (opening name attributes ∷ [])) }
     {
         self.end_text(alloc)?;
         let before = mem::replace(&mut self.body, Items::new(alloc));
@@ -85,7 +85,7 @@ impl Builder {
     /// Closes the innermost element.
     pub(crate) fn close(&mut self, alloc: Global) -> Result<(), AllocError>
         requires { length self.old.stack ≢ 0 }
-        ensures { OnOk result (Takes self.old self.new (closing ∷ [])) }
+        ensures { OnOk result (HasRead self.old self.new (closing ∷ [])) }
     {
         self.end_text(alloc)?;
         let Some(frame) = self.stack.pop() else {

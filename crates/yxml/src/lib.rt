@@ -11,11 +11,9 @@ mod fault;
 mod laws;
 mod reading;
 mod tag;
-#[cfg(test)]
-mod tests;
 mod writing;
 
 pub use fault::YxmlFault;
-pub use laws::what_is_written_is_read_back;
+pub use laws::{each_text_has_one_answer, what_is_written_is_read_back};
 pub use reading::parse_body;
 pub use writing::write_body;

@@ -4,7 +4,7 @@ ghost use Rattle.xml_tree.specs.declared.tree.Tree.{Tree};
 ghost use Rattle.xml_tree.specs.Normal.{IsNormal};
 ghost use Rattle.yxml.specs.Reading.{said, tag_said, is_y, nesting_fault, marks_said, fault_in};
 ghost use Rattle.yxml.specs.Spelling.{Spells, ReadsAs};
-ghost use Rattle.yxml.specs.Builder.{Takes};
+ghost use Rattle.yxml.specs.Builder.{HasRead};
 
 use crate::builder::Builder;
 use crate::cut::{cut_at_x, cut_at_y};
@@ -23,7 +23,8 @@ pub fn parse_body(alloc: Global, text: &str) -> Result<Body, YxmlFault>
     ensures normal { IfOk result IsNormal }
     ensures fault { IfErr result (λ f. f ≢ YxmlFault.NoMemory → fault_in text.now ≡ Some f) }
 
-    // So nothing but want of memory keeps a spelling from being read, as the one body that it spells.
+    // So nothing but want of memory keeps a spelling from being read, as the one body that it
+    // spells.
     ensures exact { (body : List Tree) → Spells text.now body → ReadsAs body result }
 {
     read_all(alloc, text)
@@ -52,12 +53,14 @@ fn read_all(alloc: Global, text: &str) -> Result<Body, YxmlFault>
 
 /// Reads one chunk, which begins at `at`.
 fn take_chunk(alloc: Global, builder: &mut Builder, chunk: &str, at: usize) -> Result<(), YxmlFault>
-    ensures taken { OnOk result (Takes builder.old builder.new
+    ensures taken { OnOk result (HasRead builder.old builder.new
         (marks_said (said at (slice_split is_y chunk.now)))) }
     ensures fine { OnOk result
-        (nesting_fault (length builder.old.stack) at (said at (slice_split is_y chunk.now)) ≡ None) }
+        (nesting_fault (length builder.old.stack) at (said at (slice_split is_y chunk.now))
+        ≡ None) }
     ensures fault { IfErr result (λ f. f ≢ YxmlFault.NoMemory
-        → nesting_fault (length builder.old.stack) at (said at (slice_split is_y chunk.now)) ≡ Some f) }
+        → nesting_fault (length builder.old.stack) at (said at (slice_split is_y chunk.now))
+        ≡ Some f) }
 {
     match cut_at_y(chunk) {
         None => {
@@ -77,12 +80,14 @@ fn take_chunk(alloc: Global, builder: &mut Builder, chunk: &str, at: usize) -> R
 
 /// Reads the chunk at `at` that begins with a byte 6: `tag` is what follows that byte.
 fn take_tag(alloc: Global, builder: &mut Builder, tag: &str, at: usize) -> Result<(), YxmlFault>
-    ensures taken { OnOk result (Takes builder.old builder.new
+    ensures taken { OnOk result (HasRead builder.old builder.new
         (marks_said (tag_said at (slice_split is_y tag.now)))) }
     ensures fine { OnOk result
-        (nesting_fault (length builder.old.stack) at (tag_said at (slice_split is_y tag.now)) ≡ None) }
+        (nesting_fault (length builder.old.stack) at (tag_said at (slice_split is_y tag.now))
+        ≡ None) }
     ensures fault { IfErr result (λ f. f ≢ YxmlFault.NoMemory
-        → nesting_fault (length builder.old.stack) at (tag_said at (slice_split is_y tag.now)) ≡ Some f) }
+        → nesting_fault (length builder.old.stack) at (tag_said at (slice_split is_y tag.now))
+        ≡ Some f) }
 {
     if tag.is_empty() {
         if builder.depth() == 0 {

@@ -1,5 +1,5 @@
 -- Both have read one stream, which has one reading.
-use Rattle.byte_message.proofs.Ending.{same-read}
+use Rattle.byte_message.proofs.KnownEndings.{same-read}
 use Rattle.byte_message.proofs.laws.any_pieces.Goals as goal
 
 pub returns : goal.returns

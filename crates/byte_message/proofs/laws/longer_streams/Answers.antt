@@ -1,5 +1,5 @@
 -- What follows the last whole message is read on.
-use Rattle.byte_message.proofs.Longer.{every-reading, longer-reading, bad-reading}
+use Rattle.byte_message.proofs.KnownLonger.{every-reading, longer-reading, bad-reading}
 use Rattle.byte_message.proofs.laws.longer_streams.Goals as goal
 
 pub returns-clause-every : goal.returns-clause-every

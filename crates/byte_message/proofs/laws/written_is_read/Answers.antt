@@ -1,6 +1,6 @@
 -- A plain spelling is a spelling, and a stream that begins with one has its message first.
 use Rattle.byte_message.specs.Stream.{plain_spelling}
-use Rattle.byte_message.proofs.Ending.{first-read}
+use Rattle.byte_message.proofs.KnownEndings.{first-read}
 use Rattle.byte_message.proofs.Written.{written}
 use Rattle.byte_message.proofs.laws.written_is_read.Goals as goal
 

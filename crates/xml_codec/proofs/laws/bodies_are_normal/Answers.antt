@@ -1,6 +1,6 @@
 -- Part by part.
 use Rattle.std.proofs.Common.{[], ◌∷◌}
-use Rattle.xml_codec.proofs.Parts.{int_normal, bool_normal, string_normal, list_normal, variant_normal}
+use Rattle.xml_codec.proofs.Bodies.{int_normal, bool_normal, string_normal, list_normal, variant_normal}
 use Rattle.xml_codec.proofs.laws.bodies_are_normal.Goals as goal
 
 pub returns-clause-int : goal.returns-clause-int

@@ -1,5 +1,5 @@
 -- A node is one element around its body.
-use Rattle.xml_codec.proofs.Parts.{int_height, bool_height, string_height, pair_height, list_height, option_height, variant_height}
+use Rattle.xml_codec.proofs.Bodies.{int_height, bool_height, string_height, pair_height, list_height, option_height, variant_height}
 use Rattle.xml_codec.proofs.laws.bodies_nest.Goals as goal
 
 pub returns-clause-int : goal.returns-clause-int

@@ -1,5 +1,5 @@
 -- Both are collected tree by tree.
-use Rattle.xml_tree.proofs.Joined.{marks-append, height-append}
+use Rattle.xml_tree.proofs.KnownMarks.{marks-append, height-append}
 use Rattle.xml_tree.proofs.laws.marks_of_joined_bodies.Goals as goal
 
 pub returns-clause-marks : goal.returns-clause-marks

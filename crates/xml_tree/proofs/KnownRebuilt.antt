@@ -1,4 +1,4 @@
--- A body is told by its marks: it is built from them, with a stack of the elements that are open.
+-- A body is told by its marks: it is built from them.
 use Rattle.std.proofs.Common.{◌≡◌, ℕ, List, [], ◌∷◌, ◌++◌, map, refl, sym, subst, ap, ◌∙◌, append_assoc, append-nil}
 use Rattle.xml_tree.specs.declared.tree.Attribute.{Attribute}
 use Rattle.xml_tree.specs.declared.tree.Tree.{Tree}
@@ -6,31 +6,11 @@ use Rattle.xml_tree.specs.declared.tree.Tree.TheVariants.{Elem, Text, rolls-Elem
 use Rattle.xml_tree.specs.declared.tree.Tree.TheOpen.{Tree-F}
 use Rattle.xml_tree.specs.declared.tree.Tree.TheFolds.{fold-roll-Tree, ind-Tree, map-Tree}
 use Rattle.xml_tree.specs.declared.tree.Tree.TheViews.{roll-Tree}
+use Rattle.xml_tree.specs.Bodies.{OpenElement, built, body_of}
 use Rattle.xml_tree.specs.Marks.{Mark, opening, closing, words, marks, tree_marks, mark_step, concat}
 
--- an element that is open: what stands before it, its name and its attributes
-record Frame : Type 0 where
-  before : List Tree
-  name : List ℕ
-  attributes : List Attribute
-
--- the element that the frame opens, closed over the body
-abbrev closed : List Tree → List Frame → List Tree
-closed body [] = body
-closed body (f ∷ fs) = f.before ++ Elem f.name f.attributes body ∷ []
-
-abbrev tail : List Frame → List Frame
-tail [] = []
-tail (f ∷ fs) = fs
-
-abbrev built : List Mark → List Tree → List Frame → List Tree
-built [] body stack = body
-built (opening name attributes ∷ ms) body stack = built ms [] (record { before = body; name = name; attributes = attributes } ∷ stack)
-built (closing ∷ ms) body stack = built ms (closed body stack) (tail stack)
-built (words text ∷ ms) body stack = built ms (body ++ Text text ∷ []) stack
-
 record Builds (ms : List Mark) (trees : List Tree) : Type 0 where
-  builds : (rest : List Mark) (body : List Tree) (stack : List Frame) → built (ms ++ rest) body stack ≡ built rest (body ++ trees) stack
+  builds : (rest : List Mark) (body : List Tree) (stack : List OpenElement) → built (ms ++ rest) body stack ≡ built rest (body ++ trees) stack
 
 Builds-append : (xs ys : List Mark) (ts us : List Tree) → Builds xs ts → Builds ys us → Builds (xs ++ ys) (ts ++ us)
 Builds-append xs ys ts us p q = record {
@@ -42,7 +22,7 @@ Builds-append xs ys ts us p q = record {
 Builds-element : (name : List ℕ) (attributes : List Attribute) (xs : List Mark) (ts : List Tree) → Builds xs ts → Builds (opening name attributes ∷ (xs ++ closing ∷ [])) (Elem name attributes ts ∷ [])
 Builds-element name attributes xs ts p = record {
   builds = λ rest body stack.
-      let stack' : List Frame = record { before = body; name = name; attributes = attributes } ∷ stack in
+      let stack' : List OpenElement = record { before = body; name = name; attributes = attributes } ∷ stack in
       ap (λ ms. built ms [] stack') (append_assoc xs (closing ∷ []) rest) ∙ p.builds (closing ∷ rest) [] stack';
 }
 
@@ -72,8 +52,9 @@ Builds-trees : (ts : List Tree) → Builds (marks ts) ts
 Builds-trees [] = Builds-body []
 Builds-trees (t ∷ ts) = Builds-append _ _ (t ∷ []) _ (Builds-tree t) (Builds-trees ts)
 
-rebuilt : (ts : List Tree) → built (marks ts) [] [] ≡ ts
+-- a body is the one that its marks make
+pub rebuilt : (ts : List Tree) → body_of (marks ts) ≡ ts
 rebuilt ts = ap (λ ms. built ms [] []) (sym (append-nil (marks ts))) ∙ (Builds-trees ts).builds [] [] []
 
 pub same_from_marks : (ts us : List Tree) → marks ts ≡ marks us → ts ≡ us
-same_from_marks ts us e = sym (rebuilt ts) ∙ ap (λ ms. built ms [] []) e ∙ rebuilt us
+same_from_marks ts us e = sym (rebuilt ts) ∙ ap body_of e ∙ rebuilt us

@@ -3,21 +3,22 @@ use Rattle.std.proofs.Common.{◌≡◌, ℕ, ◌+◌, ◌-◌, ◌<◌, ◌≤�
 use Rattle.xml_tree.specs.declared.tree.Tree.{Tree}
 use Rattle.xml_tree.specs.declared.tree.Tree.TheOpen.{Tree-F}
 use Rattle.xml_tree.specs.declared.tree.Tree.TheFolds.{fold-roll-Tree, ind-Tree, map-Tree}
+use Rattle.xml_tree.specs.Bodies.{ClosesOpen}
 use Rattle.xml_tree.specs.Marks.{Mark, opening, closing, words, marks, tree_marks, mark_step, concat, open_after}
-use Rattle.xml_tree.specs.Normal.{height, tree_height, height_step, largest}
+use Rattle.xml_tree.specs.Normal.{height, tree_height, height_step, largest, most_nested}
 
--- no element opens where 200 are open, and none closes where none is open
+-- no element opens where the most are open, and none closes where none is open
 abbrev pub IsWithin : ℕ → List Mark → Type 0
 IsWithin d [] = Unit {0}
-IsWithin d (opening name attributes ∷ ms) = (d < 200) × IsWithin (d + 1) ms
+IsWithin d (opening name attributes ∷ ms) = (d < most_nested) × IsWithin (d + 1) ms
 IsWithin d (closing ∷ ms) = (0 < d) × IsWithin (d - 1) ms
 IsWithin d (words text ∷ ms) = IsWithin d ms
 
 -- what the marks of a tree mean for what follows them
 pub record Nests (ms : List Mark) (high : ℕ) : Type 0 where
   pub balanced : (d : ℕ) (rest : List Mark) → open_after d (ms ++ rest) ≡ open_after d rest
-  pub within : (d : ℕ) (rest : List Mark) → d + high ≤ 200 → IsWithin d rest → IsWithin d (ms ++ rest)
-  pub low : (d : ℕ) (rest : List Mark) → IsWithin d (ms ++ rest) → d ≤ 200 → d + high ≤ 200
+  pub within : (d : ℕ) (rest : List Mark) → d + high ≤ most_nested → IsWithin d rest → IsWithin d (ms ++ rest)
+  pub low : (d : ℕ) (rest : List Mark) → IsWithin d (ms ++ rest) → d ≤ most_nested → d + high ≤ most_nested
   pub later : (d : ℕ) (rest : List Mark) → IsWithin d (ms ++ rest) → IsWithin d rest
 
 abbrev pub TreeNests : Tree → Type 0
@@ -50,7 +51,7 @@ Nests-element name attributes xs h p = record {
   balanced = λ d rest. rw append_assoc (p.balanced (d + 1) (closing ∷ rest) ∙ ap (λ n. open_after n rest) (back d));
   within = λ d rest small w. (omega arith, subst (IsWithin (d + 1)) (sym (append_assoc xs (closing ∷ []) rest)) (p.within (d + 1) (closing ∷ rest) (omega arith) (omega arith, subst (λ n. IsWithin n rest) (sym (back d)) w)));
   low = λ d rest w small. let w' : IsWithin (d + 1) (xs ++ (closing ∷ rest)) = subst (IsWithin (d + 1)) (append_assoc xs (closing ∷ []) rest) w.1 in
-      let first : d < 200 = w.0 in
+      let first : d < most_nested = w.0 in
       omega (arith, p.low (d + 1) (closing ∷ rest) w' (omega arith));
   later = λ d rest w. let w' : IsWithin (d + 1) (xs ++ (closing ∷ rest)) = subst (IsWithin (d + 1)) (append_assoc xs (closing ∷ []) rest) w.1 in
       subst (λ n. IsWithin n rest) (back d) (p.later (d + 1) (closing ∷ rest) w').1;
@@ -82,3 +83,10 @@ Nests-tree = ind-Tree TreeNests (λ x y is.
 pub Nests-trees : (ts : List Tree) → Nests (marks ts) (height ts)
 Nests-trees [] = Nests-none
 Nests-trees (t ∷ ts) = Nests-append _ _ _ _ (Nests-tree t) (Nests-trees ts)
+
+-- where no element opens too deep, none closes where none is open
+pub within-closes : (d : ℕ) (ms : List Mark) → IsWithin d ms → ClosesOpen d ms
+within-closes d [] w = tt
+within-closes d (opening name attributes ∷ ms) w = within-closes (d + 1) ms w.1
+within-closes d (closing ∷ ms) w = (w.0, within-closes (d - 1) ms w.1)
+within-closes d (words text ∷ ms) w = within-closes d ms w

@@ -1,7 +1,8 @@
-use crate::{Attribute, Body, Tree, XmlString};
+//! Trees and the strings in them (`xml_tree`).
 use sqlite_items::Items;
 use std::alloc::{AllocError, Global};
 use std::test::Fail;
+use xml_tree::{Attribute, Body, Tree, XmlString, marks_of_joined_bodies, marks_tell_the_body};
 
 fn string(alloc: Global, text: &str) -> Result<XmlString, AllocError> {
     XmlString::from_str(alloc, text)
@@ -48,4 +49,10 @@ fn a_string_is_copied_extended_and_given_back(rt: HostRuntime) -> Result<(), Fai
     assert!(rt; !back.is_empty());
     assert_eq!(rt; back.as_str(), string(alloc, "grüß")?.as_str());
     Ok(())
+}
+
+#[test]
+fn laws_of_marks_are_called() {
+    marks_tell_the_body();
+    marks_of_joined_bodies();
 }

@@ -6,7 +6,7 @@ use Rattle.std.specs.List.{concat}
 use Rattle.byte_message.specs.Chunks.{cut}
 use Rattle.byte_message.specs.Heading.{Heading, heading}
 use Rattle.byte_message.specs.Heading.Heading.{Fit, Faulty, Unended}
-use Rattle.byte_message.specs.Kept.{Framing, Keeps, Stands}
+use Rattle.byte_message.specs.Kept.{Framing, KeepsRest, Stands}
 use Rattle.byte_message.specs.Stream.{IsSpelling, AreSpelled, IsShort, IsReadAs, EndsAs, Ending, told, placed}
 use Rattle.byte_message.specs.Stream.Ending.{Whole, Bad, Short}
 use Rattle.byte_message.specs.Feeding.{ending_by, ending_of}
@@ -15,7 +15,7 @@ use Rattle.byte_message.specs.declared.frame_fault.FrameFault.{FrameFault}
 use Rattle.byte_message.proofs.Headings.{heading-more}
 use Rattle.byte_message.proofs.Cutting.{cut-concat, sum-lengths}
 
-ends_by : (fault : Option FrameFault) (at place : ℕ) (rest kept : List ℕ) → at ≡ told place → Keeps fault at rest kept → EndsAs place rest (ending_by fault at kept)
+ends_by : (fault : Option FrameFault) (at place : ℕ) (rest kept : List ℕ) → at ≡ told place → KeepsRest fault at rest kept → EndsAs place rest (ending_by fault at kept)
 ends_by (Some fault) at place rest kept e k = (k.0, k.1, k.2 ∙ ap (λ p. placed p k.0) e)
 ends_by None at place rest [] e k = k.0
 ends_by None at place rest (b ∷ kept) e k = let l : length rest ≡ length (b ∷ kept) = ap length k.0 in (omega arith, k.1, e)
