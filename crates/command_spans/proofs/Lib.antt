@@ -1,2 +1,4 @@
-pub mod SpanLemmas
-pub mod SpanLaws
+mod SpanLemmas
+mod SpanLaws
+mod RunLemmas
+mod CuttingLemmas

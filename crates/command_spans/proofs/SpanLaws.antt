@@ -1,19 +1,17 @@
 -- The tokens are cut into spans in one way, and these join to the text.
-use Rattle.std.proofs.Common.{◌≡◌, ℕ, zero, suc, ◌+◌, ◌-◌, ◌<◌, ◌≤◌, Bool, true, Some, List, [], ◌∷◌, ◌++◌, length, get_or, take, drop, sym, refl, ap, ◌∙◌, subst, ⊎_elim, arith}
+use Rattle.std.proofs.Common.{◌≡◌, ℕ, zero, suc, ◌+◌, ◌-◌, ◌<◌, ◌≤◌, Bool, true, Some, List, [], ◌∷◌, ◌++◌, length, get_or, drop, map, sym, refl, ap, ◌∙◌, subst, ⊎_elim, arith}
 use Rattle.std.specs.Prelude.{slice_get}
 use Rattle.std.specs.List.{flat_map}
 use Rattle.std.proofs.lemmas.Bool.{both_ways, cases_lt}
-use Rattle.std.proofs.lemmas.List.{drop-drop, take_all}
-use Rattle.std.proofs.Math.Seq.{take-add}
-use Rattle.symbols.specs.Joined.{text_between}
-use Rattle.outer_tokens.specs.Headings.{is_proper}
-use Rattle.outer_tokens.specs.Reading.{is_command}
+use Rattle.std.proofs.lemmas.List.Concat.{flat_map-cons}
+use Rattle.text_words.specs.Pieces.{text_between, joined, Tiles}
+use Rattle.text_words.proofs.KnownPieces.{tiles-whole}
+use Rattle.outer_tokens.specs.Kinds.{is_proper, is_command}
+use Rattle.outer_tokens.specs.Headings.{names_at}
 use Rattle.outer_tokens.specs.Tokens.{AreTokensBetween}
-use Rattle.outer_tokens.specs.Words.{names_at}
 use Rattle.outer_tokens.specs.declared.kind.Kind.{Kind}
 use Rattle.outer_tokens.specs.declared.kind.Kind.TheVariants as kind
 use Rattle.outer_tokens.specs.declared.token.Token.{Token}
-use Rattle.outer_tokens.proofs.TokenLaws.{one-tokens}
 use Rattle.command_spans.specs.Spans.{Is, proper_token, command_token, RunsTo, IsSpan, Covers, AreSpansOf, AreSpans}
 use Rattle.command_spans.specs.declared.span.SpanKind.{SpanKind}
 use Rattle.command_spans.specs.declared.span.SpanKind.TheVariants.{Command, Malformed, Ignored}
@@ -23,7 +21,7 @@ use Rattle.command_spans.proofs.SpanLemmas.{span-within}
 some_token : Token
 some_token = record { kind = kind.Space; range = record { start = 0; stop = 0 } }
 
-command-proper : (k : Kind) → is_command k ≡ true → is_proper k ≡ true
+pub command-proper : (k : Kind) → is_command k ≡ true → is_proper k ≡ true
 command-proper kind.Command e = refl
 command-proper _ e = cc
 
@@ -83,7 +81,7 @@ covered ts s u m n kinds sizes one other =
     let stops : s.range.stop ≡ u.range.stop = one.5 ∙ ap (λ (t : Token). t.range.stop) lasts ∙ sym other.5 in
     λ i. record { kind = kinds i; range = record { start = starts i; stop = stops i } }
 
-one-cut : (ts : List Token) (a b : List Span) → AreSpansOf ts a → AreSpansOf ts b → a ≡ b
+pub one-cut : (ts : List Token) (a b : List Span) → AreSpansOf ts a → AreSpansOf ts b → a ≡ b
 one-cut ts [] [] one other = refl
 one-cut ts [] (u ∷ us) one other = let within = span-within u.kind ts other.0 other.1 in absurd (omega (arith, within.0, within.1, ap length one))
 one-cut ts (s ∷ ss) [] one other = let within = span-within s.kind ts one.0 one.1 in absurd (omega (arith, within.0, within.1, ap length other))
@@ -92,10 +90,6 @@ one-cut ts (s ∷ ss) (u ∷ us) one other =
     let heads : s ≡ u = covered ts s u one.0 other.0 same.0 same.1 one.2 other.2 in
     let tails : ss ≡ us = one-cut (drop one.0 ts) ss us one.3 (subst (λ n. AreSpansOf (drop n ts) us) (sym same.1) other.3) in
     λ i. heads i ∷ tails i
-
-pub one-spans : (text : List ℕ) (aliases : List (List ℕ)) (a b : List Span) → AreSpans text aliases a → AreSpans text aliases b → a ≡ b
-one-spans text aliases a b (ts, tokens, cut) (us, tokens', cut') =
-    one-cut ts a b cut (subst (λ x. AreSpansOf x b) (sym (one-tokens text aliases ts us tokens tokens')) cut')
 
 -- after some tokens the next ones begin where the last of these ends
 tokens-after : (names : ℕ → List ℕ → Bool) (text : List ℕ) (from to : ℕ) (ts : List Token) (k : ℕ) (last : Token) → AreTokensBetween names text from to ts → slice_get ts k ≡ Some last → AreTokensBetween names text last.range.stop to (drop (suc k) ts) × (from < last.range.stop)
@@ -110,29 +104,28 @@ tokens-first : (names : ℕ → List ℕ → Bool) (text : List ℕ) (from to : 
 tokens-first names text from to [] first tokens at = absurd (cc)
 tokens-first names text from to (t ∷ ts) first (starts, token, rest) at = let same : t ≡ first = cc (at) in ap (λ (x : Token). x.range.start) (sym same) ∙ starts
 
-tokens-rise : (names : ℕ → List ℕ → Bool) (text : List ℕ) (from to : ℕ) (ts : List Token) → AreTokensBetween names text from to ts → from ≤ to
-tokens-rise names text from to [] same = omega arith
-tokens-rise names text from to (t ∷ ts) (starts, token, rest) = omega (arith, starts, token.1, tokens-rise names text t.range.stop to ts rest)
+-- where a span begins and where it ends
+abbrev place_of : Span → ℕ × ℕ
+place_of s = (s.range.start, s.range.stop)
 
-joined-between : (names : ℕ → List ℕ → Bool) (text : List ℕ) (from to : ℕ) (ts : List Token) (ss : List Span) → AreTokensBetween names text from to ts → AreSpansOf ts ss → flat_map (λ s. text_between text s.range.start s.range.stop) ss ≡ take (to - from) (drop from text)
-joined-between names text from to ts [] tokens none =
-    let same : from ≡ to = subst (λ x. AreTokensBetween names text from to x) none tokens in
-    let empty : to - from ≡ 0 = omega arith in sym (ap (λ n. take n (drop from text)) empty)
-joined-between names text from to ts (s ∷ ss) tokens (n, is, covers, more) =
+-- spans tile what their tokens do
+tiles : (names : ℕ → List ℕ → Bool) (text : List ℕ) (from to : ℕ) (ts : List Token) (ss : List Span) → AreTokensBetween names text from to ts → AreSpansOf ts ss → Tiles from to (map place_of ss)
+tiles names text from to ts [] tokens none = subst (λ x. AreTokensBetween names text from to x) none tokens
+tiles names text from to ts (s ∷ ss) tokens (n, is, covers, more) =
     let within = span-within s.kind ts n is in
     let starts : s.range.start ≡ from = covers.4 ∙ tokens-first names text from to ts covers.0 tokens covers.2 in
     let count : suc (n - 1) ≡ n = omega (arith, within.0) in
     let after = tokens-after names text from to ts (n - 1) covers.1 tokens covers.3 in
     let next = subst (λ (p : ℕ × ℕ). AreTokensBetween names text p.0 to (drop p.1 ts)) (λ i. (sym covers.5 i, count i)) after.0 in
-    let upto : s.range.stop ≤ to = tokens-rise names text s.range.stop to (drop n ts) next in
-    let past : from < s.range.stop = omega (arith, after.1, covers.5) in
-    let rest : flat_map (λ u. text_between text u.range.start u.range.stop) ss ≡ take (to - s.range.stop) (drop (s.range.stop - from) (drop from text)) =
-    joined-between names text s.range.stop to (drop n ts) ss next more ∙ ap (λ r. take (to - s.range.stop) r) (ap (λ k. drop k text) (omega arith) ∙ sym (drop-drop (s.range.stop - from) from text)) in
-    let whole : s.range.stop - from + (to - s.range.stop) ≡ to - from = omega arith in
-    ap (λ x. text_between text x s.range.stop ++ flat_map (λ u. text_between text u.range.start u.range.stop) ss) starts
-    ∙ ap (λ r. take (s.range.stop - from) (drop from text) ++ r) rest
-    ∙ sym (take-add (s.range.stop - from) (to - s.range.stop) (drop from text))
-    ∙ ap (λ k. take k (drop from text)) whole
+    (starts, omega (arith, after.1, covers.5, starts), tiles names text s.range.stop to (drop n ts) ss next more)
+
+joins-as : (text : List ℕ) (ss : List Span) → flat_map (λ (s : Span). text_between text s.range.start s.range.stop) ss ≡ joined text (map place_of ss)
+joins-as text [] = refl
+joins-as text (s ∷ ss) =
+    flat_map-cons (λ (u : Span). text_between text u.range.start u.range.stop) s ss
+    ∙ ap (λ r. text_between text s.range.start s.range.stop ++ r) (joins-as text ss)
+    ∙ sym (flat_map-cons (λ (p : ℕ × ℕ). text_between text p.0 p.1) (place_of s) (map place_of ss))
 
 pub joined-all : (text : List ℕ) (aliases : List (List ℕ)) (ss : List Span) → AreSpans text aliases ss → flat_map (λ s. text_between text s.range.start s.range.stop) ss ≡ text
-joined-all text aliases ss (ts, (base, end, under, ends, tokens), cut) = joined-between (names_at end aliases) text 0 (length text) ts ss tokens cut ∙ take_all _ text (omega arith)
+joined-all text aliases ss (ts, (base, end, under, ends, tokens), cut) =
+    joins-as text ss ∙ tiles-whole text (map place_of ss) (tiles (names_at end aliases) text 0 (length text) ts ss tokens cut)

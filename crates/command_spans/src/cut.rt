@@ -2,7 +2,7 @@
 
 ghost use Rattle.std.specs.Prelude.{◌≡◌, ◌<◌, ◌≤◌, ℕ, true, false, IfOk, length};
 ghost use Rattle.std.specs.List.{AllWithin};
-ghost use Rattle.outer_tokens.specs.Reading.{is_command};
+ghost use Rattle.outer_tokens.specs.Kinds.{is_command};
 ghost use Rattle.command_spans.specs.Spans.{Is, proper_token, RunsTo, IsSpan, AreSpansOf, AreSpans};
 
 use crate::span::{Span, SpanKind};

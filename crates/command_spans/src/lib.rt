@@ -5,8 +5,6 @@
 mod cut;
 mod law;
 mod span;
-#[cfg(test)]
-mod tests;
 
 pub use cut::spans;
 pub use law::one_list;

@@ -1,2 +1,3 @@
-pub mod ReadLemmas
-pub mod HeaderLaws
+mod HeaderLaws
+mod TakenLemmas
+mod ReadLemmas

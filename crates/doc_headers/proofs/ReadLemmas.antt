@@ -1,101 +1,146 @@
--- Where the parts of a header are among its tokens.
-use Rattle.std.proofs.Common.{◌≡◌, ℕ, ◌+◌, ◌*◌, ◌≤◌, eqb, List, [], ◌∷◌, ◌++◌, length, get_or, take, drop, map, sym, refl, ap, ◌∙◌, subst, arith, append_assoc}
-use Rattle.std.specs.Prelude.{codes}
-use Rattle.std.proofs.lemmas.Bool.{cond_both, eqb-true}
-use Rattle.std.proofs.lemmas.List.{take_at, drop_at, length-map, take-map, drop-map, map-append, take-append-drop, drop-drop}
-use Rattle.outer_tokens.specs.Tokens.{text_of}
-use Rattle.outer_tokens.specs.Headings.{Heading, Word, words, words_of, import_words, pair_words, IsHeading, HasHeading}
-use Rattle.outer_tokens.specs.Reading.{part_len, heading_len}
-use Rattle.outer_tokens.specs.declared.kind.Kind.TheVariants.{Command, Keyword, Ident}
+-- What the reading of a header knows at each token.
+use Rattle.std.proofs.Common.{◌≡◌, ℕ, ◌+◌, ◌<◌, ◌≤◌, Bool, true, false, Option, None, Some, List, [], ◌∷◌, ◌++◌, length, take, drop, map, sym, refl, ap, ◌∙◌, subst, arith, append_assoc, length-append}
+use Rattle.std.specs.Prelude.{if◌then◌else◌}
+use Rattle.std.proofs.lemmas.Bool.{cond-true, cond-false}
+use Rattle.std.proofs.lemmas.List.{take_at, append-nil, map-append}
+use Rattle.outer_tokens.specs.Kinds.{is_proper}
+use Rattle.outer_tokens.specs.Words.{is_in_force}
+use Rattle.outer_tokens.specs.Tokens.{text_of, IsTokenAt, AreTokensBetween}
+use Rattle.outer_tokens.specs.Headings.{words, words_of, IsHeading, IsHeadingEnd, proper}
+use Rattle.outer_tokens.specs.Stages.{after_word, after_token, is_ended, end_from}
+use Rattle.outer_tokens.specs.Lexing.{tokens_from}
+use Rattle.outer_tokens.specs.declared.stage.Stage.{Stage}
+use Rattle.outer_tokens.specs.declared.stage.Stage.TheVariants.{Start, Theory, Name, Imports, Import, Keywords, PairName, Equals, Pair, Ended, Absent}
 use Rattle.outer_tokens.specs.declared.token.Token.{Token}
-use Rattle.outer_tokens.proofs.HeadingLemmas.{flat_pairs}
-use Rattle.outer_tokens.proofs.HeaderLemmas.{length-imports}
-use Rattle.doc_headers.specs.Headers.{pair_of, pairs_in}
-use Rattle.doc_headers.specs.declared.parts.KeywordPair.{KeywordPair}
+use Rattle.outer_tokens.proofs.KnownParts.{Parts, collect, Sofar}
+use Rattle.outer_tokens.proofs.KnownStages.{further}
+use Rattle.outer_tokens.proofs.KnownProper.{proper-push, proper-skip, proper-both}
+use Rattle.outer_tokens.proofs.KnownHeadings.{words-push, nothing-read, heading-end}
+use Rattle.outer_tokens.proofs.KnownLexing.{tokens-push, tokens-append, rest-tokens}
+use Rattle.doc_headers.specs.Headers.{pair_of, header_of, AreBaseTokens, HasHeader, HasNoHeader}
+use Rattle.doc_headers.specs.Reading.{nothing, taken_at, advanced}
+use Rattle.doc_headers.specs.declared.read.Reading.{Reading}
+use Rattle.doc_headers.proofs.TakenLemmas.{told, taken-told}
 
--- so many items are within their part
-pub part-big : (each n : ℕ) → each * n ≤ part_len each n
-part-big each n = cond_both (eqb n 0) 0 (each * n + 1) (λ x. each * n ≤ x) (λ e. let none : n ≡ 0 = eqb-true n 0 e in subst (λ k. each * k ≤ 0) (sym none) (omega arith)) (λ e. omega arith)
+-- the tokens up to a place have been read, and the header goes on
+pub record IsRead (text : List ℕ) (place : ℕ) (r : Reading) : Type 0 where
+  pub done : List Token
+  pub parts : Parts
+  pub tokens : AreTokensBetween (λ _. is_in_force []) text 0 place done
+  pub sofar : Sofar r.stage parts (words text (proper done))
+  pub says : r ≡ told r.stage parts
+  pub on : is_ended r.stage ≡ false
+  pub ends : (rest : List Token) → end_from text Start (done ++ rest) ≡ end_from text r.stage rest
 
-pub sizes : (text : List ℕ) (tokens : List Token) (i p : ℕ) → HasHeading text tokens i p (heading_len i p) → (3 + part_len 1 i + 3 * p ≤ length tokens) × (3 + i ≤ length tokens)
-sizes text tokens i p has =
-    (omega (arith, has.1.within, part-big 3 p), omega (arith, has.1.within, part-big 1 i))
+pub read-start : (text : List ℕ) → IsRead text 0 nothing
+read-start text = record {
+  done = [];
+  parts = nothing-read;
+  tokens = refl;
+  sofar = ((refl, refl), refl);
+  says = refl;
+  on = refl;
+  ends = λ rest. refl;
+}
 
-whole : (text : List ℕ) (tokens : List Token) (h : Heading) (n : ℕ) → IsHeading text tokens h n → words text tokens ≡ words_of h ++ words text (drop n tokens)
-whole text tokens h n is =
-    ap (words text) (sym (take-append-drop n tokens)) ∙ map-append (λ (t : Token). (t.kind, text_of text t)) (take n tokens) (drop n tokens) ∙ ap (λ r. r ++ words text (drop n tokens)) is.spelled
+module _ (text : List ℕ) (place : ℕ) (r : Reading) (t : Token) (read : IsRead text place r) (at : IsTokenAt (is_in_force []) text place t) where
+  -- what one token more tells
+  pub record IsNext (p : Parts) : Type 0 where
+    pub sofar : Sofar (after_token text r.stage t) p (words text (proper (read.done ++ t ∷ [])))
+    pub says : advanced text t r ≡ told (after_token text r.stage t) p
 
-second : List Word → List ℕ
-second (a ∷ b ∷ ws) = b.1
-second _ = []
+  pub next-parts : (b : Bool) → is_proper t.kind ≡ b → (p : Parts) × IsNext p
+  next-parts true e =
+      let x : List ℕ = text_of text t in
+      let s' : Stage = after_word r.stage (t.kind, x) in
+      let here : after_token text r.stage t ≡ s' = cond-true (is_proper t.kind) s' r.stage e in
+      let p' : Parts = collect s' x read.parts in
+      let so : Sofar s' p' (words text (proper (read.done ++ t ∷ []))) =
+      subst (Sofar s' p') (sym (ap (words text) (proper-push read.done t e) ∙ words-push text (proper read.done) t)) (further r.stage read.parts (words text (proper read.done)) (t.kind, x) read.on read.sofar) in
+      let first : advanced text t r ≡ taken_at (after_token text r.stage t) x (record r { stage = after_token text r.stage t }) = cond-true (is_proper t.kind) _ _ e in (
+        p',
+        record {
+          sofar = subst (λ s. Sofar s p' (words text (proper (read.done ++ t ∷ [])))) (sym here) so;
+          says = first ∙ (λ i. taken_at (here i) x (record (read.says i) { stage = here i })) ∙ taken-told s' x read.parts ∙ ap (λ s. told s p') (sym here);
+        },
+      )
+  next-parts false e =
+      let here : after_token text r.stage t ≡ r.stage = cond-false (is_proper t.kind) (after_word r.stage (t.kind, text_of text t)) r.stage e in (
+        read.parts,
+        record {
+          sofar = subst (λ s. Sofar s read.parts (words text (proper (read.done ++ t ∷ [])))) (sym here) (subst (Sofar r.stage read.parts) (sym (ap (words text) (proper-skip read.done t e))) read.sofar);
+          says = cond-false (is_proper t.kind) _ _ e ∙ ap (λ (x : Reading). record x { stage = after_token text r.stage t }) read.says;
+        },
+      )
 
-pub name-is : (text : List ℕ) (tokens : List Token) (h : Heading) (n : ℕ) (d : Token) → IsHeading text tokens h n → text_of text (get_or tokens 1 d) ≡ h.name
-unfolding second
-name-is text [] h n d is = absurd (omega (arith, ap length (whole text [] h n is)))
-name-is text (a ∷ []) h n d is = absurd (omega (arith, ap length (whole text (a ∷ []) h n is)))
-name-is text (a ∷ b ∷ ts) h n d is = ap second (whole text (a ∷ b ∷ ts) h n is)
+  pub tokens-next : AreTokensBetween (λ _. is_in_force []) text 0 t.range.stop (read.done ++ t ∷ [])
+  tokens-next = tokens-push (λ _. is_in_force []) text 0 place read.done t read.tokens at.0 at.1
 
-texts : (text : List ℕ) (ts : List Token) → map (text_of text) ts ≡ map (λ (w : Word). w.1) (words text ts)
-texts text [] = refl
-texts text (t ∷ ts) = ap (λ r. text_of text t ∷ r) (texts text ts)
+  pub ends-next : is_ended (after_token text r.stage t) ≡ false → (rest : List Token) → end_from text Start ((read.done ++ t ∷ []) ++ rest) ≡ end_from text (after_token text r.stage t) rest
+  ends-next on rest =
+      ap (end_from text Start) (append_assoc read.done (t ∷ []) rest) ∙ read.ends (t ∷ rest)
+      ∙ cond-false (is_ended (after_token text r.stage t)) (Some t.range.stop) (end_from text (after_token text r.stage t) rest) on
 
-names-back : (names : List (List ℕ)) → map (λ (w : Word). w.1) (map (λ n. (Ident, n)) names) ≡ names
-names-back [] = refl
-names-back (n ∷ ns) = ap (λ r. n ∷ r) (names-back ns)
+  pub stage-next : (advanced text t r).stage ≡ after_token text r.stage t
+  stage-next = let n = next-parts (is_proper t.kind) refl in ap (λ (x : Reading). x.stage) n.1.says
 
-some-imports : (names : List (List ℕ)) (rest : List Word) → take (length names) (drop 1 (import_words names ++ rest)) ≡ map (λ n. (Ident, n)) names
-some-imports [] rest = refl
-some-imports (n ∷ ns) rest = take_at (map (λ n. (Ident, n)) (n ∷ ns)) rest _ (length-map {B = Word} (n ∷ ns) (λ n. (Ident, n)))
+  -- the header goes on
+  pub read-on : is_ended (advanced text t r).stage ≡ false → IsRead text t.range.stop (advanced text t r)
+  read-on on =
+      let n = next-parts (is_proper t.kind) refl in
+      let still : is_ended (after_token text r.stage t) ≡ false = ap is_ended (sym stage-next) ∙ on in
+      subst (IsRead text t.range.stop) (sym n.1.says)
+      (record {
+        done = read.done ++ t ∷ [];
+        parts = n.0;
+        tokens = tokens-next;
+        sofar = n.1.sofar;
+        says = refl;
+        on = still;
+        ends = ends-next still;
+      })
 
-pub imports-are : (text : List ℕ) (tokens : List Token) (h : Heading) (n : ℕ) → IsHeading text tokens h n → map (text_of text) (take (length h.imports) (drop 3 tokens)) ≡ h.imports
-imports-are text tokens h n is =
-    let f : Token → Word = λ t. (t.kind, text_of text t) in
-    let k : ℕ = length h.imports in
-    let rest = (pair_words h.pairs ++ (Keyword, codes "begin") ∷ []) ++ words text (drop n tokens) in
-    let tail : drop 3 (words text tokens) ≡ drop 1 (import_words h.imports ++ rest) =
-    ap (drop 3) (whole text tokens h n is)
-    ∙ ap (drop 1) (ap (λ r. r ++ words text (drop n tokens)) (append_assoc (import_words h.imports) (pair_words h.pairs) ((Keyword, codes "begin") ∷ [])) ∙ append_assoc (import_words h.imports) (pair_words h.pairs ++ (Keyword, codes "begin") ∷ []) (words text (drop n tokens))) in
-    texts text (take k (drop 3 tokens))
-    ∙ ap (map (λ (w : Word). w.1)) (sym (take-map f k (drop 3 tokens)) ∙ ap (take k) (sym (drop-map f 3 tokens) ∙ tail) ∙ some-imports h.imports rest)
-    ∙ names-back h.imports
+  -- the header has ended
+  pub read-header : t.range.stop ≤ length text → (advanced text t r).stage ≡ Ended → HasHeader text (advanced text t r).header
+  read-header within ended =
+      let n = next-parts (is_proper t.kind) refl in
+      let done : List Token = read.done ++ t ∷ [] in
+      let rest : List Token = tokens_from (λ _. is_in_force []) 0 t.range.stop (drop t.range.stop text) in
+      let so = subst (λ s. Sofar s n.0 (words text (proper done))) (sym stage-next ∙ ended) n.1.sofar in (
+        done ++ rest,
+        n.0.0,
+        length (proper done),
+        tokens-append (λ _. is_in_force []) text 0 t.range.stop (length text) done rest tokens-next (rest-tokens (λ _. is_in_force []) text t.range.stop within),
+        record {
+          within = omega (arith, ap length (proper-both done rest), length-append (proper done) (proper rest));
+          spelled = ap (words text) (ap (take (length (proper done))) (proper-both done rest) ∙ take_at (proper done) (proper rest) (length (proper done)) refl) ∙ so.1;
+        },
+        ap (λ (x : Reading). x.header) n.1.says,
+      )
 
-pairs-by-words : List Word → List KeywordPair
-pairs-by-words (a ∷ b ∷ c ∷ ws) = pair_of (a.1, c.1) ∷ pairs-by-words ws
-pairs-by-words _ = []
+absent-ends : (text : List ℕ) (ts : List Token) → end_from text Absent ts ≡ None
+absent-ends text [] = refl
+absent-ends text (t ∷ ts) = go (is_proper t.kind) refl (absent-ends text ts) where
+  go : (b : Bool) → is_proper t.kind ≡ b → end_from text Absent ts ≡ None → end_from text Absent (t ∷ ts) ≡ None
+  go true e more = ap (λ s. if is_ended s then Some t.range.stop else end_from text s ts) (cond-true (is_proper t.kind) Absent Absent e) ∙ more
+  go false e more = ap (λ s. if is_ended s then Some t.range.stop else end_from text s ts) (cond-false (is_proper t.kind) Absent Absent e) ∙ more
 
-pairs-words : (text : List ℕ) (ts : List Token) → pairs_in text ts ≡ pairs-by-words (words text ts)
-unfolding pairs-by-words
-pairs-words text [] = refl
-pairs-words text (a ∷ []) = refl
-pairs-words text (a ∷ b ∷ []) = refl
-pairs-words text (a ∷ b ∷ c ∷ ts) = ap (λ r. pair_of (text_of text a, text_of text c) ∷ r) (pairs-words text ts)
+pub no-header : (text : List ℕ) (ts : List Token) → AreBaseTokens text ts → end_from text Start ts ≡ None → HasNoHeader text
+no-header text ts is none = (ts, is, subst (IsHeadingEnd text (proper ts)) none (heading-end text ts))
 
-pairs-back : (pairs : List (List ℕ × List ℕ)) → pairs-by-words (flat_pairs pairs) ≡ map pair_of pairs
-unfolding pairs-by-words
-pairs-back [] = refl
-pairs-back (p ∷ ps) = ap (λ r. pair_of p ∷ r) (pairs-back ps)
+-- at the text's end no header has been read
+pub read-end : (text : List ℕ) (place : ℕ) (r : Reading) → IsRead text place r → place ≡ length text → HasNoHeader text
+read-end text place r read end =
+    no-header text read.done (subst (λ p. AreTokensBetween (λ _. is_in_force []) text 0 p read.done) end read.tokens)
+    (ap (end_from text Start) (sym (append-nil read.done)) ∙ read.ends [])
 
-length-flat : (pairs : List (List ℕ × List ℕ)) → length (flat_pairs pairs) ≡ 3 * length pairs
-length-flat [] = refl
-length-flat (p ∷ ps) = omega (arith, length-flat ps)
+-- there is none after what no header has
+pub read-absent : (text : List ℕ) (place : ℕ) (r : Reading) → IsRead text place r → place ≤ length text → r.stage ≡ Absent → HasNoHeader text
+read-absent text place r read within absent =
+    let rest : List Token = tokens_from (λ _. is_in_force []) 0 place (drop place text) in
+    no-header text (read.done ++ rest) (tokens-append (λ _. is_in_force []) text 0 place (length text) read.done rest read.tokens (rest-tokens (λ _. is_in_force []) text place within))
+    (read.ends rest ∙ ap (λ s. end_from text s rest) absent ∙ absent-ends text rest)
 
-some-pairs : (pairs : List (List ℕ × List ℕ)) (rest : List Word) → take (3 * length pairs) (drop 1 (pair_words pairs ++ rest)) ≡ flat_pairs pairs
-some-pairs [] rest = refl
-some-pairs (p ∷ ps) rest = take_at (flat_pairs (p ∷ ps)) rest _ (length-flat (p ∷ ps))
-
-pub pairs-are : (text : List ℕ) (tokens : List Token) (h : Heading) (n : ℕ) → IsHeading text tokens h n → pairs_in text (take (3 * length h.pairs) (drop (3 + part_len 1 (length h.imports)) tokens)) ≡ map pair_of h.pairs
-pairs-are text tokens h n is =
-    let f : Token → Word = λ t. (t.kind, text_of text t) in
-    let k : ℕ = 3 * length h.pairs in
-    let at : ℕ = 3 + part_len 1 (length h.imports) in
-    let front : List Word = (Command, codes "theory") ∷ (Ident, h.name) ∷ import_words h.imports in
-    let rest = (Keyword, codes "begin") ∷ words text (drop n tokens) in
-    let grouped : words text tokens ≡ front ++ (pair_words h.pairs ++ rest) =
-    whole text tokens h n is ∙ append_assoc (front ++ pair_words h.pairs) ((Keyword, codes "begin") ∷ []) (words text (drop n tokens)) ∙ append_assoc front (pair_words h.pairs) rest in
-    let size : length front ≡ 2 + part_len 1 (length h.imports) = omega (arith, length-imports h.imports) in
-    let place : 2 + part_len 1 (length h.imports) + 1 ≡ at = omega arith in
-    let tail : drop at (words text tokens) ≡ drop 1 (pair_words h.pairs ++ rest) =
-    ap (λ m. drop m (words text tokens)) (sym place) ∙ sym (drop-drop 1 (2 + part_len 1 (length h.imports)) (words text tokens)) ∙ ap (drop 1) (ap (drop (2 + part_len 1 (length h.imports))) grouped ∙ drop_at front (pair_words h.pairs ++ rest) _ size) in
-    pairs-words text (take k (drop at tokens))
-    ∙ ap pairs-by-words (sym (take-map f k (drop at tokens)) ∙ ap (take k) (sym (drop-map f at tokens) ∙ tail) ∙ some-pairs h.pairs rest)
-    ∙ pairs-back h.pairs
+pub not-ended : (s : Stage) → (s ≡ Ended → ⊥) → is_ended s ≡ false
+not-ended Ended other = absurd (other refl)
+not-ended _ other = refl

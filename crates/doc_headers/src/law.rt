@@ -1,11 +1,12 @@
 //! What holds of the header of every text.
 
-ghost use Rattle.std.specs.Prelude.{◌≡◌, ℕ, List};
+ghost use Rattle.std.specs.Prelude.{◌≡◌, ◌⊎◌, ℕ, List};
 ghost use Rattle.doc_headers.specs.Headers.{HasHeader, HasNoHeader};
 ghost use Rattle.doc_headers.specs.declared.parts.Header.{Header};
 
-/// A text has at most one header, and then it isn't without one.
+/// Each text has one header or none, and not both.
 pub fn one_header()
+    ensures either { (text : List ℕ) → HasNoHeader text ⊎ ((h : Header) × HasHeader text h) }
     ensures one { (text : List ℕ) (a b : Header) → HasHeader text a → HasHeader text b → a ≡ b }
     ensures apart { (text : List ℕ) (a : Header) → HasHeader text a → HasNoHeader text → ⊥ }
 {}

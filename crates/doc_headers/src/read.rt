@@ -1,89 +1,84 @@
 //! How the header is read off the tokens.
 
-ghost use Rattle.std.specs.Prelude.{◌≡◌, ◌<◌, ◌+◌, ◌^◌, ℕ, IfOk, MatchOption, map};
-ghost use Rattle.symbols.specs.Joined.{text_between};
+ghost use Rattle.std.specs.Prelude.{◌≡◌, IfOk, MatchOption};
 ghost use Rattle.outer_tokens.specs.Tokens.{text_of};
-ghost use Rattle.outer_tokens.specs.Headings.{Heading, IsHeading, HasHeading};
-ghost use Rattle.outer_tokens.specs.Reading.{part_len, heading_len};
-ghost use Rattle.doc_headers.specs.Headers.{header_of, HasHeader, HasNoHeader, pairs_in};
+ghost use Rattle.doc_headers.specs.Headers.{HasHeader, HasNoHeader};
+ghost use Rattle.doc_headers.specs.Reading.{nothing, taken_in, advanced};
 
 use crate::parts::{Header, KeywordPair};
-use outer_tokens::{Counts, Kind, Token, content, heading, lex, proper, scalars};
+use outer_tokens::{Kind, Stage, Token, after_token, content, is_proper, next_token, scalars};
 use sqlite_items::Items;
 use std::alloc::{AllocError, Global};
 
-/// The scalars of the token.
-fn copied(alloc: Global, text: &[char], token: Token) -> Result<Items<char>, AllocError>
-    ensures { IfOk result (λ v. v ≡ text_between text.now token.range.start token.range.stop) }
-{
-    let items = Vec::from_slice(alloc, scalars(text, token.range))?;
-    Ok(Items::from_vec(items))
+/// How far a header has been read, what it told so far, and the name of a pair that isn't read to its
+/// end.
+#[derive(Debug, Drop)]
+struct Reading {
+    stage: Stage,
+    header: Header,
+    pair: Items<char>,
 }
 
-/// The scalars of each token.
-fn names(alloc: Global, text: &[char], tokens: &[Token]) -> Result<Items<Items<char>>, AllocError>
-    ensures { IfOk result (λ v. v ≡ map (text_of text.now) tokens.now) }
-{
-    let mut names = Vec::new(alloc);
-    for token in tokens {
-        names.push(copied(alloc, text, *token)?)?;
+impl Reading {
+    /// Nothing has been read.
+    fn new(alloc: Global) -> Reading
+        ensures { result ≡ nothing }
+    {
+        Reading {
+            stage: Stage::Start,
+            header: Header {
+                name: Items::new(alloc),
+                imports: Items::new(alloc),
+                keywords: Items::new(alloc),
+            },
+            pair: Items::new(alloc),
+        }
     }
-    Ok(Items::from_vec(names))
-}
 
-/// The keyword pairs that the tokens are, three by three.
-fn pairs(alloc: Global, text: &[char], tokens: &[Token]) -> Result<Items<KeywordPair>, AllocError>
-    ensures { IfOk result (λ v. v ≡ pairs_in text.now tokens.now) }
-{
-    let mut pairs = Vec::new(alloc);
-    let mut rest = tokens;
-    while let [name, _, string, after @ ..] = rest {
-        let name = copied(alloc, text, *name)?;
-        let target = Items::from_vec(content(alloc, Kind::String, scalars(text, string.range))?);
-        pairs.push(KeywordPair { name, target })?;
-        rest = after;
+    /// Takes in the word by which the header has come to its stage.
+    fn take_in(&mut self, alloc: Global, word: &[char]) -> Result<(), AllocError>
+        ensures { IfOk result (λ _. self.new ≡ taken_in word.now self.old) }
+    {
+        match self.stage {
+            Stage::Name => self.header.name = Items::from_slice(alloc, word)?,
+            Stage::Import => self.header.imports.push(Items::from_slice(alloc, word)?)?,
+            Stage::PairName => self.pair = Items::from_slice(alloc, word)?,
+            Stage::Pair => {
+                let target = Items::from_vec(content(alloc, Kind::String, word)?);
+                let name = std::mem::replace(&mut self.pair, Items::new(alloc));
+                self.header.keywords.push(KeywordPair { name, target })?;
+            }
+            _ => {}
+        }
+        Ok(())
     }
-    Ok(Items::from_vec(pairs))
+
+    /// Goes on with the next token of the text.
+    fn advance(&mut self, alloc: Global, text: &[char], token: Token) -> Result<(), AllocError>
+        ensures { IfOk result (λ _. self.new ≡ advanced text.now token self.old) }
+    {
+        self.stage = after_token(text, self.stage, token);
+        if is_proper(token.kind) {
+            self.take_in(alloc, scalars(text, token.range))?;
+        }
+        Ok(())
+    }
 }
 
-/// Where the first keyword pair of a header with so many imports is among its tokens.
-fn first_pair(imports: usize) -> usize
-    requires { 3 + part_len 1 imports < 2 ^ 64 }
-    ensures { result ≡ 3 + part_len 1 imports }
-{
-    if imports == 0 { 3 } else { imports + 4 }
-}
-
-/// The header of these counts that the tokens begin with.
-fn read(
-    alloc: Global,
-    text: &[char],
-    tokens: &[Token],
-    counts: Counts,
-) -> Result<Header, AllocError>
-    requires { HasHeading text.now tokens.now counts.imports counts.pairs
-        (heading_len counts.imports counts.pairs) }
-    ensures { IfOk result (λ v. (h : Heading) × (n : ℕ) × IsHeading text.now tokens.now h n × (v ≡ header_of h)) }
-{
-    let at = first_pair(counts.imports);
-    let name = copied(alloc, text, tokens[1])?;
-    let imports = names(alloc, text, &tokens[3..3 + counts.imports])?;
-    let keywords = pairs(alloc, text, &tokens[at..at + 3 * counts.pairs])?;
-    Ok(Header {
-        name,
-        imports,
-        keywords,
-    })
-}
-
-/// The header of the text. `None` comes exactly where its proper tokens don't begin with one.
+/// The header of the text. `None` comes exactly where its proper tokens don't begin with one. No more
+/// of the text is read than its header, or than what shows that it has none.
 pub fn header(alloc: Global, text: &[char]) -> Result<Option<Header>, AllocError>
     ensures { IfOk result (λ found. MatchOption found (HasNoHeader text.now) (HasHeader text.now)) }
 {
-    let tokens = lex(alloc, text, &[])?;
-    let proper = proper(alloc, &tokens)?;
-    match heading(text, &proper) {
-        Some(counts) => Ok(Some(read(alloc, text, &proper, counts)?)),
-        None => Ok(None),
+    let mut reading = Reading::new(alloc);
+    let mut place = 0;
+    while let Some(token) = next_token(text, &[], place) {
+        reading.advance(alloc, text, token)?;
+        match reading.stage {
+            Stage::Ended => return Ok(Some(reading.header)),
+            Stage::Absent => return Ok(None),
+            _ => place = token.range.stop,
+        }
     }
+    Ok(None)
 }

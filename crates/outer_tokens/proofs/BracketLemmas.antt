@@ -2,7 +2,7 @@
 use Rattle.std.proofs.Common.{◌≡◌, ℕ, zero, suc, ◌+◌, ◌-◌, ◌<◌, ◌≤◌, Bool, true, false, cond, nat_eq, eqb, List, [], ◌∷◌, ◌++◌, length, take, drop, sym, refl, ap, ◌∙◌, subst, arith, length-take-le, length-drop, append_assoc}
 use Rattle.std.proofs.lemmas.Bool.{and_parts, both_ways, eqb-true}
 use Rattle.std.proofs.lemmas.List.{take-take, drop-take, drop-drop, take-append-drop, append-nil}
-use Rattle.symbols.specs.Longest.{IsLongest, HasNoFront}
+use Rattle.text_words.specs.Longest.{IsLongest, HasNoFront}
 use Rattle.outer_tokens.specs.Brackets.{opening, closing, begins, piece, Reads, opened, closed, after, Closes, ClosesText}
 use Rattle.outer_tokens.specs.declared.bracket.Bracket.{Bracket}
 use Rattle.outer_tokens.specs.declared.bracket.Bracket.TheVariants.{Comment, String, Cartouche}
@@ -38,7 +38,7 @@ piece-take Cartouche n s within =
     let c : begins (closing Cartouche) (take n s) ≡ begins (closing Cartouche) s = begins-take (closing Cartouche) n s within in
     λ i. cond (o i) (Open, 7) (cond (c i) (Close, 8) (Other, 1))
 
-close-case : (o c : Bool) (first : Mark × ℕ) (n : ℕ) → (first.0 ≡ Close → ⊥) → (cond o first (cond c (Close, n) (Other, 1))).0 ≡ Close → ((cond o first (cond c (Close, n) (Other, 1))).1 ≡ n) × (c ≡ true)
+pub close-case : (o c : Bool) (first : Mark × ℕ) (n : ℕ) → (first.0 ≡ Close → ⊥) → (cond o first (cond c (Close, n) (Other, 1))).0 ≡ Close → ((cond o first (cond c (Close, n) (Other, 1))).1 ≡ n) × (c ≡ true)
 close-case true c first n other close = absurd (other close)
 close-case false true first n other close = (refl, refl)
 close-case false false first n other close = cc
@@ -74,7 +74,7 @@ closes-first depth m ms positive c = record { all = whole m c.all; last = go m c
   go Other last (suc k) below = omega (arith, last k (omega arith))
 
 -- what closes a bracket has room for a closing
-room : (b : Bracket) (s : List ℕ) (ms : List Mark) (depth : ℕ) → 0 < depth → Reads b s ms → Closes depth ms → length (closing b) ≤ length s
+pub room : (b : Bracket) (s : List ℕ) (ms : List Mark) (depth : ℕ) → 0 < depth → Reads b s ms → Closes depth ms → length (closing b) ≤ length s
 room b s [] depth positive reads c = absurd (omega (arith, c.all))
 room b s (Close ∷ ms) depth positive reads c = (close-fits b s reads.1).1
 room b s (Open ∷ ms) depth positive reads c =
@@ -127,67 +127,6 @@ up b depth s n positive within fits (ms, reads, c) =
     go Open mark c = omega (arith, short, room b _ ms (depth + 1) (omega arith) reads c)
     go Other mark c = omega (arith, short, room b _ ms depth positive reads c)
 
--- the loop has come to `at` with so many open brackets: what is left closes them just where the whole closes one
-pub record IsLeft (b : Bracket) (inside : List ℕ) (depth at : ℕ) : Type 0 where
-  pub onward : (m : ℕ) → m ≤ length inside → ClosesText b 1 (take m inside) → (at ≤ m) × ClosesText b depth (take (m - at) (drop at inside))
-  pub back : (m : ℕ) → m ≤ length inside → at ≤ m → ClosesText b depth (take (m - at) (drop at inside)) → ClosesText b 1 (take m inside)
-
-pub left-start : (b : Bracket) (inside : List ℕ) → IsLeft b inside 1 0
-left-start b inside = record {
-  onward = λ m within closes. let same : m ≡ m - 0 = omega arith in (omega arith, subst (λ n. ClosesText b 1 (take n inside)) same closes);
-  back = λ m within past closes. let same : m - 0 ≡ m = omega arith in subst (λ n. ClosesText b 1 (take n inside)) same closes;
-}
-
-module _ {b : Bracket} {inside : List ℕ} {depth at : ℕ} (left : IsLeft b inside depth at) where
-  -- one piece more
-  pub left-more : 0 < depth → at < length inside → IsLeft b inside (after (piece b (drop at inside)).0 depth) (at + (piece b (drop at inside)).1)
-  left-more positive before = record {
-    onward = λ m within closes.
-        let here = left.onward m within closes in
-        let step = down b depth (drop at inside) (m - at) positive (omega (arith, length-drop at inside)) here.1 in
-        let next : m - at - size ≡ m - (at + size) = omega arith in
-        (omega (arith, here.0, step.0), subst (λ n. ClosesText b to (take n (drop (at + size) inside))) next (subst (λ r. ClosesText b to (take (m - at - size) r)) (drop-drop size at inside) step.1));
-    back = λ m within past closes.
-        let next : m - (at + size) ≡ m - at - size = omega arith in
-        let closes_there = subst (λ r. ClosesText b to (take (m - at - size) r)) (sym (drop-drop size at inside)) (subst (λ n. ClosesText b to (take n (drop (at + size) inside))) next closes) in
-        left.back m within (omega arith) (up b depth (drop at inside) (m - at) positive (omega (arith, length-drop at inside)) (omega arith) closes_there);
-  } where
-    size : ℕ
-    size = (piece b (drop at inside)).1
-
-    to : ℕ
-    to = after (piece b (drop at inside)).0 depth
-
-  -- at the text's end with an open bracket no front closes
-  pub left-none : 0 < depth → length inside ≤ at → HasNoFront (ClosesText b 1) inside
-  left-none positive past m within closes =
-      let here = left.onward m within closes in
-      let marks = here.1 in
-      omega (arith, closing-some b, room b (take (m - at) (drop at inside)) marks.0 depth positive marks.1 marks.2, length-take-le (m - at) (drop at inside) (omega (arith, here.0, length-drop at inside)))
-
-closes-nothing : (b : Bracket) (s : List ℕ) → ClosesText b 0 s → s ≡ []
-closes-nothing b s ([], reads, c) = reads
-closes-nothing b s (m ∷ ms, reads, c) = absurd (omega (arith, c.last 0 (omega arith)))
-
--- where nothing is open any more, the closing is found
-pub left-found : (b : Bracket) (inside : List ℕ) (at : ℕ) → IsLeft b inside 0 at → at ≤ length inside → IsLongest (ClosesText b 1) inside at
-left-found b inside at left within = record {
-  within = within;
-  fits = let none : at - at ≡ 0 = omega arith in
-      left.back at within (omega arith) (subst (λ n. ClosesText b 0 (take n (drop at inside))) (sym none) ([], refl, record { all = refl; last = λ k below. absurd (omega arith) }));
-  longest = λ m fits closes.
-      let here = left.onward m fits closes in
-      omega (arith, ap length (closes-nothing b _ here.1), length-take-le (m - at) (drop at inside) (omega (arith, length-drop at inside)));
-}
-
--- the piece after which nothing is open is a closing, whole
-pub last-fits : (b : Bracket) (depth : ℕ) (s : List ℕ) → 0 < depth → after (piece b s).0 depth ≡ 0 → (piece b s).1 ≤ length s
-last-fits b depth s positive none = go (piece b s).0 refl none where
-  go : (m : Mark) → (piece b s).0 ≡ m → after m depth ≡ 0 → (piece b s).1 ≤ length s
-  go Open mark none = absurd (omega arith)
-  go Close mark none = let h = close-fits b s mark in omega (arith, h.0, h.1)
-  go Other mark none = absurd (omega arith)
-
 some-case : (o c : Bool) (first : Mark × ℕ) (n : ℕ) → 0 < first.1 → 0 < n → 0 < (cond o first (cond c (Close, n) (Other, 1))).1
 some-case true c first n some more = some
 some-case false true first n some more = more
@@ -198,33 +137,3 @@ pub piece-some : (b : Bracket) (s : List ℕ) → 0 < (piece b s).1
 piece-some Comment s = some-case (begins (opening Comment) s) (begins (closing Comment) s) (Open, 2) 2 (omega arith) (omega arith)
 piece-some String s = some-case (begins (92 ∷ []) s) (begins (closing String) s) (Other, 2) 1 (omega arith) (omega arith)
 piece-some Cartouche s = some-case (begins (opening Cartouche) s) (begins (closing Cartouche) s) (Open, 7) 8 (omega arith) (omega arith)
-
-equal-front : (front s : List ℕ) → begins front s ≡ true → take (length front) s ≡ front
-equal-front [] s fits = refl
-equal-front (c ∷ front) [] fits = absurd (both_ways false refl fits)
-equal-front (c ∷ front) (x ∷ s) fits =
-    let parts = and_parts (eqb c x) (begins front s) fits in
-    let head : x ≡ c = sym (eqb-true c x parts.0) in
-    let tail : take (length front) s ≡ front = equal-front front s parts.1 in
-    λ i. head i ∷ tail i
-
--- the scalars of a closing piece
-close-front : (b : Bracket) (s : List ℕ) → (piece b s).0 ≡ Close → take (length (closing b)) s ≡ closing b
-close-front Comment s close = equal-front (closing Comment) s (close-case (begins (opening Comment) s) (begins (closing Comment) s) (Open, 2) 2 (λ e. cc) close).1
-close-front String s close = equal-front (closing String) s (close-case (begins (92 ∷ []) s) (begins (closing String) s) (Other, 2) 1 (λ e. cc) close).1
-close-front Cartouche s close = equal-front (closing Cartouche) s (close-case (begins (opening Cartouche) s) (begins (closing Cartouche) s) (Open, 7) 8 (λ e. cc) close).1
-
--- what closes a bracket ends with its closing
-pub closes-end : (b : Bracket) (s : List ℕ) (ms : List Mark) (depth : ℕ) → 0 < depth → Reads b s ms → Closes depth ms → (front : List ℕ) × (s ≡ front ++ closing b)
-closes-end b s [] depth positive reads c = absurd (omega (arith, c.all))
-closes-end b s (Open ∷ []) depth positive reads c = absurd (omega (arith, c.all))
-closes-end b s (Other ∷ []) depth positive reads c = absurd (omega (arith, c.all))
-closes-end b s (Close ∷ []) depth positive reads c =
-    let fits = close-fits b s reads.1 in
-    let rest : drop (length (closing b)) s ≡ [] = ap (λ n. drop n s) (sym fits.0) ∙ reads.2 in
-    ([], sym (take-append-drop (length (closing b)) s) ∙ (λ i. close-front b s reads.1 i ++ rest i) ∙ append-nil (closing b))
-closes-end b s (m ∷ k ∷ ms) depth positive reads c =
-    let further = closes-rest depth m (k ∷ ms) c in
-    let size : ℕ = (piece b s).1 in
-    let end = closes-end b (drop size s) (k ∷ ms) (after m depth) (omega (arith, further.last 0 (omega arith))) reads.2 further in
-    (take size s ++ end.0, sym (take-append-drop size s) ∙ ap (λ r. take size s ++ r) end.1 ∙ sym (append_assoc (take size s) end.0 (closing b)))

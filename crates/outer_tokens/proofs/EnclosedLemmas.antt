@@ -2,7 +2,7 @@
 use Rattle.std.proofs.Common.{◌≡◌, ℕ, ◌+◌, ◌-◌, ◌≤◌, List, ◌++◌, length, take, drop, sym, ap, ◌∙◌, subst, arith, length-take-le, length-append, append_assoc}
 use Rattle.std.proofs.lemmas.List.{append_cancel_left, take-append-drop, take_all}
 use Rattle.std.proofs.Math.Seq.{take-append-add}
-use Rattle.symbols.specs.Longest.{IsLongest, HasNoFront}
+use Rattle.text_words.specs.Longest.{IsLongest, HasNoFront}
 use Rattle.outer_tokens.specs.Brackets.{opening, ClosesText, IsEnclosed}
 use Rattle.outer_tokens.specs.Forms.{IsOpened}
 use Rattle.outer_tokens.specs.declared.bracket.Bracket.{Bracket}

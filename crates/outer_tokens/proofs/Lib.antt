@@ -1,12 +1,23 @@
-pub mod WordLemmas
-pub mod BracketLemmas
-pub mod EnclosedLemmas
-pub mod SpaceLemmas
-pub mod LongLemmas
-pub mod RowLemmas
-pub mod TokenLemmas
-pub mod HeadingLemmas
-pub mod HeaderLemmas
-pub mod TokenLaws
-pub mod SymbolLaw
-pub mod ContentLemmas
+mod WordLemmas
+mod BracketLemmas
+mod LeftLemmas
+mod ClosingLemmas
+mod EnclosedLemmas
+mod LongLemmas
+mod RowLemmas
+mod TokenLemmas
+mod LeadLemmas
+mod FirstLemmas
+mod ClosingTests
+mod LongTests
+mod FitLemmas
+mod StageLemmas
+pub mod KnownParts
+pub mod KnownStages
+pub mod KnownProper
+pub mod KnownHeadings
+mod TokenLaws
+pub mod KnownLexing
+mod CrossLemmas
+mod SymbolLaw
+mod ContentLemmas

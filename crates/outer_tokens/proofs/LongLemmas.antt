@@ -5,9 +5,10 @@ use Rattle.std.proofs.lemmas.Bool.{both_ways, cases_lt}
 use Rattle.std.proofs.lemmas.List.{append-nil, drop-take, drop-drop, drop_at, get_or_at, flat_map_more}
 use Rattle.std.proofs.lemmas.List.Elements.{All-nil, All-head, All-tail, All-push}
 use Rattle.std.proofs.Math.Seq.{take-add}
-use Rattle.symbols.specs.Longest.{IsLongest, HasNoFront}
-use Rattle.symbols.specs.Names.{is_name_part, IsIdentifier}
-use Rattle.symbols.proofs.NameLemmas.{identifier-parts, front-part}
+use Rattle.text_words.specs.Longest.{IsLongest, HasNoFront}
+use Rattle.text_words.specs.Identifier.{is_identifier_part, IsIdentifier}
+use Rattle.text_words.proofs.KnownIdentifiers.{identifier-parts}
+use Rattle.symbols.proofs.KnownSplits.{front-part}
 use Rattle.outer_tokens.specs.Forms.{IsDotted, dotted, IsLongIdent}
 
 -- from the place on the front of m scalars goes on with dots and identifiers
@@ -18,19 +19,19 @@ pub identifier-some : (x : List ℕ) → IsIdentifier x → 0 < length x
 identifier-some [] id = absurd id
 identifier-some (c ∷ cs) id = omega arith
 
-name-part : (text : List ℕ) (n : ℕ) → IsLongest IsIdentifier text n → (k : ℕ) → k < n → is_name_part (get_or text k 0) ≡ true
+name-part : (text : List ℕ) (n : ℕ) → IsLongest IsIdentifier text n → (k : ℕ) → k < n → is_identifier_part (get_or text k 0) ≡ true
 name-part text n name k below =
-    ap is_name_part (sym (get_or-take n text k 0 below)) ∙ identifier-parts (take n text) name.fits k 0 (omega (arith, length-take-le n text name.within))
+    ap is_identifier_part (sym (get_or-take n text k 0 below)) ∙ identifier-parts (take n text) name.fits k 0 (omega (arith, length-take-le n text name.within))
 
-dotted-part : (text : List ℕ) (n : ℕ) → IsLongest IsDotted text n → (k : ℕ) → 0 < k → k < n → is_name_part (get_or text k 0) ≡ true
+dotted-part : (text : List ℕ) (n : ℕ) → IsLongest IsDotted text n → (k : ℕ) → 0 < k → k < n → is_identifier_part (get_or text k 0) ≡ true
 dotted-part text n name zero positive below = absurd (omega arith)
 dotted-part text n name (suc k) positive below =
     let e : take n text ≡ 46 ∷ name.fits.0 = name.fits.2 in
-    ap is_name_part (sym (get_or-take n text (suc k) 0 below) ∙ ap (λ s. get_or s (suc k) 0) e)
+    ap is_identifier_part (sym (get_or-take n text (suc k) 0 below) ∙ ap (λ s. get_or s (suc k) 0) e)
     ∙ identifier-parts name.fits.0 name.fits.1 k 0 (omega (arith, length-take-le n text name.within, ap length e))
 
 -- a name before a dot goes as far as the run of name parts
-stops : (r : List ℕ) (n m : ℕ) (x : List ℕ) (more : List (List ℕ)) → m ≤ length r → ((k : ℕ) → 0 < k → k < n → is_name_part (get_or r k 0) ≡ true) → 0 < length x → length x ≤ n → All IsIdentifier more → take m r ≡ x ++ dotted more → (m ≤ n) ⊎ GoesOn r n m
+stops : (r : List ℕ) (n m : ℕ) (x : List ℕ) (more : List (List ℕ)) → m ≤ length r → ((k : ℕ) → 0 < k → k < n → is_identifier_part (get_or r k 0) ≡ true) → 0 < length x → length x ≤ n → All IsIdentifier more → take m r ≡ x ++ dotted more → (m ≤ n) ⊎ GoesOn r n m
 stops r n m x [] within parts some upto each e =
     let part = front-part r m x [] within e in inl (omega (arith, part.1))
 stops r n m x (y ∷ ys) within parts some upto each e =
@@ -38,7 +39,7 @@ stops r n m x (y ∷ ys) within parts some upto each e =
     let k : ℕ = length x in
     let dot : get_or r k 0 ≡ 46 = sym (get_or-take m r k 0 (omega (arith, part.1))) ∙ ap (λ s. get_or s k 0) e ∙ get_or_at x 46 (y ++ dotted ys) 0 k refl in
     ⊎_elim
-    (λ (below : k < n). absurd (both_ways (is_name_part 46) refl (ap is_name_part (sym dot) ∙ parts k some below)))
+    (λ (below : k < n). absurd (both_ways (is_identifier_part 46) refl (ap is_identifier_part (sym dot) ∙ parts k some below)))
     (λ (above : n ≤ k).
     let same : k ≡ n = omega arith in
     let past : n ≤ m = omega (arith, part.1) in
@@ -112,7 +113,7 @@ module _ {text : List ℕ} {first at : ℕ} (joined : IsJoined text first at) wh
       let part = front-part text m name (dotted (x ∷ xs)) within e in
       let k : ℕ = length name in
       let dot : get_or text k 0 ≡ 46 = sym (get_or-take m text k 0 (omega (arith, part.1))) ∙ ap (λ s. get_or s k 0) e ∙ get_or_at name 46 (x ++ dotted xs) 0 k refl in
-      both_ways (is_name_part 46) refl (ap is_name_part (sym dot) ∙ name-part text first name_is k (omega (arith, part.1))))
+      both_ways (is_identifier_part 46) refl (ap is_identifier_part (sym dot) ∙ name-part text first name_is k (omega (arith, part.1))))
       (no-more none m within)
       (joined.bound m name (x ∷ xs) within id each e)
 

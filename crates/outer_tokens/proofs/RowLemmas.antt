@@ -1,7 +1,7 @@
 -- The rows before one, none of which fits.
 use Rattle.std.proofs.Common.{◌≡◌, ℕ, zero, suc, ◌+◌, ◌<◌, ◌≤◌, List, length, sym, refl, ap, ◌∙◌, subst, ⊎_elim, arith, length-take-le}
 use Rattle.std.proofs.lemmas.Bool.{cases_lt}
-use Rattle.symbols.specs.Longest.{IsLongest, HasNoFront}
+use Rattle.text_words.specs.Longest.{IsLongest, HasNoFront}
 use Rattle.outer_tokens.specs.Rows.{HasForm, rank}
 use Rattle.outer_tokens.specs.declared.bracket.Bracket.TheVariants.{Comment, String, Cartouche}
 use Rattle.outer_tokens.specs.declared.row.Row.{Row}

@@ -30,10 +30,6 @@ form-some Sym s form = omega (arith, form)
 pub row-some : (row : Row) (s : List ℕ) (n : ℕ) → IsFirstRow s row n → 0 < n
 row-some row s n first = omega (arith, form-some row (take n s) first.longest.fits, length-take-le n s first.longest.within)
 
-pub tokens-push : (names : ℕ → List ℕ → Bool) (text : List ℕ) (from middle : ℕ) (before : List Token) (t : Token) → AreTokensBetween names text from middle before → t.range.start ≡ middle → IsToken (names middle) text t → AreTokensBetween names text from t.range.stop (before ++ t ∷ [])
-tokens-push names text from middle [] t same starts token = (starts ∙ sym same, subst (λ p. IsToken (names p) text t) (sym same) token, refl)
-tokens-push names text from middle (x ∷ xs) t tokens starts token = (tokens.0, tokens.1, tokens-push names text x.range.stop middle xs t tokens.2 starts token)
-
 -- the token that the first row makes
 pub token-of : (is_command : List ℕ → Bool) (text : List ℕ) (row : Row) (t : Token) (size : ℕ) → t.range.stop ≡ t.range.start + size → IsFirstRow (drop t.range.start text) row size → t.kind ≡ kind_of is_command row (text_of text t) → IsToken is_command text t
 token-of is_command text row t size stops first kind =

@@ -1,5 +1,5 @@
 -- Comments, strings and cartouches, and where they end (after Isabelle's outer syntax).
-use Rattle.std.specs.Prelude.{◌≡◌, ℕ, ◌+◌, ◌-◌, ◌<◌, Bool, if◌then◌else◌, List, [], ◌∷◌, ◌++◌, length, take, drop, nat_eq}
+use Rattle.std.specs.Prelude.{◌≡◌, ℕ, zero, suc, ◌+◌, ◌-◌, ◌<◌, ◌&&◌, ◌||◌, Bool, true, false, if◌then◌else◌, List, [], ◌∷◌, ◌++◌, length, take, drop, nat_eq}
 use Rattle.std.specs.List.{starts_with}
 use Rattle.outer_tokens.specs.declared.bracket.Bracket.{Bracket}
 use Rattle.outer_tokens.specs.declared.bracket.Bracket.TheVariants.{Comment, String, Cartouche}
@@ -22,25 +22,29 @@ closing Cartouche = 92 ∷ 60 ∷ 99 ∷ 108 ∷ 111 ∷ 115 ∷ 101 ∷ 62 ∷ 
 abbrev pub begins : List ℕ → List ℕ → Bool
 begins front text = starts_with nat_eq text front
 
--- the first piece of the text inside of a bracket, and how many scalars it has. In a string a `\` and
--- the scalar after it are one piece, so that `\"` and `\\` don't end it; strings don't nest
+-- the first piece of the text inside of a bracket, and how many scalars it has. In a string a `\`
+-- and the scalar after it are one piece, so that `\"` and `\\` don't end it; strings don't nest
 abbrev pub piece : Bracket → List ℕ → Mark × ℕ
-piece Comment s = if begins (opening Comment) s then (Open, 2) else (if begins (closing Comment) s then (Close, 2) else (Other, 1))
-piece String s = if begins (92 ∷ []) s then (Other, 2) else (if begins (closing String) s then (Close, 1) else (Other, 1))
-piece Cartouche s = if begins (opening Cartouche) s then (Open, 7) else (if begins (closing Cartouche) s then (Close, 8) else (Other, 1))
+piece Comment s = if begins (opening Comment) s then (Open, 2)
+    else (if begins (closing Comment) s then (Close, 2) else (Other, 1))
+piece String s = if begins (92 ∷ []) s then (Other, 2)
+    else (if begins (closing String) s then (Close, 1) else (Other, 1))
+piece Cartouche s = if begins (opening Cartouche) s then (Open, 7)
+    else (if begins (closing Cartouche) s then (Close, 8) else (Other, 1))
 
 -- the pieces of the text, from the left to its end, do this
 abbrev pub Reads : Bracket → List ℕ → List Mark → Type 0
 Reads b s [] = s ≡ []
 Reads b s (m ∷ ms) = (0 < length s) × ((piece b s).0 ≡ m) × Reads b (drop (piece b s).1 s) ms
 
--- how many pieces open, and how many close
+-- how many pieces open
 abbrev pub opened : List Mark → ℕ
 opened [] = 0
 opened (Open ∷ ms) = opened ms + 1
 opened (Close ∷ ms) = opened ms
 opened (Other ∷ ms) = opened ms
 
+-- how many pieces close
 abbrev pub closed : List Mark → ℕ
 closed [] = 0
 closed (Open ∷ ms) = closed ms
@@ -65,3 +69,22 @@ ClosesText b depth s = (ms : List Mark) × Reads b s ms × Closes depth ms
 -- an opening, and the text up to its own closing
 abbrev pub IsEnclosed : Bracket → List ℕ → Type 0
 IsEnclosed b s = (inside : List ℕ) × (s ≡ opening b ++ inside) × ClosesText b 1 inside
+
+-- the same as a test, where the first scalars are left out
+abbrev pub closes : Bracket → ℕ → ℕ → List ℕ → Bool
+closes b depth (suc k) [] = false
+closes b depth (suc k) (c ∷ s) = closes b depth k s
+closes b zero zero [] = true
+closes b zero zero (c ∷ s) = false
+closes b (suc d) zero [] = false
+closes b (suc d) zero (c ∷ s) =
+    closes b (after (piece b (c ∷ s)).0 (suc d)) ((piece b (c ∷ s)).1 - 1) s
+
+-- an opening, and the text up to its own closing, as a test
+abbrev pub is_enclosed : Bracket → List ℕ → Bool
+is_enclosed b s = begins (opening b) s && closes b 1 0 (drop (length (opening b)) s)
+
+-- a text that begins a comment, a string or a cartouche, as a test
+abbrev pub is_opened : List ℕ → Bool
+is_opened s = begins (opening Comment) s
+    || (begins (opening String) s || begins (opening Cartouche) s)

@@ -1,13 +1,10 @@
 -- The forms of the other rows of the table of tokens (after Isabelle's outer syntax).
-use Rattle.std.specs.Prelude.{◌≡◌, ℕ, ◌<◌, ◌==◌, ◌||◌, Bool, List, ◌∷◌, ◌++◌, length, All}
+use Rattle.std.specs.Prelude.{◌≡◌, ℕ, ◌<◌, List, ◌∷◌, ◌++◌, length, All}
 use Rattle.std.specs.List.{AllPass, flat_map}
-use Rattle.symbols.specs.Names.{IsIdentifier}
+use Rattle.text_words.specs.Blanks.{is_blank}
+use Rattle.text_words.specs.Identifier.{IsIdentifier}
 use Rattle.outer_tokens.specs.Brackets.{opening}
 use Rattle.outer_tokens.specs.declared.bracket.Bracket.{Bracket}
-
--- space, tab, LF or CR
-abbrev pub is_blank : ℕ → Bool
-is_blank c = (c == 32 || c == 9) || (c == 10 || c == 13)
 
 -- one blank or more
 abbrev pub IsSpace : List ℕ → Type 0
@@ -27,4 +24,5 @@ dotted names = flat_map (λ name. 46 ∷ name) names
 
 -- an identifier, and one or more after dots
 abbrev pub IsLongIdent : List ℕ → Type 0
-IsLongIdent s = (name : List ℕ) × (names : List (List ℕ)) × IsIdentifier name × (0 < length names) × All IsIdentifier names × (s ≡ name ++ dotted names)
+IsLongIdent s = (name : List ℕ) × (names : List (List ℕ)) × IsIdentifier name
+    × (0 < length names) × All IsIdentifier names × (s ≡ name ++ dotted names)

@@ -1,8 +1,10 @@
+pub mod Kinds
 pub mod Brackets
 pub mod Forms
 pub mod Rows
 pub mod Words
 pub mod Tokens
 pub mod Headings
-pub mod Reading
+pub mod Stages
+pub mod Lexing
 pub mod Contents

@@ -1,7 +1,9 @@
 -- The table of tokens: its rows in their order, and the first that fits (this project's own).
-use Rattle.std.specs.Prelude.{◌≡◌, ℕ, ◌<◌, List, length}
-use Rattle.symbols.specs.Longest.{IsLongest, HasNoFront}
-use Rattle.symbols.specs.Names.{IsIdentifier, IsNamedSymbol}
+use Rattle.std.specs.Prelude.{◌≡◌, ℕ, ◌<◌, false, List, length, slice_index}
+use Rattle.text_words.specs.Blanks.{is_blank}
+use Rattle.text_words.specs.Identifier.{IsIdentifier}
+use Rattle.text_words.specs.Longest.{IsLongest, HasNoFront}
+use Rattle.symbols.specs.Names.{IsNamedSymbol}
 use Rattle.outer_tokens.specs.Brackets.{IsEnclosed}
 use Rattle.outer_tokens.specs.Forms.{IsSpace, IsOpened, IsLongIdent}
 use Rattle.outer_tokens.specs.declared.bracket.Bracket.TheVariants.{Comment, String, Cartouche}
@@ -34,3 +36,8 @@ rank Sym = 8
 pub record IsFirstRow (text : List ℕ) (row : Row) (n : ℕ) : Type 0 where
   pub longest : IsLongest (HasForm row) text n
   pub first : (r : Row) → rank r < rank row → HasNoFront (HasForm r) text
+
+-- the text begins with neither a blank nor an identifier
+abbrev pub IsOther : List ℕ → Type 0
+IsOther text =
+    (0 < length text) × (is_blank (slice_index text 0) ≡ false) × HasNoFront IsIdentifier text

@@ -1,5 +1,5 @@
 -- Command names and minor keywords (this project's own).
-use Rattle.std.specs.Prelude.{ℕ, ◌==◌, ◌&&◌, ◌||◌, Bool, true, false, if◌then◌else◌, List, [], ◌∷◌, Option, None, Some, codes, nat_le}
+use Rattle.std.specs.Prelude.{ℕ, ◌==◌, ◌&&◌, ◌||◌, Bool, true, false, if◌then◌else◌, List, [], ◌∷◌, codes}
 use Rattle.std.specs.List.{list_any}
 use Rattle.outer_tokens.specs.declared.bracket.Bracket.TheVariants.{Comment, String, Cartouche}
 use Rattle.outer_tokens.specs.declared.row.Row.{Row}
@@ -16,16 +16,17 @@ same (c ∷ cs) (d ∷ ds) = c == d && same cs ds
 
 -- a command name of the language
 abbrev pub is_base_command : List ℕ → Bool
-is_base_command s = list_any (same s) (codes "theory" ∷ codes "end" ∷ codes "axiom" ∷ codes "lemma" ∷ codes "load"
-    ∷ codes "proof" ∷ codes "fix" ∷ codes "assume" ∷ codes "have" ∷ codes "show" ∷ codes "next" ∷ codes "qed" ∷ codes "by" ∷ [])
+is_base_command s = list_any (same s) (codes "theory" ∷ codes "end" ∷ codes "axiom"
+    ∷ codes "lemma" ∷ codes "load" ∷ codes "proof" ∷ codes "fix" ∷ codes "assume" ∷ codes "have"
+    ∷ codes "show" ∷ codes "next" ∷ codes "qed" ∷ codes "by" ∷ [])
 
+-- a minor keyword
 abbrev pub is_minor_keyword : List ℕ → Bool
 is_minor_keyword s = list_any (same s) (codes "imports" ∷ codes "keywords" ∷ codes "begin" ∷ [])
 
--- which identifiers are command names at a place: those of the language, and from the header's end on the aliases
-abbrev pub names_at : Option ℕ → List (List ℕ) → ℕ → List ℕ → Bool
-names_at None aliases place s = is_base_command s
-names_at (Some end) aliases place s = is_base_command s || (nat_le end place && list_any (same s) aliases)
+-- a command name where these names are in force beside the language's own
+abbrev pub is_in_force : List (List ℕ) → List ℕ → Bool
+is_in_force names s = is_base_command s || list_any (same s) names
 
 -- the kind of a row's token; an identifier is a command, a keyword or neither, by the names
 abbrev pub kind_of : (List ℕ → Bool) → Row → List ℕ → Kind
@@ -36,5 +37,6 @@ kind_of is_command (Enclosed Cartouche) s = kind.Cartouche
 kind_of is_command Error s = kind.Error
 kind_of is_command Symbol s = kind.Symbol
 kind_of is_command LongIdent s = kind.LongIdent
-kind_of is_command Word s = if is_command s then kind.Command else (if is_minor_keyword s then kind.Keyword else kind.Ident)
+kind_of is_command Word s = if is_command s then kind.Command
+    else (if is_minor_keyword s then kind.Keyword else kind.Ident)
 kind_of is_command Sym s = kind.Sym

@@ -2,18 +2,12 @@
 
 ghost use Rattle.std.specs.Prelude.{◌≡◌};
 ghost use Rattle.std.specs.List.{prefix_len};
-ghost use Rattle.symbols.specs.Longest.{FindsLongest};
-ghost use Rattle.outer_tokens.specs.Forms.{is_blank, IsSpace};
+ghost use Rattle.text_words.specs.Blanks.{is_blank};
 
-/// Whether the scalar is a space, a tab, an LF or a CR.
-fn is_blank(c: char) -> bool
-    ensures { result ≡ is_blank c }
-{
-    (c == ' ' || c == '\t') || (c == '\n' || c == '\r')
-}
+use text_words::is_blank;
 
 /// How many blanks are at the front.
-fn blank_run(text: &[char]) -> usize
+pub fn blank_run(text: &[char]) -> usize
     ensures { result ≡ prefix_len is_blank text.now }
 {
     let mut n = 0;
@@ -21,12 +15,4 @@ fn blank_run(text: &[char]) -> usize
         n += 1;
     }
     n
-}
-
-/// How many scalars the space at the front has.
-pub fn space(text: &[char]) -> Option<usize>
-    ensures { FindsLongest IsSpace text.now result }
-{
-    let n = blank_run(text);
-    if n == 0 { None } else { Some(n) }
 }

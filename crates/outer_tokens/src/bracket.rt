@@ -1,8 +1,11 @@
 //! Comments, strings and cartouches.
 
 ghost use Rattle.std.specs.Prelude.{◌≡◌, ◌<◌, ◌≤◌, ◌+◌, ◌^◌, ◌++◌, ℕ, List, length, drop, MatchOption};
-ghost use Rattle.symbols.specs.Longest.{FindsLongest};
-ghost use Rattle.outer_tokens.specs.Brackets.{opening, closing, piece, after, ClosesText, IsEnclosed};
+ghost use Rattle.text_words.specs.Longest.{FindsLongest};
+ghost use Rattle.outer_tokens.specs.Brackets.{opening, piece, after, ClosesText};
+ghost use Rattle.outer_tokens.specs.Rows.{IsFirstRow};
+
+use crate::row::Row;
 
 const COMMENT_OPEN: [char; 2] = ['(', '*'];
 
@@ -96,9 +99,10 @@ fn inside_len(bracket: Bracket, inside: &[char]) -> Option<usize>
 }
 
 /// How many scalars the opening of the bracket has, if the text begins with it.
-pub fn opening_len(bracket: Bracket, text: &[char]) -> Option<usize>
+fn opening_len(bracket: Bracket, text: &[char]) -> Option<usize>
     ensures { MatchOption result ((inside : List ℕ) → text.now ≡ opening bracket ++ inside → ⊥)
-        (λ n. (n ≡ length (opening bracket)) × (n ≤ length text.now) × (text.now ≡ opening bracket ++ drop n text.now)) }
+        (λ n. (n ≡ length (opening bracket)) × (n ≤ length text.now)
+        × (text.now ≡ opening bracket ++ drop n text.now)) }
 {
     let opening: &[char] = match bracket {
         Bracket::Comment => &COMMENT_OPEN,
@@ -112,14 +116,16 @@ pub fn opening_len(bracket: Bracket, text: &[char]) -> Option<usize>
     }
 }
 
-/// How many scalars the comment, string or cartouche at the front has.
-pub fn enclosed(bracket: Bracket, text: &[char]) -> Option<usize>
-    ensures { FindsLongest (IsEnclosed bracket) text.now result }
+/// The row of a text that begins with the opening of the bracket, and how many scalars it has: up to
+/// the closing, or to the text's end where there is none.
+pub fn bracket_row(bracket: Bracket, text: &[char]) -> Option<(Row, usize)>
+    ensures { MatchOption result ((inside : List ℕ) → text.now ≡ opening bracket ++ inside → ⊥)
+        (λ r. IsFirstRow text.now r.0 r.1) }
 {
     match opening_len(bracket, text) {
         Some(n) => match inside_len(bracket, &text[n..]) {
-            Some(m) => Some(n + m),
-            None => None,
+            Some(m) => Some((Row::Enclosed(bracket), n + m)),
+            None => Some((Row::Error, text.len())),
         },
         None => None,
     }

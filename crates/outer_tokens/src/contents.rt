@@ -27,7 +27,8 @@ fn code(text: &[char]) -> Option<char>
     }
 }
 
-/// What a scalar and the text after it begin with: an escape or the scalar, and how many scalars it has.
+/// What a scalar and the text after it begin with: an escape or the scalar, and how many scalars it
+/// has.
 fn first_of(first: char, text: &[char]) -> (char, usize)
     ensures { result ≡ first_of first text.now }
 {

@@ -1,5 +1,8 @@
 //! The kinds of tokens.
 
+ghost use Rattle.std.specs.Prelude.{◌≡◌};
+ghost use Rattle.outer_tokens.specs.Kinds.{is_proper};
+
 /// The kind of a token. `Space` and `Comment` are improper, all others proper.
 #[derive(Clone, Copy, Debug, PartialEq, Eq)]
 pub enum Kind {
@@ -16,4 +19,11 @@ pub enum Kind {
     Sym,
     /// A comment, a string or a cartouche that doesn't end, to the text's end.
     Error,
+}
+
+/// Whether tokens of the kind are proper: all but spaces and comments.
+pub fn is_proper(kind: Kind) -> bool
+    ensures { result ≡ is_proper kind }
+{
+    !matches!(kind, Kind::Space | Kind::Comment)
 }

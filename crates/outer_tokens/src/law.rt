@@ -1,18 +1,22 @@
 //! What holds of the tokens of every text.
 
-ghost use Rattle.std.specs.Prelude.{◌≡◌, ℕ, List, All};
+ghost use Rattle.std.specs.Prelude.{◌≡◌, ◌↔◌, ℕ, Bool, List, All};
 ghost use Rattle.std.specs.List.{flat_map};
 ghost use Rattle.symbols.specs.Symbols.{IsInside};
-ghost use Rattle.outer_tokens.specs.Tokens.{text_of};
+ghost use Rattle.outer_tokens.specs.Tokens.{text_of, AreTokensUnder};
 ghost use Rattle.outer_tokens.specs.Headings.{AreTokens};
+ghost use Rattle.outer_tokens.specs.Lexing.{tokens_under, tokens_of};
 ghost use Rattle.outer_tokens.specs.declared.token.Token.{Token};
 
-/// A text has at most one list of tokens under the aliases, which joins to it.
+/// Each text has one list of tokens under the aliases, and under names that go by the place; it joins
+/// to the text.
 pub fn one_list()
-    ensures one { (text : List ℕ) (aliases : List (List ℕ)) (a b : List Token) →
-        AreTokens text aliases a → AreTokens text aliases b → a ≡ b }
-    ensures joins { (text : List ℕ) (aliases : List (List ℕ)) (a : List Token) →
-        AreTokens text aliases a → flat_map (text_of text) a ≡ text }
+    ensures just { (text : List ℕ) (aliases : List (List ℕ)) (tokens : List Token) →
+        AreTokens text aliases tokens ↔ (tokens ≡ tokens_of text aliases) }
+    ensures under { (names : ℕ → List ℕ → Bool) (text : List ℕ) (tokens : List Token) →
+        AreTokensUnder names text tokens ↔ (tokens ≡ tokens_under names text) }
+    ensures joins { (text : List ℕ) (aliases : List (List ℕ)) (tokens : List Token) →
+        AreTokens text aliases tokens → flat_map (text_of text) tokens ≡ text }
 {}
 
 /// A place where a token begins or ends is never inside of a symbol.

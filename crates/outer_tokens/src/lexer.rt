@@ -1,36 +1,51 @@
 //! The tokens of a text.
 
-ghost use Rattle.std.specs.Prelude.{◌≡◌, IfOk, length};
-ghost use Rattle.outer_tokens.specs.Words.{names_at};
-ghost use Rattle.outer_tokens.specs.Tokens.{AreTokensUnder};
+ghost use Rattle.std.specs.Prelude.{◌≡◌, ◌≤◌, IfOk, MatchOption, length};
+ghost use Rattle.outer_tokens.specs.Words.{is_in_force};
+ghost use Rattle.outer_tokens.specs.Tokens.{IsTokenAt, AreTokensUnder};
 ghost use Rattle.outer_tokens.specs.Headings.{AreTokens};
 
-use crate::header::{heading_end, proper};
 use crate::row::first_row;
+use crate::stage::{Stage, after_token, given};
 use crate::token::Token;
-use crate::word::kind_at;
+use crate::word::kind_of;
 use pide_base::Range;
 use sqlite_items::Items;
 use std::alloc::{AllocError, Global};
 
-/// The tokens of the text, where the aliases are commands from the header's end on.
-fn tokens_under(
+/// The token of the text that begins at the place, where these names are commands beside those of the
+/// language. `None` comes exactly at the text's end.
+pub fn next_token(text: &[char], names: &[Items<char>], place: usize) -> Option<Token>
+    requires { place ≤ length text.now }
+    ensures { MatchOption result (place ≡ length text.now)
+        (IsTokenAt (is_in_force names.now) text.now place) }
+{
+    if place == text.len() {
+        return None;
+    }
+    let (row, size) = first_row(&text[place..]);
+    let stop = place + size;
+    let kind = kind_of(names, row, &text[place..stop]);
+    Some(Token {
+        kind,
+        range: Range { start: place, stop },
+    })
+}
+
+/// The tokens of a piece of text, where these names are commands beside those of the language from its
+/// beginning on. They join to it.
+pub fn lex_under(
     alloc: Global,
     text: &[char],
-    header_end: Option<usize>,
-    aliases: &[Items<char>],
+    names: &[Items<char>],
 ) -> Result<Vec<Token>, AllocError>
-    ensures { IfOk result (λ v. AreTokensUnder (names_at header_end aliases.now) text.now v.items) }
+    ensures { IfOk result (λ v. AreTokensUnder (λ _. is_in_force names.now) text.now v.items) }
 {
     let mut tokens = Vec::new(alloc);
-    let mut start = 0;
-    while start < text.len() {
-        let (row, size) = first_row(&text[start..]);
-        let stop = start + size;
-        let kind = kind_at(header_end, aliases, start, row, &text[start..stop]);
-        let range = Range { start, stop };
-        tokens.push(Token { kind, range })?;
-        start = stop;
+    let mut place = 0;
+    while let Some(token) = next_token(text, names, place) {
+        tokens.push(token)?;
+        place = token.range.stop;
     }
     Ok(tokens)
 }
@@ -40,10 +55,13 @@ fn tokens_under(
 pub fn lex(alloc: Global, text: &[char], aliases: &[Items<char>]) -> Result<Vec<Token>, AllocError>
     ensures { IfOk result (λ v. AreTokens text.now aliases.now v.items) }
 {
-    let base = tokens_under(alloc, text, None, &[])?;
-    let proper = proper(alloc, &base)?;
-    match heading_end(text, &proper) {
-        Some(end) => tokens_under(alloc, text, Some(end), aliases),
-        None => Ok(base),
+    let mut tokens = Vec::new(alloc);
+    let mut stage = Stage::Start;
+    let mut place = 0;
+    while let Some(token) = next_token(text, given(stage, aliases), place) {
+        tokens.push(token)?;
+        stage = after_token(text, stage, token);
+        place = token.range.stop;
     }
+    Ok(tokens)
 }

@@ -1,27 +1,26 @@
 //! The outer tokens of a text: spaces, comments, strings, cartouches, symbols, identifiers by the names of
 //! commands and keywords, single scalars, and what doesn't end (after Isabelle's outer syntax).
-//! Texts are lists of Unicode scalars, and places count them from 0. It knows nothing of commands but their names.
+//! Texts are lists of Unicode scalars, and places count them from 0. It knows nothing of commands but
+//! their names.
 #![tactic(auto)]
 
 mod blank;
 mod bracket;
 mod contents;
-mod header;
 mod kind;
 mod law;
 mod lexer;
 mod long_name;
 mod row;
-#[cfg(test)]
-mod tests;
+mod stage;
 mod token;
 mod word;
 
 pub use bracket::{Bracket, Mark};
 pub use contents::content;
-pub use header::{Counts, heading, is_proper, proper, scalars};
-pub use kind::Kind;
+pub use kind::{Kind, is_proper};
 pub use law::{one_list, symbol_law};
-pub use lexer::lex;
+pub use lexer::{lex, lex_under, next_token};
 pub use row::Row;
-pub use token::Token;
+pub use stage::{Stage, after_token};
+pub use token::{Token, scalars};

@@ -1,9 +1,13 @@
-//! Identifiers joined by dots.
+//! Identifiers, and identifiers joined by dots.
 
-ghost use Rattle.symbols.specs.Longest.{FindsLongest};
-ghost use Rattle.outer_tokens.specs.Forms.{IsDotted, IsLongIdent};
+ghost use Rattle.std.specs.Prelude.{MatchOption};
+ghost use Rattle.text_words.specs.Identifier.{IsIdentifier};
+ghost use Rattle.text_words.specs.Longest.{FindsLongest, HasNoFront};
+ghost use Rattle.outer_tokens.specs.Forms.{IsDotted};
+ghost use Rattle.outer_tokens.specs.Rows.{IsFirstRow};
 
-use symbols::identifier;
+use crate::row::Row;
+use text_words::identifier_front;
 
 /// How many scalars a dot and the identifier after it have, at the front.
 fn dotted_name(text: &[char]) -> Option<usize>
@@ -12,22 +16,28 @@ fn dotted_name(text: &[char]) -> Option<usize>
     if text.is_empty() || text[0] != '.' {
         return None;
     }
-    match identifier(&text[1..]) {
+    match identifier_front(&text[1..]) {
         Some(n) => Some(n + 1),
         None => None,
     }
 }
 
-/// How many scalars two or more identifiers joined by dots have, at the front.
-pub fn long_ident(text: &[char]) -> Option<usize>
-    ensures { FindsLongest IsLongIdent text.now result }
+/// The row that fits a text which begins with an identifier, and how many scalars its longest match
+/// has.
+pub fn word(text: &[char]) -> Option<(Row, usize)>
+    ensures { MatchOption result (HasNoFront IsIdentifier text.now)
+        (λ r. IsFirstRow text.now r.0 r.1) }
 {
-    let Some(first) = identifier(text) else {
+    let Some(first) = identifier_front(text) else {
         return None;
     };
     let mut at = first;
     while let Some(n) = dotted_name(&text[at..]) {
         at += n;
     }
-    if at == first { None } else { Some(at) }
+    if at == first {
+        Some((Row::Word, at))
+    } else {
+        Some((Row::LongIdent, at))
+    }
 }

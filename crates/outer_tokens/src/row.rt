@@ -1,14 +1,13 @@
 //! The rows of the table of tokens.
 
 ghost use Rattle.std.specs.Prelude.{◌<◌, length};
-ghost use Rattle.symbols.specs.Longest.{FindsLongest};
-ghost use Rattle.outer_tokens.specs.Forms.{IsOpened};
-ghost use Rattle.outer_tokens.specs.Rows.{IsFirstRow};
+ghost use Rattle.outer_tokens.specs.Rows.{IsFirstRow, IsOther};
 
-use crate::blank::space;
-use crate::bracket::{Bracket, enclosed, opening_len};
-use crate::long_name::long_ident;
-use symbols::{identifier, named_symbol};
+use crate::blank::blank_run;
+use crate::bracket::{Bracket, bracket_row};
+use crate::long_name::word;
+use symbols::named_symbol;
+use text_words::is_blank;
 
 /// A row of the table of tokens. A word is a command, a keyword or an identifier, by its name.
 #[derive(Clone, Copy, Debug, PartialEq, Eq)]
@@ -22,20 +21,25 @@ pub enum Row {
     Sym,
 }
 
-/// How many scalars the text has, if it begins a comment, a string or a cartouche.
-fn opened(text: &[char]) -> Option<usize>
-    ensures { FindsLongest IsOpened text.now result }
+/// The row of a text that begins with neither a blank nor an identifier, and how many scalars its
+/// longest match has.
+fn other_row(text: &[char]) -> (Row, usize)
+    requires { IsOther text.now }
+    ensures { IsFirstRow text.now result.0 result.1 }
 {
-    if let Some(_) = opening_len(Bracket::Comment, text) {
-        return Some(text.len());
+    if let Some(row) = bracket_row(Bracket::Comment, text) {
+        return row;
     }
-    if let Some(_) = opening_len(Bracket::String, text) {
-        return Some(text.len());
+    if let Some(row) = bracket_row(Bracket::String, text) {
+        return row;
     }
-    if let Some(_) = opening_len(Bracket::Cartouche, text) {
-        return Some(text.len());
+    if let Some(row) = bracket_row(Bracket::Cartouche, text) {
+        return row;
     }
-    None
+    match named_symbol(text) {
+        Some(n) => (Row::Symbol, n),
+        None => (Row::Sym, 1),
+    }
 }
 
 /// The first row that fits the text, and how many scalars its longest match has.
@@ -43,29 +47,11 @@ pub fn first_row(text: &[char]) -> (Row, usize)
     requires { 0 < length text.now }
     ensures { IsFirstRow text.now result.0 result.1 }
 {
-    if let Some(n) = space(text) {
-        return (Row::Space, n);
+    if is_blank(text[0]) {
+        return (Row::Space, blank_run(text));
     }
-    if let Some(n) = enclosed(Bracket::Comment, text) {
-        return (Row::Enclosed(Bracket::Comment), n);
+    match word(text) {
+        Some(row) => row,
+        None => other_row(text),
     }
-    if let Some(n) = enclosed(Bracket::String, text) {
-        return (Row::Enclosed(Bracket::String), n);
-    }
-    if let Some(n) = enclosed(Bracket::Cartouche, text) {
-        return (Row::Enclosed(Bracket::Cartouche), n);
-    }
-    if let Some(n) = opened(text) {
-        return (Row::Error, n);
-    }
-    if let Some(n) = named_symbol(text) {
-        return (Row::Symbol, n);
-    }
-    if let Some(n) = long_ident(text) {
-        return (Row::LongIdent, n);
-    }
-    if let Some(n) = identifier(text) {
-        return (Row::Word, n);
-    }
-    (Row::Sym, 1)
 }

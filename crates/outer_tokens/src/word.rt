@@ -1,8 +1,8 @@
 //! Names of commands and keywords.
 
-ghost use Rattle.std.specs.Prelude.{◌≡◌, None, Some};
+ghost use Rattle.std.specs.Prelude.{◌≡◌};
 ghost use Rattle.std.specs.List.{list_any};
-ghost use Rattle.outer_tokens.specs.Words.{same, is_base_command, is_minor_keyword, names_at, kind_of};
+ghost use Rattle.outer_tokens.specs.Words.{same, is_base_command, is_minor_keyword, is_in_force, kind_of};
 
 use crate::bracket::Bracket;
 use crate::kind::Kind;
@@ -78,34 +78,16 @@ fn is_alias(aliases: &[Items<char>], word: &[char]) -> bool
     false
 }
 
-/// Whether the word that begins at the place is a command name there. With a header that ends at
-/// `header_end` the aliases are commands from there on.
-fn is_command(
-    header_end: Option<usize>,
-    aliases: &[Items<char>],
-    place: usize,
-    word: &[char],
-) -> bool
-    ensures { result ≡ names_at header_end aliases.now place word.now }
+/// Whether the word is a command name where these names are in force beside the language's own.
+fn is_in_force(names: &[Items<char>], word: &[char]) -> bool
+    ensures { result ≡ is_in_force names.now word.now }
 {
-    if is_base_command(word) {
-        return true;
-    }
-    match header_end {
-        Some(end) => end <= place && is_alias(aliases, word),
-        None => false,
-    }
+    is_base_command(word) || is_alias(names, word)
 }
 
-/// The kind of a row's token of these scalars at the place.
-pub fn kind_at(
-    header_end: Option<usize>,
-    aliases: &[Items<char>],
-    place: usize,
-    row: Row,
-    word: &[char],
-) -> Kind
-    ensures { result ≡ kind_of (names_at header_end aliases.now place) row word.now }
+/// The kind of a row's token of these scalars, where these names are in force.
+pub fn kind_of(names: &[Items<char>], row: Row, word: &[char]) -> Kind
+    ensures { result ≡ kind_of (is_in_force names.now) row word.now }
 {
     match row {
         Row::Space => Kind::Space,
@@ -116,7 +98,7 @@ pub fn kind_at(
         Row::Symbol => Kind::Symbol,
         Row::LongIdent => Kind::LongIdent,
         Row::Word => {
-            if is_command(header_end, aliases, place, word) {
+            if is_in_force(names, word) {
                 Kind::Command
             } else if is_minor_keyword(word) {
                 Kind::Keyword

@@ -1,8 +1,7 @@
 -- There is one list of symbols between two places, and it joins to the text between them.
-use Rattle.std.proofs.Common.{◌≡◌, ℕ, ◌+◌, ◌-◌, ◌<◌, ◌≤◌, List, [], ◌∷◌, ◌++◌, length, take, drop, sym, refl, ap, ◌∙◌, subst, arith}
-use Rattle.std.proofs.lemmas.List.{drop-drop, take_all}
-use Rattle.std.proofs.Math.Seq.{take-add}
-use Rattle.symbols.specs.Joined.{text_between, joined}
+use Rattle.std.proofs.Common.{◌≡◌, ℕ, ◌-◌, ◌<◌, ◌≤◌, List, [], ◌∷◌, length, sym, refl, ap, ◌∙◌, subst, arith}
+use Rattle.text_words.specs.Pieces.{joined, Tiles}
+use Rattle.text_words.proofs.KnownPieces.{tiles-whole}
 use Rattle.symbols.specs.Symbols.{IsSymbolAt, AreSymbols, AreSymbolsBetween, IsBoundary, IsInside}
 
 -- at one place the longest symbol ends at one place
@@ -37,21 +36,13 @@ no-crossing text from place start stop (s ∷ ss) (t ∷ ts) one other at after 
     let stops : s.1 ≡ t.1 = same-stop text from s.1 t.1 one.1 other.1 in
     no-crossing text s.1 place start stop ss ts one.2 (subst (λ x. AreSymbolsBetween text x start ts) (sym stops) other.2) at after before
 
-joined-between : (text : List ℕ) (from to : ℕ) (ss : List (ℕ × ℕ)) → AreSymbolsBetween text from to ss → joined text ss ≡ take (to - from) (drop from text)
-joined-between text from to [] same = let none : to - from ≡ 0 = omega arith in sym (ap (λ n. take n (drop from text)) none)
-joined-between text from to (s ∷ ss) symbols =
-    let upto : s.1 ≤ to = rises text s.1 to ss symbols.2 in
-    let past : from < s.1 = symbols.1.0 in
-    let rest : joined text ss ≡ take (to - s.1) (drop (s.1 - from) (drop from text)) =
-    joined-between text s.1 to ss symbols.2 ∙ ap (λ r. take (to - s.1) r) (ap (λ n. drop n text) (omega arith) ∙ sym (drop-drop (s.1 - from) from text)) in
-    let whole : s.1 - from + (to - s.1) ≡ to - from = omega arith in
-    ap (λ x. text_between text x s.1 ++ joined text ss) symbols.0
-    ∙ ap (λ r. take (s.1 - from) (drop from text) ++ r) rest
-    ∙ sym (take-add (s.1 - from) (to - s.1) (drop from text))
-    ∙ ap (λ n. take n (drop from text)) whole
+-- symbols tile what lies between two places
+tiles : (text : List ℕ) (from to : ℕ) (ss : List (ℕ × ℕ)) → AreSymbolsBetween text from to ss → Tiles from to ss
+tiles text from to [] same = same
+tiles text from to (s ∷ ss) symbols = (symbols.0, omega (arith, symbols.0, symbols.1.0), tiles text s.1 to ss symbols.2)
 
 pub joined-all : (text : List ℕ) (ss : List (ℕ × ℕ)) → AreSymbols text ss → joined text ss ≡ text
-joined-all text ss symbols = joined-between text 0 (length text) ss symbols ∙ take_all _ text (omega arith)
+joined-all text ss symbols = tiles-whole text ss (tiles text 0 (length text) ss symbols)
 
 pub one-number : (text : List ℕ) (m n place : ℕ) → IsBoundary text m place → IsBoundary text n place → m ≡ n
 one-number text m n place one other =

@@ -1,3 +1,9 @@
-pub mod NameLemmas
-pub mod SymbolLemmas
-pub mod Laws
+pub mod KnownSplits
+pub mod KnownFinds
+pub mod KnownTests
+mod NameLemmas
+mod SymbolLemmas
+mod Laws
+mod FunctionLemmas
+mod BoundaryLemmas
+mod NumberLemmas

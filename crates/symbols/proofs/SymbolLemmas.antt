@@ -1,6 +1,6 @@
 -- The longest symbol at the front of a text, and the symbols up to a place.
 use Rattle.std.proofs.Common.{◌≡◌, ℕ, ◌+◌, ◌-◌, ◌<◌, List, [], ◌∷◌, ◌++◌, length, take, drop, sym, refl, ap, ◌∙◌, subst, inl, inr, ⊎_elim, arith, length-take-le}
-use Rattle.symbols.specs.Longest.{IsLongest, HasNoFront}
+use Rattle.text_words.specs.Longest.{IsLongest, HasNoFront}
 use Rattle.symbols.specs.Names.{IsNamedSymbol}
 use Rattle.symbols.specs.Symbols.{IsSymbol, IsSymbolAt, AreSymbolsBetween, IsBoundary}
 use Rattle.std.proofs.lemmas.List.{length_push}

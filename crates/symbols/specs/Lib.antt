@@ -1,4 +1,3 @@
-pub mod Longest
 pub mod Names
 pub mod Symbols
-pub mod Joined
+pub mod Boundaries

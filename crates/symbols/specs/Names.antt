@@ -1,15 +1,6 @@
--- Identifiers and named symbols (after Isabelle's symbols, in ASCII).
-use Rattle.std.specs.Prelude.{◌≡◌, ◌⊎◌, ℕ, ◌||◌, ◌==◌, Bool, IsTrue, List, [], ◌∷◌, ◌++◌, All}
-use Rattle.std.specs.Char.{is_ascii_alphabetic, is_ascii_alphanumeric}
-
--- a scalar that an identifier goes on with: an ASCII letter or digit, `_` or `'`
-abbrev pub is_name_part : ℕ → Bool
-is_name_part c = is_ascii_alphanumeric c || (c == 95 || c == 39)
-
--- an ASCII letter, then scalars that an identifier goes on with
-abbrev pub IsIdentifier : List ℕ → Type 0
-IsIdentifier [] = ⊥
-IsIdentifier (c ∷ cs) = IsTrue (is_ascii_alphabetic c) × All (λ d. IsTrue (is_name_part d)) cs
+-- Named symbols (after Isabelle's symbols, in ASCII).
+use Rattle.std.specs.Prelude.{◌≡◌, ◌⊎◌, ℕ, ◌-◌, ◌&&◌, ◌==◌, Bool, false, if◌then◌else◌, List, [], ◌∷◌, ◌++◌, length, take, drop}
+use Rattle.text_words.specs.Identifier.{IsIdentifier, is_identifier}
 
 -- an identifier and `>`
 abbrev pub IsClosedName : List ℕ → Type 0
@@ -22,3 +13,22 @@ IsMarkedName s = IsClosedName s ⊎ ((closed : List ℕ) × IsClosedName closed 
 -- `\<name>` or `\<^name>`
 abbrev pub IsNamedSymbol : List ℕ → Type 0
 IsNamedSymbol s = (marked : List ℕ) × IsMarkedName marked × (s ≡ 92 ∷ 60 ∷ marked)
+
+-- `>` alone, as a test
+abbrev pub is_bracket : List ℕ → Bool
+is_bracket (c ∷ []) = c == 62
+is_bracket _ = false
+
+-- an identifier and `>`, as a test
+abbrev pub is_closed_name : List ℕ → Bool
+is_closed_name s = is_identifier (take (length s - 1) s) && is_bracket (drop (length s - 1) s)
+
+-- these with or without a `^` before them, as a test
+abbrev pub is_marked_name : List ℕ → Bool
+is_marked_name [] = false
+is_marked_name (c ∷ s) = if c == 94 then is_closed_name s else is_closed_name (c ∷ s)
+
+-- `\<name>` or `\<^name>`, as a test
+abbrev pub is_named_symbol : List ℕ → Bool
+is_named_symbol (a ∷ b ∷ s) = a == 92 && (b == 60 && is_marked_name s)
+is_named_symbol _ = false

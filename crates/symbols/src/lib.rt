@@ -2,12 +2,12 @@
 //! Texts are lists of Unicode scalars, and places count them from 0. It knows nothing of tokens.
 #![tactic(auto)]
 
+mod boundaries;
 mod law;
 mod name;
 mod place;
-#[cfg(test)]
-mod tests;
 
-pub use law::one_list;
-pub use name::{identifier, named_symbol};
-pub use place::{Inside, symbols, to_scalar, to_symbol};
+pub use boundaries::{Boundaries, Inside};
+pub use law::{one_list, places_are_numbered};
+pub use name::named_symbol;
+pub use place::symbols;

@@ -1,19 +1,13 @@
-//! The symbols of a text, and places counted in symbols and in scalars.
+//! The symbols of a text.
 
-ghost use Rattle.std.specs.Prelude.{◌≡◌, ◌<◌, ◌≤◌, ℕ, List, length, IfOk, MatchResult, MatchOption};
-ghost use Rattle.symbols.specs.Symbols.{IsSymbolAt, AreSymbols, IsBoundary, IsInside};
+ghost use Rattle.std.specs.Prelude.{◌<◌, ◌≤◌, length, IfOk};
+ghost use Rattle.symbols.specs.Symbols.{IsSymbolAt, AreSymbols};
 
 use crate::name::named_symbol;
 use std::alloc::{AllocError, Global};
 
-/// The place is inside of a symbol, the one of this number from 0.
-#[derive(Clone, Copy, Debug, PartialEq, Eq)]
-pub struct Inside {
-    pub symbol: usize,
-}
-
 /// Where the symbol that begins at `start` ends.
-fn symbol_end(text: &[char], start: usize) -> usize
+pub(crate) fn symbol_end(text: &[char], start: usize) -> usize
     requires { start < length text.now }
     ensures at { IsSymbolAt text.now start result }
     ensures within { result ≤ length text.now }
@@ -37,43 +31,4 @@ pub fn symbols(alloc: Global, text: &[char]) -> Result<Vec<(usize, usize)>, Allo
         start = stop;
     }
     Ok(found)
-}
-
-/// The number of the symbol that begins at the place, or of all symbols at the text's end.
-/// `Inside` comes exactly where the place is inside of a symbol.
-pub fn to_symbol(text: &[char], offset: usize) -> Result<usize, Inside>
-    requires { offset ≤ length text.now }
-    ensures { MatchResult result (λ n. IsBoundary text.now n offset)
-        (λ inside. IsInside text.now inside.symbol offset) }
-{
-    let mut start = 0;
-    let mut symbol = 0;
-    while start < offset {
-        let stop = symbol_end(text, start);
-        if offset < stop {
-            return Err(Inside { symbol });
-        }
-        start = stop;
-        symbol += 1;
-    }
-    Ok(symbol)
-}
-
-/// The place where the symbol of this number begins, or the text's length for the number of all
-/// symbols. `None` comes exactly where the text has fewer symbols.
-pub fn to_scalar(text: &[char], symbol: usize) -> Option<usize>
-    ensures { MatchOption result
-        ((count : ℕ) × (count < symbol) × IsBoundary text.now count (length text.now))
-        (λ place. IsBoundary text.now symbol place) }
-{
-    let mut start = 0;
-    let mut count = 0;
-    while count < symbol {
-        if start == text.len() {
-            return None;
-        }
-        start = symbol_end(text, start);
-        count += 1;
-    }
-    Some(start)
 }

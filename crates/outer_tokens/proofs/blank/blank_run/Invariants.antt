@@ -1,6 +1,6 @@
 use Rattle.std.proofs.Common.{length, ◌-◌, ◌≡◌, ◌+◌, ◌≤◌, drop}
 use Rattle.std.specs.List.{prefix_len}
-use Rattle.outer_tokens.specs.Forms.{is_blank}
+use Rattle.text_words.specs.Blanks.{is_blank}
 use Rattle.outer_tokens.proofs.blank.blank_run.Given as goal
 
 abbrev pub invariant-loop-n : goal.invariant-loop-n

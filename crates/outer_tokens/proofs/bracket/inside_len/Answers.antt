@@ -3,7 +3,8 @@ use Rattle.std.proofs.lemmas.List.{take_rest}
 use Rattle.outer_tokens.specs.Brackets.{piece, after}
 use Rattle.outer_tokens.specs.declared.bracket.Mark.{Mark}
 use Rattle.outer_tokens.specs.declared.bracket.Mark.TheVariants.{Open, Close, Other}
-use Rattle.outer_tokens.proofs.BracketLemmas.{IsLeft, left-start, left-more, left-none, left-found, last-fits, piece-some}
+use Rattle.outer_tokens.proofs.BracketLemmas.{piece-some}
+use Rattle.outer_tokens.proofs.LeftLemmas.{IsLeft, left-start, left-more, left-none, left-found, last-fits}
 use Rattle.outer_tokens.proofs.bracket.inside_len.Goals as goal
 use Rattle.outer_tokens.proofs.bracket.inside_len.Goals.{After-after-depth}
 

@@ -1,5 +1,5 @@
 use Rattle.std.proofs.Common.{length, ◌-◌, ◌<◌, ◌≤◌, ◌+◌}
-use Rattle.outer_tokens.proofs.BracketLemmas.{IsLeft}
+use Rattle.outer_tokens.proofs.LeftLemmas.{IsLeft}
 use Rattle.outer_tokens.proofs.bracket.inside_len.Given as goal
 
 abbrev pub invariant-loop-at : goal.invariant-loop-at

@@ -1,8 +1,8 @@
 use Rattle.std.proofs.Common.{◌≡◌, ◌≤◌, length, get_or, ◌∙◌, sym, subst, arith}
 use Rattle.std.proofs.lemmas.Bool.{eqb-false}
 use Rattle.std.proofs.lemmas.List.{get_or_read}
-use Rattle.symbols.specs.Longest.{HasNoFront}
-use Rattle.symbols.proofs.NameLemmas.{split-first}
+use Rattle.text_words.specs.Longest.{HasNoFront}
+use Rattle.symbols.proofs.KnownSplits.{split-first}
 use Rattle.outer_tokens.specs.Forms.{IsDotted}
 use Rattle.outer_tokens.proofs.LongLemmas.{dotted-none}
 use Rattle.outer_tokens.proofs.long_name.dotted_name.Goals as goal

@@ -1,10 +1,12 @@
-use Rattle.std.proofs.Common.{length}
+use Rattle.std.proofs.Common.{length, sym, subst}
+use Rattle.symbols.specs.Symbols.{AreSymbols, symbols_of}
 use Rattle.symbols.proofs.Laws.{one-between, joined-all, one-number, boundary-apart}
+use Rattle.symbols.proofs.FunctionLemmas.{are-symbols}
 use Rattle.symbols.proofs.law.one_list.Goals as goal
 
 pub returns : goal.returns
 returns c = record {
-  one = λ text a b. one-between text 0 (length text) a b;
+  just = λ text ss. (λ is. one-between text 0 (length text) ss (symbols_of text) is (are-symbols text), λ e. subst (AreSymbols text) (sym e) (are-symbols text));
   joins = joined-all;
   number = one-number;
   apart = boundary-apart;

@@ -1,9 +1,10 @@
 use Rattle.std.proofs.Common.{◌≡◌, ◌≤◌, ◌+◌, suc, length, get_or, ◌∙◌, sym, subst, arith}
 use Rattle.std.proofs.lemmas.Bool.{eqb-true, eqb-false}
 use Rattle.std.proofs.lemmas.List.{get_or_read}
-use Rattle.symbols.specs.Longest.{HasNoFront, IsLongest}
+use Rattle.text_words.specs.Longest.{HasNoFront, IsLongest}
 use Rattle.symbols.specs.Names.{IsMarkedName}
-use Rattle.symbols.proofs.NameLemmas.{caret-some, caret-none, plain-finds, split-first}
+use Rattle.symbols.proofs.NameLemmas.{caret-some, caret-none, plain-finds}
+use Rattle.symbols.proofs.KnownSplits.{split-first}
 use Rattle.symbols.proofs.name.marked_name.Goals as goal
 use Rattle.symbols.proofs.name.marked_name.Goals.{then-is_empty-via-then-is_empty, then-is_empty-via-else-is_empty+then-text-ne94}
 

@@ -1,7 +1,8 @@
 use Rattle.std.proofs.Common.{◌≡◌, ◌+◌, suc, get_or, sym, subst, arith, rules}
-use Rattle.symbols.specs.Longest.{HasNoFront, IsLongest}
+use Rattle.text_words.specs.Longest.{HasNoFront, IsLongest}
 use Rattle.symbols.specs.Names.{IsNamedSymbol}
-use Rattle.symbols.proofs.NameLemmas.{named-some, named-none, split-second}
+use Rattle.symbols.proofs.NameLemmas.{named-some, named-none}
+use Rattle.symbols.proofs.KnownSplits.{split-second}
 use Rattle.symbols.proofs.name.named_symbol.Goals as goal
 
 pub returns-in-Some : goal.returns-in-Some

@@ -1,0 +1,38 @@
+-- The proper ones of tokens put together.
+use Rattle.std.proofs.Common.{◌≡◌, ℕ, zero, suc, ◌+◌, ◌-◌, ◌<◌, ◌≤◌, Bool, true, false, cond, Option, None, Some, List, [], ◌∷◌, ◌++◌, length, take, drop, sym, refl, ap, ◌∙◌, subst, ⊎_elim, arith, append_assoc, length-append, length-take-le, length-drop}
+use Rattle.std.specs.Prelude.{if◌then◌else◌, slice_get}
+use Rattle.std.proofs.lemmas.Bool.{both_ways, cases_lt, cond-true, cond-false}
+use Rattle.std.proofs.lemmas.List.{take_at, append-nil, map-append, length-map, take-map, take-take, take-append-drop}
+use Rattle.outer_tokens.specs.Kinds.{is_proper}
+use Rattle.outer_tokens.specs.Tokens.{text_of}
+use Rattle.outer_tokens.specs.Headings.{Heading, Word, words, words_of, IsHeading, proper, EndsHeading, IsHeadingEnd}
+use Rattle.outer_tokens.specs.Stages.{after_word, after_token, is_ended, end_from}
+use Rattle.outer_tokens.specs.declared.stage.Stage.{Stage}
+use Rattle.outer_tokens.specs.declared.stage.Stage.TheVariants.{Start, Ended}
+use Rattle.outer_tokens.specs.declared.token.Token.{Token}
+
+pub proper-cons : (t : Token) (ts : List Token) → proper (t ∷ ts) ≡ cond (is_proper t.kind) (t ∷ proper ts) (proper ts)
+proper-cons t ts = refl
+
+pub proper-some : (t : Token) (ts : List Token) → is_proper t.kind ≡ true → proper (t ∷ ts) ≡ t ∷ proper ts
+proper-some t ts e = proper-cons t ts ∙ cond-true (is_proper t.kind) (t ∷ proper ts) (proper ts) e
+
+pub proper-none : (t : Token) (ts : List Token) → is_proper t.kind ≡ false → proper (t ∷ ts) ≡ proper ts
+proper-none t ts e = proper-cons t ts ∙ cond-false (is_proper t.kind) (t ∷ proper ts) (proper ts) e
+
+pub proper-push : (ts : List Token) (t : Token) → is_proper t.kind ≡ true → proper (ts ++ t ∷ []) ≡ proper ts ++ t ∷ []
+proper-push [] t e = proper-some t [] e
+proper-push (x ∷ ts) t e = go (is_proper x.kind) refl (proper-push ts t e) where
+  go : (b : Bool) → is_proper x.kind ≡ b → proper (ts ++ t ∷ []) ≡ proper ts ++ t ∷ [] → proper (x ∷ ts ++ t ∷ []) ≡ proper (x ∷ ts) ++ t ∷ []
+  go true p more = proper-some x (ts ++ t ∷ []) p ∙ ap (λ r. x ∷ r) more ∙ ap (λ r. r ++ t ∷ []) (sym (proper-some x ts p))
+  go false p more = proper-none x (ts ++ t ∷ []) p ∙ more ∙ ap (λ r. r ++ t ∷ []) (sym (proper-none x ts p))
+
+pub proper-both : (xs ys : List Token) → proper (xs ++ ys) ≡ proper xs ++ proper ys
+proper-both [] ys = refl
+proper-both (x ∷ xs) ys = go (is_proper x.kind) refl (proper-both xs ys) where
+  go : (b : Bool) → is_proper x.kind ≡ b → proper (xs ++ ys) ≡ proper xs ++ proper ys → proper (x ∷ xs ++ ys) ≡ proper (x ∷ xs) ++ proper ys
+  go true p more = proper-some x (xs ++ ys) p ∙ ap (λ r. x ∷ r) more ∙ ap (λ r. r ++ proper ys) (sym (proper-some x xs p))
+  go false p more = proper-none x (xs ++ ys) p ∙ more ∙ ap (λ r. r ++ proper ys) (sym (proper-none x xs p))
+
+pub proper-skip : (ts : List Token) (t : Token) → is_proper t.kind ≡ false → proper (ts ++ t ∷ []) ≡ proper ts
+proper-skip ts t e = proper-both ts (t ∷ []) ∙ ap (λ r. proper ts ++ r) (proper-none t [] e) ∙ append-nil (proper ts)
