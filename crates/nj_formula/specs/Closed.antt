@@ -10,5 +10,6 @@ closed_layer (Argument-F.Free y) = true
 closed_layer (Argument-F.Bound place) = false
 closed_layer (Argument-F.Apply function arguments) = list_all (λ closed. closed) arguments
 
+-- no place in the argument is bound
 abbrev pub is_closed : Argument → Bool
 is_closed = fold-Argument Bool closed_layer

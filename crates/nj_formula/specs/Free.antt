@@ -1,10 +1,12 @@
--- Free names: identifiers without arguments in the places of atoms and functions (Gentzen's free object variables).
+-- Free names: identifiers without arguments in the places of atoms and functions (Gentzen's free
+-- object variables, 1935).
 use Rattle.std.specs.Prelude.{ℕ, Bool, false, ◌||◌, List, map}
 use Rattle.std.specs.List.{list_any}
 use Rattle.std.specs.Str.{bytes_eq}
 use Rattle.nj_formula.specs.declared.argument.Argument.{Argument, fold-Argument}
 use Rattle.nj_formula.specs.declared.argument.Argument.TheOpen.{Argument-F}
-use Rattle.nj_formula.specs.Statement.{Statement, falsity, atom, neg, conj, disj, implies, every, exists}
+use Rattle.nj_formula.specs.Statement.{Statement, falsity, atom, neg, conj, disj, implies}
+use Rattle.nj_formula.specs.Statement.{every, exists}
 
 -- one layer, with the answer for each argument in its place
 abbrev pub free_layer : List ℕ → Argument-F Bool → Bool

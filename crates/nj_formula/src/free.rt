@@ -15,7 +15,7 @@ impl Argument {
         match self {
             Argument::Free(other) => other.is(name),
             Argument::Bound(_) => false,
-            Argument::Apply(_, arguments) => any_has_free(arguments.as_slice(), name),
+            Argument::Apply(_, arguments) => any_has_free(arguments.get().as_slice(), name),
         }
     }
 }
@@ -39,7 +39,7 @@ impl Formula {
     {
         match self {
             Formula::False => false,
-            Formula::Atom(_, arguments) => any_has_free(arguments.as_slice(), name),
+            Formula::Atom(_, arguments) => any_has_free(arguments.get().as_slice(), name),
             Formula::Not(a) | Formula::All(_, a) | Formula::Exists(_, a) => a.get().has_free(name),
             Formula::And(a, b) | Formula::Or(a, b) | Formula::Implies(a, b) => {
                 a.get().has_free(name) || b.get().has_free(name)

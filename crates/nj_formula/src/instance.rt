@@ -1,12 +1,13 @@
 ghost use Rattle.std.specs.Prelude.{◌≡◌, ◌+◌, map, IsTrue, IfOk};
-ghost use Rattle.nj_formula.specs.Meaning.{meaning};
 ghost use Rattle.nj_formula.specs.Closed.{is_closed};
-ghost use Rattle.nj_formula.specs.Instance.{filled_argument, filled, instance};
+ghost use Rattle.nj_formula.specs.Instance.{filled_argument};
+ghost use Rattle.nj_formula.specs.FormulaInstance.{filled_formula, formula_instance};
 
 use crate::argument::Argument;
 use crate::formula::Formula;
 use crate::obj_term::ObjTerm;
-use sqlite_items::{Boxed, Items};
+use crate::shared::Shared;
+use sqlite_items::Items;
 use std::alloc::{AllocError, Global};
 
 #[cycle(filled)]
@@ -27,10 +28,11 @@ fn filled_argument(
                 Ok(Argument::Bound(*other))
             }
         }
-        Argument::Apply(function, arguments) => Ok(Argument::Apply(
+        Argument::Apply(function, arguments) => Argument::apply(
+            alloc,
             function.copy(alloc)?,
-            filled_arguments(alloc, arguments.as_slice(), place, term)?,
-        )),
+            filled_arguments(alloc, arguments.get().as_slice(), place, term)?,
+        ),
     }
 }
 
@@ -51,10 +53,11 @@ fn filled_arguments(
 }
 
 impl Formula {
-    /// The instance of a quantifier's body at a term: the term stands in the place that the quantifier binds.
-    /// No name is captured, since bound places are numbers.
+    /// The instance of a quantifier's body at a term: the term stands in the place that the
+    /// quantifier binds, and all else is as it was, names beside quantifiers too. No name is
+    /// captured, since bound places are numbers.
     pub fn instance(&self, alloc: Global, term: &ObjTerm) -> Result<Formula, AllocError>
-        ensures value { IfOk result (λ f. meaning f ≡ instance term.now (meaning self.now)) }
+        ensures value { IfOk result (λ f. f ≡ formula_instance term.now self.now) }
         ensures closed { IsTrue (is_closed term.now) }
     {
         self.filled(alloc, 0, term.argument())
@@ -62,14 +65,15 @@ impl Formula {
 
     #[cycle(filled_formula)]
     fn filled(&self, alloc: Global, place: usize, term: &Argument) -> Result<Formula, AllocError>
-        ensures { IfOk result (λ f. meaning f ≡ filled place term.now (meaning self.now)) }
+        ensures { IfOk result (λ f. f ≡ filled_formula term.now self.now place) }
     {
         match self {
             Formula::False => Ok(Formula::False),
-            Formula::Atom(predicate, arguments) => Ok(Formula::Atom(
+            Formula::Atom(predicate, arguments) => Formula::atom(
+                alloc,
                 predicate.copy(alloc)?,
-                filled_arguments(alloc, arguments.as_slice(), place, term)?,
-            )),
+                filled_arguments(alloc, arguments.get().as_slice(), place, term)?,
+            ),
             Formula::Not(a) => Ok(Formula::Not(filled_part(alloc, a.get(), place, term)?)),
             Formula::And(a, b) => Ok(Formula::And(
                 filled_part(alloc, a.get(), place, term)?,
@@ -83,14 +87,14 @@ impl Formula {
                 filled_part(alloc, a.get(), place, term)?,
                 filled_part(alloc, b.get(), place, term)?,
             )),
-            Formula::All(name, body) => Ok(Formula::All(
-                name.copy(alloc)?,
-                filled_body(alloc, body.get(), place, term)?,
-            )),
-            Formula::Exists(name, body) => Ok(Formula::Exists(
-                name.copy(alloc)?,
-                filled_body(alloc, body.get(), place, term)?,
-            )),
+            Formula::All(name, body) => {
+                let body = filled_body(alloc, body.get(), place, term)?;
+                Ok(Formula::All(name.copy(alloc)?, body))
+            }
+            Formula::Exists(name, body) => {
+                let body = filled_body(alloc, body.get(), place, term)?;
+                Ok(Formula::Exists(name.copy(alloc)?, body))
+            }
         }
     }
 }
@@ -101,10 +105,10 @@ fn filled_part(
     part: &Formula,
     place: usize,
     term: &Argument,
-) -> Result<Boxed<Formula>, AllocError>
-    ensures { IfOk result (λ f. meaning f ≡ filled place term.now (meaning part.now)) }
+) -> Result<Shared<Formula>, AllocError>
+    ensures { IfOk result (λ f. f ≡ filled_formula term.now part.now place) }
 {
-    Boxed::new(alloc, part.filled(alloc, place, term)?)
+    Shared::new(alloc, part.filled(alloc, place, term)?)
 }
 
 /// Under one more quantifier the place has the next number. No memory holds 2^64 quantifiers.
@@ -114,11 +118,11 @@ fn filled_body(
     body: &Formula,
     place: usize,
     term: &Argument,
-) -> Result<Boxed<Formula>, AllocError>
-    ensures { IfOk result (λ f. meaning f ≡ filled (place + 1) term.now (meaning body.now)) }
+) -> Result<Shared<Formula>, AllocError>
+    ensures { IfOk result (λ f. f ≡ filled_formula term.now body.now (place + 1)) }
 {
     match place.checked_add(1) {
-        Some(deeper) => Boxed::new(alloc, body.filled(alloc, deeper, term)?),
+        Some(deeper) => Shared::new(alloc, body.filled(alloc, deeper, term)?),
         None => Err(AllocError),
     }
 }

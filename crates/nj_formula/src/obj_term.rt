@@ -58,7 +58,7 @@ impl ObjTerm {
         &self.argument
     }
 
-    /// The same term, in memory of its own.
+    /// The same term, in constant time.
     pub fn copy(&self, alloc: Global) -> Result<ObjTerm, AllocError>
         ensures { IfOk result (λ t. t ≡ self.now) }
     {
@@ -76,7 +76,7 @@ impl Argument {
         match self {
             Argument::Free(_) => true,
             Argument::Bound(_) => false,
-            Argument::Apply(_, arguments) => all_closed(arguments.as_slice()),
+            Argument::Apply(_, arguments) => all_closed(arguments.get().as_slice()),
         }
     }
 }

@@ -13,7 +13,7 @@ impl Argument {
             (Argument::Free(x), Argument::Free(y)) => x.is(y.as_str()),
             (Argument::Bound(i), Argument::Bound(j)) => *i == *j,
             (Argument::Apply(f, xs), Argument::Apply(g, ys)) => {
-                f.is(g.as_str()) && same_arguments(xs.as_slice(), ys.as_slice())
+                f.is(g.as_str()) && same_arguments(xs.get().as_slice(), ys.get().as_slice())
             }
             _ => false,
         }
@@ -43,7 +43,7 @@ impl Formula {
         match (self, other) {
             (Formula::False, Formula::False) => true,
             (Formula::Atom(p, xs), Formula::Atom(q, ys)) => {
-                p.is(q.as_str()) && same_arguments(xs.as_slice(), ys.as_slice())
+                p.is(q.as_str()) && same_arguments(xs.get().as_slice(), ys.get().as_slice())
             }
             (Formula::Not(a), Formula::Not(b)) => a.get().same(b.get()),
             (Formula::And(a, c), Formula::And(b, d)) => a.get().same(b.get())

@@ -1,3 +1,8 @@
-pub mod SetsLemmas
-pub mod DeriveLemmas
-pub mod TruthLemmas
+mod SetsLemmas
+mod DeriveLemmas
+mod TruthLemmas
+mod KeyLemmas
+mod OrderLemmas
+mod JoinLemmas
+mod RisesLemmas
+mod MadeLemmas

@@ -1,107 +1,90 @@
--- What NJ derives is true in each model with one element.
-use Rattle.std.proofs.Common.{◌≡◌, ◌⊎◌, ℕ, ◌+◌, Bool, true, false, not, ◌&&◌, ◌||◌, List, IsTrue, refl, ap, sym, ◌∙◌, inl, inr, ⊎_elim}
-use Rattle.nj_formula.specs.declared.argument.Argument.{Argument}
+-- What is derived is true in each structure where what it assumes is.
+use Rattle.std.proofs.Common.{◌≡◌, ℕ, true, false, cond, IsTrue, List, [], ◌∷◌, refl, ap, sym, subst, ◌∙◌, inl, inr, ⊎_elim}
+use Rattle.std.specs.Str.{bytes_eq}
 use Rattle.nj_formula.specs.declared.argument.Argument.TheVariants.{Free}
-use Rattle.nj_formula.specs.Statement.{Statement, falsity, atom, neg, conj, disj, implies, every, exists}
-use Rattle.nj_formula.specs.Instance.{filled, instance}
-use Rattle.nj_kernel.specs.Sets.{members, Lists, ◌∖◌}
+use Rattle.nj_formula.specs.Statement.{Statement}
+use Rattle.std.proofs.lemmas.Slice.Eq.{bytes_eq-Decides}
+use Rattle.nj_formula.specs.Free.{is_free}
+use Rattle.nj_formula.specs.Closed.{closed_layer, is_closed}
+use Rattle.nj_formula.specs.Instance.{instance}
+use Rattle.nj_formula.specs.Truth.{Assignment, renamed, point_layer, point, truth}
+use Rattle.nj_formula.proofs.KnownArguments.{fold-Free}
+use Rattle.nj_formula.proofs.KnownTruth.{truth_instance}
+use Rattle.nj_formula.proofs.KnownAbsent.{truth_renamed}
+use Rattle.nj_kernel.specs.Sets.{members, Lists, ◌∖◌, IsFreshIn}
 use Rattle.nj_kernel.specs.Nj.{Nj, assume, same_set, conj_i, conj_e1, conj_e2, disj_i1, disj_i2, disj_e, imp_i, imp_e, not_i, not_e, false_e, all_i, all_e, ex_i, ex_e}
-use Rattle.nj_kernel.specs.Truth.{truth}
+use Rattle.nj_kernel.proofs.OrderLemmas.{decide}
 
--- a term in a place changes nothing, since a predicate's arguments do not matter
-pub truth_filled : (v : List ℕ → Bool) (n : ℕ) (t : Argument) (a : Statement) → truth v (filled n t a) ≡ truth v a
-truth_filled v n t falsity = refl
-truth_filled v n t (atom p args) = refl
-truth_filled v n t (neg a) = ap not (truth_filled v n t a)
-truth_filled v n t (conj a b) = ap (λ x. x && truth v (filled n t b)) (truth_filled v n t a) ∙ ap (λ y. truth v a && y) (truth_filled v n t b)
-truth_filled v n t (disj a b) = ap (λ x. x || truth v (filled n t b)) (truth_filled v n t a) ∙ ap (λ y. truth v a || y) (truth_filled v n t b)
-truth_filled v n t (implies a b) = ap (λ x. not x || truth v (filled n t b)) (truth_filled v n t a) ∙ ap (λ y. not (truth v a) || y) (truth_filled v n t b)
-truth_filled v n t (every a) = truth_filled v (n + 1) t a
-truth_filled v n t (exists a) = truth_filled v (n + 1) t a
+-- a name is the same name
+bytes_same : (x : List ℕ) → bytes_eq x x ≡ true
+bytes_same x = (bytes_eq-Decides x x).1 refl
 
-both : (x y : Bool) → IsTrue x → IsTrue y → IsTrue (x && y)
-both x y p q = ap (λ b. b && y) p ∙ q
+-- a name by itself is a term
+closed_name : (x : List ℕ) → IsTrue (is_closed (Free x))
+closed_name x = fold-Free closed_layer x
 
-first : (x y : Bool) → IsTrue (x && y) → IsTrue x
-first true y p = refl
-first false y p = p
-
-second : (x y : Bool) → IsTrue (x && y) → IsTrue y
-second true y p = p
-second false y p = cc
-
-left : (x y : Bool) → IsTrue x → IsTrue (x || y)
-left x y p = ap (λ b. b || y) p
-
-right : (x y : Bool) → IsTrue y → IsTrue (x || y)
-right true y p = refl
-right false y p = p
-
-either : (x y : Bool) → IsTrue (x || y) → IsTrue x ⊎ IsTrue y
-either true y p = inl refl
-either false y p = inr p
-
-tell : (b : Bool) → IsTrue b ⊎ (b ≡ false)
-tell true = inl refl
-tell false = inr refl
-
--- `x --> y`, where y is true wherever x is
-follows : (x y : Bool) → (IsTrue x → IsTrue y) → IsTrue (not x || y)
-follows true y p = p refl
-follows false y p = refl
-
-applied : (x y : Bool) → IsTrue (not x || y) → IsTrue x → IsTrue y
-applied true y p q = p
-applied false y p q = cc
-
--- `~x`, where x can't be true
-denied : (x : Bool) → (IsTrue x → IsTrue false) → IsTrue (not x)
-denied true p = p refl
-denied false p = refl
-
-clash : (x : Bool) → IsTrue (not x) → IsTrue x → IsTrue false
-clash true p q = p
-clash false p q = q
-
-from_false : (y : Bool) → IsTrue false → IsTrue y
-from_false y p = cc
-
-module _ (v : List ℕ → Bool) where
-  abbrev pub AllTrue : (Statement → Type 0) → Type 0
-  AllTrue P = (f : Statement) → P f → IsTrue (truth v f)
+module _ {D : Type 0} (apply : List ℕ → List D → D) (holds : List ℕ → List D → Type 0) where
+  abbrev AllTrue : Assignment D → (Statement → Type 0) → Type 0
+  AllTrue v P = (f : Statement) → P f → truth apply holds v [] f
 
   -- what a list lists is true, where its members are
-  part : (s : List Statement) (P : Statement → Type 0) → Lists s P → AllTrue (members s) → AllTrue P
-  part s P l all f p = all f ((l f).1 p)
+  part : (v : Assignment D) (s : List Statement) (P : Statement → Type 0) → Lists s P → AllTrue v (members s) → AllTrue v P
+  part v s P l all f p = all f ((l f).1 p)
 
   -- where a statement holds, what a rule that discharges it assumes is all that its premise assumes
-  restored : (P : Statement → Type 0) (a : Statement) → AllTrue (P ∖ a) → IsTrue (truth v a) → AllTrue P
-  restored P a rest holds f in_p =
-      ⊎_elim (λ yes. yes) (λ no. rest f (in_p, λ same. let e : truth v f ≡ truth v a = ap (truth v) same in cc)) (tell (truth v f))
+  restored : (v : Assignment D) (P : Statement → Type 0) (a : Statement) → AllTrue v (P ∖ a) → truth apply holds v [] a → AllTrue v P
+  restored v P a rest h f in_p = ⊎_elim (λ same. subst (truth apply holds v []) (sym same) h) (λ other. rest f (in_p, other)) (decide f a)
 
-  pub sound : {s : List Statement} {a : Statement} → Nj s a → AllTrue (members s) → IsTrue (truth v a)
-  sound {a = a} assume all = all a (inl refl)
-  sound (same_set l d) all = sound d (part _ _ l all)
-  sound (conj_i l d e) all =
-      both _ _ (sound d (λ f m. part _ _ l all f (inl m))) (sound e (λ f m. part _ _ l all f (inr m)))
-  sound (conj_e1 d) all = first _ _ (sound d all)
-  sound (conj_e2 d) all = second _ _ (sound d all)
-  sound (disj_i1 d) all = left _ _ (sound d all)
-  sound (disj_i2 d) all = right _ _ (sound d all)
-  sound (disj_e {a = a} {b = b} l d e g) all =
-      ⊎_elim (λ x. sound e (restored _ a (λ f m. part _ _ l all f (inl (inr m))) x))
-      (λ y. sound g (restored _ b (λ f m. part _ _ l all f (inr m)) y))
-      (either _ _ (sound d (λ f m. part _ _ l all f (inl (inl m)))))
-  sound (imp_i {a = a} l d) all = follows _ _ (λ x. sound d (restored _ a (part _ _ l all) x))
-  sound (imp_e l d e) all =
-      applied _ _ (sound d (λ f m. part _ _ l all f (inl m))) (sound e (λ f m. part _ _ l all f (inr m)))
-  sound (not_i {a = a} l d) all = denied _ (λ x. sound d (restored _ a (part _ _ l all) x))
-  sound (not_e l d e) all =
-      clash _ (sound d (λ f m. part _ _ l all f (inl m))) (sound e (λ f m. part _ _ l all f (inr m)))
-  sound (false_e d) all = from_false _ (sound d all)
-  sound (all_i x {p = p} absent fresh d) all = sym (truth_filled v 0 (Free x) p) ∙ sound d all
-  sound (all_e t p closed d) all = truth_filled v 0 t p ∙ sound d all
-  sound (ex_i t {p = p} closed d) all = sym (truth_filled v 0 t p) ∙ sound d all
-  sound (ex_e x p l absent absent_in_c fresh d e) all =
-      let holds = truth_filled v 0 (Free x) p ∙ sound d (λ f m. part _ _ l all f (inl m)) in
-      sound e (restored _ (instance (Free x) p) (λ f m. part _ _ l all f (inr m)) holds)
+  -- what does not have the name stays true when it means another point
+  kept : (v : Assignment D) (x : List ℕ) (d : D) (P : Statement → Type 0) → IsFreshIn x P → AllTrue v P → AllTrue (renamed v x d) P
+  kept v x d P fresh all f p = (truth_renamed apply v x d holds [] f (fresh f p)).0 (all f p)
+
+  -- the name is the point that it means now
+  named : (v : Assignment D) (x : List ℕ) (d : D) → point apply (renamed v x d) [] (Free x) ≡ d
+  named v x d = fold-Free (point_layer apply (renamed v x d) []) x ∙ ap (λ b. cond b d (v.of_name x)) (bytes_same x)
+
+  -- the instance at a name that is not free, where that name is d, is the body of d
+  body_of : (v : Assignment D) (x : List ℕ) (d : D) (p : Statement) → is_free x p ≡ false
+      → truth apply holds (renamed v x d) [] (instance (Free x) p) → truth apply holds v (d ∷ []) p
+  body_of v x d p absent h =
+      let at : truth apply holds (renamed v x d) (point apply (renamed v x d) [] (Free x) ∷ []) p =
+      (truth_instance apply (renamed v x d) (Free x) (closed_name x) holds p).0 h in
+      (truth_renamed apply v x d holds (d ∷ []) p absent).1 (subst (λ e. truth apply holds (renamed v x d) (e ∷ []) p) (named v x d) at)
+
+  of_body : (v : Assignment D) (x : List ℕ) (d : D) (p : Statement) → is_free x p ≡ false
+      → truth apply holds v (d ∷ []) p → truth apply holds (renamed v x d) [] (instance (Free x) p)
+  of_body v x d p absent h =
+      (truth_instance apply (renamed v x d) (Free x) (closed_name x) holds p).1
+      (subst (λ e. truth apply holds (renamed v x d) (e ∷ []) p) (sym (named v x d)) ((truth_renamed apply v x d holds (d ∷ []) p absent).0 h))
+
+  pub sound : {s : List Statement} {a : Statement} → Nj s a → (v : Assignment D) → AllTrue v (members s) → truth apply holds v [] a
+  sound {a = a} assume v all = all a (inl refl)
+  sound (same_set l d) v all = sound d v (part v _ _ l all)
+  sound (conj_i l d e) v all =
+      (sound d v (λ f m. part v _ _ l all f (inl m)), sound e v (λ f m. part v _ _ l all f (inr m)))
+  sound (conj_e1 d) v all = (sound d v all).0
+  sound (conj_e2 d) v all = (sound d v all).1
+  sound (disj_i1 d) v all = inl (sound d v all)
+  sound (disj_i2 d) v all = inr (sound d v all)
+  sound (disj_e {a = a} {b = b} l d e g) v all =
+      ⊎_elim (λ x. sound e v (restored v _ a (λ f m. part v _ _ l all f (inl (inr m))) x))
+      (λ y. sound g v (restored v _ b (λ f m. part v _ _ l all f (inr m)) y))
+      (sound d v (λ f m. part v _ _ l all f (inl (inl m))))
+  sound (imp_i {a = a} l d) v all = λ x. sound d v (restored v _ a (part v _ _ l all) x)
+  sound (imp_e l d e) v all =
+      (sound d v (λ f m. part v _ _ l all f (inl m))) (sound e v (λ f m. part v _ _ l all f (inr m)))
+  sound (not_i {a = a} l d) v all = λ x. sound d v (restored v _ a (part v _ _ l all) x)
+  sound (not_e l d e) v all =
+      (sound d v (λ f m. part v _ _ l all f (inl m))) (sound e v (λ f m. part v _ _ l all f (inr m)))
+  sound (false_e d) v all = absurd (sound d v all)
+  sound (all_i x {p = p} absent fresh d) v all =
+      λ e. body_of v x e p absent (sound d (renamed v x e) (kept v x e _ fresh all))
+  sound (all_e t p closed d) v all =
+      (truth_instance apply v t closed holds p).1 (sound d v all (point apply v [] t))
+  sound (ex_i t {p = p} closed d) v all =
+      (point apply v [] t, (truth_instance apply v t closed holds p).0 (sound d v all))
+  sound (ex_e x p {c = c} l absent absent_in_c fresh d e) v all =
+      let some = sound d v (λ f m. part v _ _ l all f (inl m)) in
+      let rest = kept v x some.0 _ fresh (λ f m. part v _ _ l all f (inr m)) in
+      (truth_renamed apply v x some.0 holds [] c absent_in_c).1
+      (sound e (renamed v x some.0) (restored (renamed v x some.0) _ (instance (Free x) p) rest (of_body v x some.0 p absent some.1)))

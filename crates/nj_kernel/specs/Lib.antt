@@ -1,5 +1,7 @@
 pub mod Sets
+pub mod Keys
+pub mod Order
 pub mod Nj
-pub mod Truth
 pub mod Theorem
+pub mod RuleNames
 pub mod Rules

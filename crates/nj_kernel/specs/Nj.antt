@@ -8,7 +8,8 @@ use Rattle.nj_formula.specs.Closed.{is_closed}
 use Rattle.nj_formula.specs.Instance.{instance}
 use Rattle.nj_kernel.specs.Sets.{members, ◌∪◌, ◌∖◌, Lists, IsFreshIn}
 
--- the least relation with one clause per rule; a rule discharges an assumption whether it is there or not
+-- the least relation with one clause per rule; a rule discharges an assumption whether it is there
+-- or not
 pub data Nj : List Statement → Statement → Type 0 where
   assume : {a : Statement} → Nj (a ∷ []) a
   -- a set may be listed in any order, and with repetitions
@@ -22,10 +23,12 @@ pub data Nj : List Statement → Statement → Type 0 where
   disj_e : {s t u v : List Statement} {a b c : Statement}
       → Lists v (members s ∪ (members t ∖ a) ∪ (members u ∖ b))
       → Nj s (disj a b) → Nj t c → Nj u c → Nj v c
-  imp_i : {s t : List Statement} {a b : Statement} → Lists t (members s ∖ a) → Nj s b → Nj t (implies a b)
+  imp_i : {s t : List Statement} {a b : Statement} → Lists t (members s ∖ a)
+      → Nj s b → Nj t (implies a b)
   imp_e : {s t u : List Statement} {a b : Statement} → Lists u (members s ∪ members t)
       → Nj s (implies a b) → Nj t a → Nj u b
-  not_i : {s t : List Statement} {a : Statement} → Lists t (members s ∖ a) → Nj s falsity → Nj t (neg a)
+  not_i : {s t : List Statement} {a : Statement} → Lists t (members s ∖ a)
+      → Nj s falsity → Nj t (neg a)
   not_e : {s t u : List Statement} {a : Statement} → Lists u (members s ∪ members t)
       → Nj s (neg a) → Nj t a → Nj u falsity
   false_e : {s : List Statement} {c : Statement} → Nj s falsity → Nj s c

@@ -1,26 +1,7 @@
 ghost use Rattle.std.specs.Prelude.{◌≡◌};
 
+use crate::rule::Rule;
 use std::alloc::AllocError;
-
-/// The rules of NJ, I for those that introduce and E for those that eliminate.
-#[derive(Clone, Copy, Debug, PartialEq, Eq)]
-pub enum Rule {
-    ConjI,
-    ConjE1,
-    ConjE2,
-    DisjI1,
-    DisjI2,
-    DisjE,
-    ImpI,
-    ImpE,
-    NotI,
-    NotE,
-    FalseE,
-    AllI,
-    AllE,
-    ExI,
-    ExE,
-}
 
 /// A premise that does not fit the rule.
 #[derive(Clone, Copy, Debug, PartialEq, Eq)]

@@ -1,64 +1,106 @@
-//! Sets of formulas, as lists in which order and repetition do not matter.
+//! Sets of formulas, as lists that rise in the order of their keys. Each set is made in one pass.
 
-ghost use Rattle.std.specs.Prelude.{◌≡◌, ◌↔◌, IsTrue, IfOk, map};
+ghost use Rattle.std.specs.Prelude.{◌≡◌, ◌↔◌, IsTrue, IfOk, OnOk, map, [], ◌∷◌, ◌++◌};
 ghost use Rattle.nj_formula.specs.Meaning.{meaning};
 ghost use Rattle.nj_kernel.specs.Sets.{members, Lists, ◌∪◌, ◌∖◌, IsFreshIn};
+ghost use Rattle.nj_kernel.specs.Order.{rises};
 
-use nj_formula::Formula;
+use crate::hyp::Hyp;
+use nj_formula::{Formula, Shared};
 use sqlite_items::Items;
 use std::alloc::{AllocError, Global};
+use std::cmp::Ordering;
 
-/// Whether a formula of the list says what `formula` says.
-fn has(formulas: &[Formula], formula: &Formula) -> bool
-    ensures { IsTrue result ↔ members (map meaning formulas.now) (meaning formula.now) }
+/// The set of one formula.
+pub(crate) fn single(alloc: Global, formula: &Formula) -> Result<Shared<Items<Hyp>>, AllocError>
+    ensures { IfOk result (λ u. u ≡ formula.now ∷ []) }
 {
-    for member in formulas {
-        if member.same(formula) {
-            return true;
-        }
-    }
-    false
+    let mut only = Items::new(alloc);
+    only.push(Hyp::new(alloc, formula)?)?;
+    Shared::new(alloc, only)
 }
 
-/// The same formulas, in memory of their own.
-pub(crate) fn copied(alloc: Global, formulas: &[Formula]) -> Result<Items<Formula>, AllocError>
-    ensures { IfOk result (λ copies. copies ≡ formulas.now) }
+/// The formulas of either set, each once.
+pub(crate) fn union(alloc: Global, s: &[Hyp], t: &[Hyp]) -> Result<Shared<Items<Hyp>>, AllocError>
+    requires left { IsTrue (rises (map meaning s.now)) }
+    requires right { IsTrue (rises (map meaning t.now)) }
+    ensures listed { IfOk result (λ u. Lists (map meaning u)
+        (members (map meaning s.now) ∪ members (map meaning t.now))) }
+    ensures ordered { IfOk result (λ u. IsTrue (rises (map meaning u))) }
 {
-    let mut copies = Items::new(alloc);
-    for formula in formulas {
-        copies.push(formula.copy(alloc)?)?;
-    }
-    Ok(copies)
+    let all = both(alloc, s, t)?;
+    Shared::new(alloc, all)
 }
 
-/// The formulas of either list.
-pub(crate) fn union(
-    alloc: Global,
-    s: &[Formula],
-    t: &[Formula],
-) -> Result<Items<Formula>, AllocError>
-    ensures { IfOk result (λ u. Lists (map meaning u) (members (map meaning s.now) ∪ members (map meaning t.now))) }
+fn both(alloc: Global, s: &[Hyp], t: &[Hyp]) -> Result<Items<Hyp>, AllocError>
+    requires left { IsTrue (rises (map meaning s.now)) }
+    requires right { IsTrue (rises (map meaning t.now)) }
+    ensures listed { IfOk result (λ u. Lists (map meaning u)
+        (members (map meaning s.now) ∪ members (map meaning t.now))) }
+    ensures ordered { IfOk result (λ u. IsTrue (rises (map meaning u))) }
 {
-    let mut all = copied(alloc, s)?;
-    for formula in t {
-        if !has(all.as_slice(), formula) {
-            all.push(formula.copy(alloc)?)?;
+    let mut all = Items::new(alloc);
+    let mut left = s;
+    let mut right = t;
+    while let [a, after_a @ ..] = left {
+        let [b, after_b @ ..] = right else {
+            break;
+        };
+        match a.order(b) {
+            Ordering::Less => {
+                all.push(a.copy(alloc)?)?;
+                left = after_a;
+            }
+            Ordering::Equal => {
+                all.push(a.copy(alloc)?)?;
+                left = after_a;
+                right = after_b;
+            }
+            Ordering::Greater => {
+                all.push(b.copy(alloc)?)?;
+                right = after_b;
+            }
         }
     }
+    push_all(alloc, &mut all, left)?;
+    push_all(alloc, &mut all, right)?;
     Ok(all)
 }
 
-/// The formulas of the list that do not say what `formula` says.
+fn push_all(alloc: Global, to: &mut Items<Hyp>, formulas: &[Hyp]) -> Result<(), AllocError>
+    ensures { OnOk result (to.new ≡ to.old ++ formulas.now) }
+{
+    for formula in formulas {
+        to.push(formula.copy(alloc)?)?;
+    }
+    Ok(())
+}
+
+/// The formulas of the set that do not say what `formula` says.
 pub(crate) fn without(
     alloc: Global,
-    s: &[Formula],
+    s: &[Hyp],
     formula: &Formula,
-) -> Result<Items<Formula>, AllocError>
-    ensures { IfOk result (λ u. Lists (map meaning u) (members (map meaning s.now) ∖ meaning formula.now)) }
+) -> Result<Shared<Items<Hyp>>, AllocError>
+    requires { IsTrue (rises (map meaning s.now)) }
+    ensures listed { IfOk result (λ u. Lists (map meaning u)
+        (members (map meaning s.now) ∖ meaning formula.now)) }
+    ensures ordered { IfOk result (λ u. IsTrue (rises (map meaning u))) }
+{
+    let dropped = Hyp::new(alloc, formula)?;
+    let kept = others(alloc, s, &dropped)?;
+    Shared::new(alloc, kept)
+}
+
+fn others(alloc: Global, s: &[Hyp], dropped: &Hyp) -> Result<Items<Hyp>, AllocError>
+    requires { IsTrue (rises (map meaning s.now)) }
+    ensures listed { IfOk result (λ u. Lists (map meaning u)
+        (members (map meaning s.now) ∖ meaning dropped.now)) }
+    ensures ordered { IfOk result (λ u. IsTrue (rises (map meaning u))) }
 {
     let mut kept = Items::new(alloc);
     for member in s {
-        if !member.same(formula) {
+        if member.order(dropped).is_ne() {
             kept.push(member.copy(alloc)?)?;
         }
     }
@@ -66,11 +108,11 @@ pub(crate) fn without(
 }
 
 /// Whether the name is free in none of the formulas.
-pub(crate) fn is_fresh(name: &str, formulas: &[Formula]) -> bool
+pub(crate) fn is_fresh(name: &str, formulas: &[Hyp]) -> bool
     ensures { IsTrue result ↔ IsFreshIn name.now (members (map meaning formulas.now)) }
 {
-    for formula in formulas {
-        if formula.has_free(name) {
+    for member in formulas {
+        if member.formula().has_free(name) {
             return false;
         }
     }

@@ -3,13 +3,14 @@
 ghost use Rattle.std.specs.Prelude.{◌≡◌, IfOk, [], ◌∷◌};
 ghost use Rattle.nj_formula.specs.Meaning.{meaning};
 ghost use Rattle.nj_kernel.specs.Theorem.{assumed, shown};
-ghost use Rattle.nj_kernel.specs.Rules.{ConjI, ConjE1, ConjE2, DisjI1, DisjI2, DisjE, ImpI, ImpE, NotI, NotE, FalseE};
+ghost use Rattle.nj_kernel.specs.Rules.{ConjI, ConjE1, ConjE2, DisjI1, DisjI2, DisjE};
+ghost use Rattle.nj_kernel.specs.Rules.{ImpI, ImpE, NotI, NotE, FalseE};
 
-use crate::fault::{Rule, RuleError, misfit};
-use crate::hyps::{copied, union, without};
+use crate::fault::{RuleError, misfit};
+use crate::hyps::{single, union, without};
+use crate::rule::Rule;
 use crate::thm::Thm;
 use nj_formula::Formula;
-use sqlite_items::{Boxed, Items};
 use std::alloc::{AllocError, Global};
 
 /// A from A.
@@ -17,8 +18,7 @@ pub fn assume(alloc: Global, a: &Formula) -> Result<Thm, AllocError>
     ensures assumed { IfOk result (λ t. assumed t ≡ meaning a.now ∷ []) }
     ensures shown { IfOk result (λ t. shown t ≡ meaning a.now) }
 {
-    let mut hyps = Items::new(alloc);
-    hyps.push(a.copy(alloc)?)?;
+    let hyps = single(alloc, a)?;
     Ok(Thm::derived(hyps, a.copy(alloc)?))
 }
 
@@ -27,9 +27,8 @@ pub fn conj_i(alloc: Global, t: &Thm, u: &Thm) -> Result<Thm, RuleError>
     ensures { ConjI (assumed t.now) (shown t.now) (assumed u.now) (shown u.now) result }
 {
     let hyps = union(alloc, t.hyps(), u.hyps())?;
-    let a = Boxed::new(alloc, t.concl().copy(alloc)?)?;
-    let b = Boxed::new(alloc, u.concl().copy(alloc)?)?;
-    Ok(Thm::derived(hyps, Formula::And(a, b)))
+    let concl = Formula::and(alloc, t.concl().copy(alloc)?, u.concl().copy(alloc)?)?;
+    Ok(Thm::derived(hyps, concl))
 }
 
 /// From A & B to A.
@@ -37,7 +36,7 @@ pub fn conj_e1(alloc: Global, t: &Thm) -> Result<Thm, RuleError>
     ensures { ConjE1 (assumed t.now) (shown t.now) result }
 {
     match t.concl() {
-        Formula::And(a, _) => Ok(Thm::derived(copied(alloc, t.hyps())?, a.get().copy(alloc)?)),
+        Formula::And(a, _) => Ok(Thm::derived(t.shared_hyps()?, a.get().copy(alloc)?)),
         _ => Err(misfit(Rule::ConjE1, 1)),
     }
 }
@@ -47,7 +46,7 @@ pub fn conj_e2(alloc: Global, t: &Thm) -> Result<Thm, RuleError>
     ensures { ConjE2 (assumed t.now) (shown t.now) result }
 {
     match t.concl() {
-        Formula::And(_, b) => Ok(Thm::derived(copied(alloc, t.hyps())?, b.get().copy(alloc)?)),
+        Formula::And(_, b) => Ok(Thm::derived(t.shared_hyps()?, b.get().copy(alloc)?)),
         _ => Err(misfit(Rule::ConjE2, 1)),
     }
 }
@@ -56,23 +55,22 @@ pub fn conj_e2(alloc: Global, t: &Thm) -> Result<Thm, RuleError>
 pub fn disj_i1(alloc: Global, t: &Thm, other: &Formula) -> Result<Thm, RuleError>
     ensures { DisjI1 (assumed t.now) (shown t.now) (meaning other.now) result }
 {
-    let a = Boxed::new(alloc, t.concl().copy(alloc)?)?;
-    let b = Boxed::new(alloc, other.copy(alloc)?)?;
-    Ok(Thm::derived(copied(alloc, t.hyps())?, Formula::Or(a, b)))
+    let concl = Formula::or(alloc, t.concl().copy(alloc)?, other.copy(alloc)?)?;
+    Ok(Thm::derived(t.shared_hyps()?, concl))
 }
 
 /// From B to A | B, where A is `other`.
 pub fn disj_i2(alloc: Global, t: &Thm, other: &Formula) -> Result<Thm, RuleError>
     ensures { DisjI2 (assumed t.now) (shown t.now) (meaning other.now) result }
 {
-    let a = Boxed::new(alloc, other.copy(alloc)?)?;
-    let b = Boxed::new(alloc, t.concl().copy(alloc)?)?;
-    Ok(Thm::derived(copied(alloc, t.hyps())?, Formula::Or(a, b)))
+    let concl = Formula::or(alloc, other.copy(alloc)?, t.concl().copy(alloc)?)?;
+    Ok(Thm::derived(t.shared_hyps()?, concl))
 }
 
 /// From A | B, from C with A assumed and from C with B assumed, to C.
 pub fn disj_e(alloc: Global, t: &Thm, u: &Thm, v: &Thm) -> Result<Thm, RuleError>
-    ensures { DisjE (assumed t.now) (shown t.now) (assumed u.now) (shown u.now) (assumed v.now) (shown v.now) result }
+    ensures { DisjE (assumed t.now) (shown t.now) (assumed u.now) (shown u.now)
+        (assumed v.now) (shown v.now) result }
 {
     match t.concl() {
         Formula::Or(a, b) => {
@@ -81,8 +79,8 @@ pub fn disj_e(alloc: Global, t: &Thm, u: &Thm, v: &Thm) -> Result<Thm, RuleError
             }
             let left = without(alloc, u.hyps(), a.get())?;
             let right = without(alloc, v.hyps(), b.get())?;
-            let both = union(alloc, t.hyps(), left.as_slice())?;
-            let hyps = union(alloc, both.as_slice(), right.as_slice())?;
+            let both = union(alloc, t.hyps(), left.get().as_slice())?;
+            let hyps = union(alloc, both.get().as_slice(), right.get().as_slice())?;
             Ok(Thm::derived(hyps, u.concl().copy(alloc)?))
         }
         _ => Err(misfit(Rule::DisjE, 1)),
@@ -93,10 +91,9 @@ pub fn disj_e(alloc: Global, t: &Thm, u: &Thm, v: &Thm) -> Result<Thm, RuleError
 pub fn imp_i(alloc: Global, a: &Formula, t: &Thm) -> Result<Thm, RuleError>
     ensures { ImpI (meaning a.now) (assumed t.now) (shown t.now) result }
 {
-    let hyps = without(alloc, t.hyps(), a)?;
-    let a = Boxed::new(alloc, a.copy(alloc)?)?;
-    let b = Boxed::new(alloc, t.concl().copy(alloc)?)?;
-    Ok(Thm::derived(hyps, Formula::Implies(a, b)))
+    let remaining = without(alloc, t.hyps(), a)?;
+    let concl = Formula::implies(alloc, a.copy(alloc)?, t.concl().copy(alloc)?)?;
+    Ok(Thm::derived(remaining, concl))
 }
 
 /// From A --> B and A to B.
@@ -122,8 +119,8 @@ pub fn not_i(alloc: Global, a: &Formula, t: &Thm) -> Result<Thm, RuleError>
     match t.concl() {
         Formula::False => {
             let hyps = without(alloc, t.hyps(), a)?;
-            let a = Boxed::new(alloc, a.copy(alloc)?)?;
-            Ok(Thm::derived(hyps, Formula::Not(a)))
+            let concl = Formula::not(alloc, a.copy(alloc)?)?;
+            Ok(Thm::derived(hyps, concl))
         }
         _ => Err(misfit(Rule::NotI, 1)),
     }
@@ -149,7 +146,7 @@ pub fn false_e(alloc: Global, t: &Thm, c: &Formula) -> Result<Thm, RuleError>
     ensures { FalseE (assumed t.now) (shown t.now) (meaning c.now) result }
 {
     match t.concl() {
-        Formula::False => Ok(Thm::derived(copied(alloc, t.hyps())?, c.copy(alloc)?)),
+        Formula::False => Ok(Thm::derived(t.shared_hyps()?, c.copy(alloc)?)),
         _ => Err(misfit(Rule::FalseE, 1)),
     }
 }

@@ -1,7 +1,6 @@
--- False is true nowhere.
-use Rattle.std.proofs.Common.{false}
+-- False is true in no structure: here in one with one point, where nothing holds.
 use Rattle.nj_kernel.proofs.TruthLemmas.{sound}
 use Rattle.nj_kernel.proofs.consistency.consistency_law.Goals as goal
 
 pub returns : goal.returns
-returns c = λ d. let wrong = sound (λ p. false) d (λ f m. elim m [ ]) in cc
+returns c = λ d. sound {D = Unit {0}} (λ f ds. tt) (λ p ds. ⊥) d (record { of_name = λ x. tt; of_place = λ n. tt }) (λ f m. elim m [ ])

@@ -5,4 +5,4 @@ use Rattle.nj_kernel.proofs.hyps.is_fresh.Goals as goal
 
 pub returns : goal.returns
 returns c =
-    (λ yes. c.loop-formula.invariant.1 (fresh_in_none c.args.name.now c.args.formulas.now c.loop-formula.formula-index (omega arith)), λ fresh. refl)
+    (λ yes. c.loop-member.invariant.1 (fresh_in_none c.args.name.now c.args.formulas.now c.loop-member.member-index (omega arith)), λ fresh. refl)

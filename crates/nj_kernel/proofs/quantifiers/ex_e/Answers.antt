@@ -4,7 +4,7 @@ use Rattle.nj_formula.specs.Statement.{exists}
 use Rattle.nj_formula.specs.Meaning.{meaning}
 use Rattle.nj_formula.specs.Instance.{instance}
 use Rattle.nj_formula.specs.Free.{is_free}
-use Rattle.nj_formula.proofs.MeaningLemmas.{meaning-Exists}
+use Rattle.nj_formula.proofs.KnownMeaning.{meaning-Exists}
 use Rattle.nj_kernel.specs.Sets.{members, Lists, ◌∪◌, ◌∖◌, IsFreshIn}
 use Rattle.nj_kernel.specs.Theorem.{assumed, shown}
 use Rattle.nj_kernel.specs.Nj as Nj
@@ -12,8 +12,8 @@ use Rattle.nj_kernel.proofs.SetsLemmas as Sets
 use Rattle.nj_kernel.proofs.DeriveLemmas.{along, by_two}
 use Rattle.nj_kernel.proofs.quantifiers.ex_e.Goals as goal
 
-pub derived-requires : goal.derived-requires
-derived-requires c =
+pub derived-requires-clause-rule : goal.derived-requires-clause-rule
+derived-requires-clause-rule c =
     let is : shown c.args.t.now ≡ exists (meaning c.in-Exists.body) = sym c.concl.ensures ∙ (ap meaning c.in-Exists.is ∙ meaning-Exists _ _) in
     let at : meaning c.in_ok-at_x-in-Exists.at_x ≡ instance (Free c.args.x.now) (meaning c.in-Exists.body) = search rules in
     let listed : Lists (map meaning c.in_ok-remaining-in-Exists.remaining) (members (assumed c.args.u.now) ∖ meaning c.in_ok-at_x-in-Exists.at_x) = search rules in

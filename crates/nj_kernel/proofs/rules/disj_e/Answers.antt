@@ -1,7 +1,7 @@
 use Rattle.std.proofs.Common.{rules, ◌≡◌, map, ap, refl, sym, ◌∙◌}
 use Rattle.nj_formula.specs.Statement.{disj}
 use Rattle.nj_formula.specs.Meaning.{meaning}
-use Rattle.nj_formula.proofs.MeaningLemmas.{meaning-Or}
+use Rattle.nj_formula.proofs.KnownMeaning.{meaning-Or}
 use Rattle.nj_kernel.specs.Sets.{members, Lists, ◌∪◌, ◌∖◌}
 use Rattle.nj_kernel.specs.Theorem.{assumed, shown}
 use Rattle.nj_kernel.specs.Nj as Nj
@@ -9,8 +9,8 @@ use Rattle.nj_kernel.proofs.SetsLemmas as Sets
 use Rattle.nj_kernel.proofs.DeriveLemmas.{along, by_three}
 use Rattle.nj_kernel.proofs.rules.disj_e.Goals as goal
 
-pub derived-requires : goal.derived-requires
-derived-requires c =
+pub derived-requires-clause-rule : goal.derived-requires-clause-rule
+derived-requires-clause-rule c =
     let is : shown c.args.t.now ≡ disj (meaning c.in-Or.a) (meaning c.in-Or.b) = sym c.concl.ensures ∙ (ap meaning c.in-Or.is ∙ meaning-Or _ _) in
     let fits : shown c.args.v.now ≡ shown c.args.u.now = search rules in
     let right : shown c.args.u.now ≡ meaning c.in_ok-copy-in-Or.field-0 = search rules in

@@ -1,15 +1,15 @@
 use Rattle.std.proofs.Common.{rules, ◌≡◌, map, ap, refl, sym, ◌∙◌}
 use Rattle.nj_formula.specs.Statement.{implies}
 use Rattle.nj_formula.specs.Meaning.{meaning}
-use Rattle.nj_formula.proofs.MeaningLemmas.{meaning-Implies}
+use Rattle.nj_formula.proofs.KnownMeaning.{meaning-Implies}
 use Rattle.nj_kernel.specs.Sets.{members, Lists, ◌∪◌}
 use Rattle.nj_kernel.specs.Theorem.{assumed, shown}
 use Rattle.nj_kernel.specs.Nj as Nj
 use Rattle.nj_kernel.proofs.DeriveLemmas.{along, by_two}
 use Rattle.nj_kernel.proofs.rules.imp_e.Goals as goal
 
-pub derived-requires : goal.derived-requires
-derived-requires c =
+pub derived-requires-clause-rule : goal.derived-requires-clause-rule
+derived-requires-clause-rule c =
     let is : shown c.args.t.now ≡ implies (meaning c.in-Implies.a) (meaning c.in-Implies.b) = sym c.concl.ensures ∙ (ap meaning c.in-Implies.is ∙ meaning-Implies _ _) in
     let fits : shown c.args.u.now ≡ meaning c.in-Implies.a = search rules in
     let right : meaning c.in-Implies.b ≡ meaning c.in_ok-copy-in-Implies.field-0 = search rules in
