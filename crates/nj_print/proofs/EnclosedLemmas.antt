@@ -8,7 +8,7 @@ use Rattle.nj_syntax.specs.declared.operator.Operator.{Operator}
 use Rattle.nj_syntax.specs.declared.operator.Quantifier.{Quantifier}
 use Rattle.nj_syntax.specs.Grammar.{priority, joined, quantified}
 use Rattle.nj_print.specs.Prints.{enclosed_layer, is_enclosed, Prints, falsity, atom, predicate, negation, operator, quantifier, parentheses}
-use Rattle.nj_print.proofs.FoldLemmas.{fold-False, fold-Atom, fold-Not, fold-And, fold-Or, fold-Implies, fold-All, fold-Exists}
+use Rattle.nj_formula.proofs.KnownFormulas.{fold-False, fold-Atom, fold-Not, fold-And, fold-Or, fold-Implies, fold-All, fold-Exists}
 
 pub enclosed-Not : (p : ℕ) (a : Formula) → is_enclosed p (Formulas.Not a) ≡ nat_lt 40 p
 enclosed-Not p a = fold-Not (enclosed_layer p) a

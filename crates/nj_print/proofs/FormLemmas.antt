@@ -6,13 +6,14 @@ use Rattle.nj_formula.specs.declared.formula.Formula.{Formula}
 use Rattle.nj_formula.specs.declared.formula.Formula.TheVariants as Formulas
 use Rattle.nj_formula.specs.Statement.{Statement, conj, disj, implies, every, exists}
 use Rattle.nj_formula.specs.Meaning.{meaning}
-use Rattle.nj_formula.proofs.MeaningLemmas.{meaning-And, meaning-Or, meaning-Implies, meaning-All, meaning-Exists}
+use Rattle.nj_formula.proofs.KnownMeaning.{meaning-And, meaning-Or, meaning-Implies, meaning-All, meaning-Exists}
 use Rattle.nj_syntax.specs.declared.operator.Operator.{Operator}
 use Rattle.nj_syntax.specs.declared.operator.Quantifier.{Quantifier}
 use Rattle.nj_syntax.specs.Grammar.{joined, quantified, is_word}
 use Rattle.nj_print.specs.Primed.{is_shown}
-use Rattle.nj_print.specs.Spellable.{is_identifier, is_spellable_argument, formula_layer, is_spellable}
-use Rattle.nj_print.proofs.FoldLemmas.{fold-Atom, fold-Not, fold-And, fold-Or, fold-Implies, fold-All, fold-Exists}
+use Rattle.text_words.specs.Identifier.{is_identifier}
+use Rattle.nj_print.specs.Spellable.{is_spellable_argument, formula_layer, is_spellable}
+use Rattle.nj_formula.proofs.KnownFormulas.{fold-Atom, fold-Not, fold-And, fold-Or, fold-Implies, fold-All, fold-Exists}
 
 abbrev pub join : Operator → Statement → Statement → Statement
 join Operator.And s t = conj s t

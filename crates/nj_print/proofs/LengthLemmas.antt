@@ -9,7 +9,7 @@ use Rattle.nj_formula.specs.declared.argument.Argument.TheVariants.{Free, Bound,
 use Rattle.nj_formula.specs.Statement.{Statement, falsity, atom, neg, conj, disj, implies, every, exists}
 use Rattle.nj_print.specs.ArgumentText.{name_at}
 use Rattle.nj_print.specs.Primed.{shown_layer, is_shown_in, is_shown}
-use Rattle.nj_print.proofs.ArgumentLemmas.{Each, fold-Free, fold-Bound, fold-Apply, by_forms}
+use Rattle.nj_formula.proofs.KnownArguments.{Each, fold-Free, fold-Bound, fold-Apply, by_forms}
 
 abbrev pub total : List ℕ → ℕ
 total [] = 0

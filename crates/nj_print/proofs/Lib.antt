@@ -1,16 +1,26 @@
-pub mod ArgumentLemmas
-pub mod LengthLemmas
-pub mod FoldLemmas
-pub mod EnclosedLemmas
-pub mod PieceLemmas
-pub mod PrimesLemmas
-pub mod SpellsLemmas
-pub mod FormLemmas
-pub mod FreshLemmas
-pub mod OpensLemmas
-pub mod TermReadLemmas
-pub mod FormReadLemmas
-pub mod ReadLemmas
-pub mod OnePrintLemmas
-pub mod HasPrintLemmas
-pub mod ParsedLemmas
+mod LengthLemmas
+mod EnclosedLemmas
+mod PieceLemmas
+mod PrimesLemmas
+mod SpellsLemmas
+mod SpellsWhole
+mod FormLemmas
+mod FreshLemmas
+mod OpensLemmas
+mod WithinTerms
+mod WithinLemmas
+mod WithinReading
+mod WithinInstance
+mod TermReadLemmas
+mod AtomReadLemmas
+mod FormReadLemmas
+mod EnclosedReading
+mod ReadLemmas
+mod BareLemmas
+mod OnePrintLemmas
+mod HasPrintLemmas
+mod ParsedLemmas
+pub mod KnownSpellable
+mod GrowsLemmas
+pub mod KnownInstances
+pub mod KnownReadable

@@ -6,7 +6,7 @@ use Rattle.nj_formula.specs.declared.argument.Argument.TheOpen.{Argument-F}
 use Rattle.nj_formula.specs.declared.formula.Formula.{Formula}
 use Rattle.nj_formula.specs.Statement.{Statement, falsity, atom, neg, conj, disj, implies, every, exists}
 use Rattle.nj_formula.specs.Meaning.{meaning}
-use Rattle.nj_formula.proofs.MeaningLemmas.{meaning-False, meaning-Atom, meaning-Not}
+use Rattle.nj_formula.proofs.KnownMeaning.{meaning-False, meaning-Atom, meaning-Not}
 use Rattle.nj_tokens.specs.declared.token.Token.{Token}
 use Rattle.nj_tokens.specs.declared.token.Token.TheVariants as Tokens
 use Rattle.nj_syntax.specs.declared.operator.Operator.{Operator}
@@ -15,7 +15,7 @@ use Rattle.nj_syntax.specs.Terms.{Deep, place_of, named_at, AreArguments, name, 
 use Rattle.nj_syntax.specs.Grammar as Grammar
 use Rattle.nj_syntax.specs.Grammar.{priority, sign, Reads}
 use Rattle.nj_print.specs.Opens.{opens}
-use Rattle.nj_print.proofs.ArgumentLemmas.{fold-Free, fold-Bound, fold-Apply}
+use Rattle.nj_formula.proofs.KnownArguments.{fold-Free, fold-Bound, fold-Apply}
 use Rattle.nj_print.proofs.LengthLemmas.{total}
 use Rattle.nj_print.proofs.FormLemmas.{join, bind, meaning-joined, meaning-quantified}
 

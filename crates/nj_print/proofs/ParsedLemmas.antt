@@ -5,15 +5,12 @@ use Rattle.std.proofs.Math.Seq.{take-append_seam}
 use Rattle.nj_formula.specs.declared.formula.Formula.{Formula}
 use Rattle.nj_formula.specs.Meaning.{meaning}
 use Rattle.nj_tokens.specs.declared.token.Placed.{Placed}
-use Rattle.nj_tokens.proofs.ReadingLemmas.{one_reading}
+use Rattle.nj_tokens.proofs.KnownTokens.{one_reading}
 use Rattle.nj_syntax.specs.declared.fault.FaultKind.{FaultKind}
 use Rattle.nj_syntax.specs.declared.fault.FormulaFault.{FormulaFault}
-use Rattle.nj_syntax.specs.declared.state.Mode.{Mode}
 use Rattle.nj_syntax.specs.Terms.{Deep}
 use Rattle.nj_syntax.specs.Answers.{AreAt, Begins, IsFormula, IsFault, Answers, expected, symbol, ends}
-use Rattle.nj_syntax.specs.Steps.{formula_at}
-use Rattle.nj_syntax.proofs.Answered.{one_answer}
-use Rattle.nj_syntax.proofs.Readers.{formula_reader}
+use Rattle.nj_syntax.proofs.KnownAnswers.{one_formula}
 use Rattle.nj_print.specs.ReadBack.{IsTextOf, IsReadBack, IsParsed}
 
 no_token : (b : Bool) → b ≡ true → b ≡ false → ⊥
@@ -42,7 +39,7 @@ pub parsed : (a b : Formula) (text : List ℕ) (r : Result Formula FormulaFault)
 parsed a b text (Ok g) t same h =
     let one = one_reading h.cut t.cut in
     let tokens : map (λ p. p.0) h.deep ≡ map (λ p. p.0) t.deep = sym h.tokens_are ∙ (ap (map (λ p. p.token)) one.0 ∙ t.tokens_are) in
-    let is = one_answer IsFormula (Mode.Operand, []) formula_at formula_reader h.deep t.deep g b tokens h.is t.is in
+    let is = one_formula h.deep t.deep g b tokens h.is t.is in
     ap meaning is.1 ∙ same
 parsed a b text (Err (FormulaFault.At pos kind)) t same h =
     let one = one_reading h.cut t.cut in

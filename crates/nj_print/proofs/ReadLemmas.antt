@@ -1,62 +1,30 @@
 -- The print of a formula is read as the formula, up to bound names, and has the pairs of parentheses that it wants.
-use Rattle.std.proofs.Common.{◌≡◌, ◌≤◌, ◌+◌, ℕ, nat_lt, Bool, true, false, ◌&&◌, not, List, [], ◌∷◌, map, length, refl, ap, sym, subst, ◌∙◌, arith, add-one, cond, lit≤}
-use Rattle.std.proofs.lemmas.Bool.{both_ways, and_parts, and_from, not-true}
+use Rattle.std.proofs.Common.{◌≡◌, ◌≤◌, ◌+◌, ℕ, Bool, true, false, ◌&&◌, not, List, [], ◌∷◌, map, length, refl, ap, sym, subst, ◌∙◌, arith, add-one}
+use Rattle.std.proofs.lemmas.Bool.{and_parts, and_from, not-true}
 use Rattle.std.specs.List.{list_all}
 use Rattle.nj_formula.specs.declared.argument.Argument.{Argument}
 use Rattle.nj_formula.specs.declared.formula.Formula.{Formula}
 use Rattle.nj_formula.specs.declared.formula.Formula.TheVariants as Formulas
 use Rattle.nj_formula.specs.Meaning.{meaning}
-use Rattle.nj_formula.proofs.MeaningLemmas.{meaning-Atom, meaning-Not}
+use Rattle.nj_formula.proofs.KnownMeaning.{meaning-Atom, meaning-Not}
 use Rattle.nj_tokens.specs.declared.token.Placed.{Placed}
 use Rattle.nj_tokens.specs.Tokens.{AreTokens}
-use Rattle.nj_tokens.proofs.ReadingLemmas.{one_reading}
+use Rattle.nj_tokens.proofs.KnownTokens.{one_reading}
 use Rattle.nj_syntax.specs.Answers.{IsFormula}
 use Rattle.nj_syntax.specs.Terms.{Deep}
-use Rattle.nj_syntax.specs.Grammar.{priority, is_word}
-use Rattle.nj_print.specs.Prints.{is_enclosed, Prints, falsity, atom, predicate, negation, operator, quantifier, parentheses}
-use Rattle.nj_print.specs.Spellable.{is_identifier, is_spellable_argument, is_spellable, IsSpellable}
+use Rattle.nj_syntax.specs.Grammar.{is_word}
+use Rattle.nj_print.specs.Prints.{Prints, falsity, atom, predicate, negation, operator, quantifier, parentheses}
+use Rattle.text_words.specs.Identifier.{is_identifier}
+use Rattle.nj_print.specs.Spellable.{is_spellable_argument, is_spellable, IsSpellable}
 use Rattle.nj_print.specs.ReadBack.{IsReadBack}
 use Rattle.nj_print.specs.Opens.{opens}
 use Rattle.nj_print.proofs.FormLemmas.{meaning-joined, meaning-quantified, spellable-Atom, spellable-Not, spellable-joined, spellable-quantified}
-use Rattle.nj_print.proofs.EnclosedLemmas.{least_priority, enclosed-False, enclosed-Atom, enclosed-Not, enclosed-joined, enclosed-quantified}
 use Rattle.nj_print.proofs.FreshLemmas.{Fresh, fresh_left, fresh_right, fresh_body}
-use Rattle.nj_print.proofs.SpellsLemmas.{cut_whole, text_of}
-use Rattle.nj_print.proofs.OpensLemmas.{opens_of, wanted, wanted-join, wanted-bind, no_pair, pair, reading_has}
-use Rattle.nj_print.proofs.FormReadLemmas.{identifier_primed, false_read, atom_read, predicate_read, negation_read, operator_read, quantifier_read, parentheses_read, IsRead}
-
-one_pair : (n p : ℕ) {b : Bool} → b ≡ nat_lt n p → b ≡ true → pair n p ≡ 1
-one_pair n p is over = ap (λ b. cond b 1 0) (sym is ∙ over)
-
--- what is enclosed wants a pair
-enclosed_wants : (p : ℕ) {k : ℕ} {names : List (List ℕ)} {f : Formula} {text : List ℕ} → Prints k names f text → is_enclosed p f ≡ true
-    → wanted p (meaning f) ≡ wanted 10 (meaning f) + 1
-enclosed_wants p falsity over = absurd (both_ways (is_enclosed p Formulas.False) (enclosed-False p) over)
-enclosed_wants p (atom {x = x}) over = absurd (both_ways (is_enclosed p (Formulas.Atom x [])) (enclosed-Atom p x []) over)
-enclosed_wants p (predicate {x = x} {t = t} {more = more}) over =
-    absurd (both_ways (is_enclosed p (Formulas.Atom x (t ∷ more))) (enclosed-Atom p x (t ∷ more)) over)
-enclosed_wants p (negation {a = a} fits h) over =
-    omega (arith, ap (wanted p) (meaning-Not a), ap (wanted 10) (meaning-Not a), one_pair 40 p (enclosed-Not p a) over, no_pair 40 10 (lit≤ tt))
-enclosed_wants p (operator {a = a} {b = b} op fits h k) over =
-    omega (
-      arith,
-      ap (wanted p) (meaning-joined op a b),
-      ap (wanted 10) (meaning-joined op a b),
-      wanted-join op p (meaning a) (meaning b),
-      wanted-join op 10 (meaning a) (meaning b),
-      one_pair (priority op) p (enclosed-joined p op a b) over,
-      no_pair (priority op) 10 (least_priority op),
-    )
-enclosed_wants p (quantifier {x = x} {a = a} q fits primed h) over =
-    omega (
-      arith,
-      ap (wanted p) (meaning-quantified q x a),
-      ap (wanted 10) (meaning-quantified q x a),
-      wanted-bind q p (meaning a),
-      wanted-bind q 10 (meaning a),
-      one_pair 10 p (enclosed-quantified p q x a) over,
-      no_pair 10 10 (lit≤ tt),
-    )
-enclosed_wants p (parentheses more h) over = enclosed_wants p h over
+use Rattle.nj_print.proofs.SpellsWhole.{cut_whole, text_of}
+use Rattle.nj_print.proofs.OpensLemmas.{opens_of, wanted, reading_has}
+use Rattle.nj_print.proofs.FormReadLemmas.{negation_read, operator_read, quantifier_read, parentheses_read}
+use Rattle.nj_print.proofs.AtomReadLemmas.{identifier_primed, false_read, atom_read, predicate_read, IsRead}
+use Rattle.nj_print.proofs.EnclosedReading.{enclosed_wants, enclosed_deeper}
 
 -- an atom's name and arguments
 atom_parts : (x : List ℕ) (args : List Argument) (n : ℕ) → is_spellable (Formulas.Atom x args) n ≡ true
@@ -91,9 +59,9 @@ read_back {p} {names} (quantifier {x = x} {y = y} {a = a} {text = text} q fits p
     quantifier_read q p d names x y a text fits named
     (read_back h (d + 1) (and_from (is_identifier y) (list_all is_identifier names) named identifiers) deeper (fresh_body q names y (meaning a) said primed.free_of))
 read_back {p} {names} {f} (parentheses {text = text} over h) d identifiers is fresh =
-    parentheses_read p d names f text (enclosed_wants p h over) (read_back h (d + 1) identifiers is fresh)
+    parentheses_read p d names f text (enclosed_wants p h over) (λ most. enclosed_deeper p d most h over) (read_back h (d + 1) identifiers is fresh)
 
-outermost_read : (a : Formula) (text : List ℕ) → IsSpellable a → Prints 10 [] a text → IsRead 10 0 [] (meaning a) text
+pub outermost_read : (a : Formula) (text : List ℕ) → IsSpellable a → Prints 10 [] a text → IsRead 10 0 [] (meaning a) text
 outermost_read a text spellable h = read_back h 0 refl spellable tt
 
 pub reads_back : (a : Formula) (text : List ℕ) → IsSpellable a → Prints 10 [] a text → IsReadBack a text

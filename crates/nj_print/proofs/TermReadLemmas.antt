@@ -8,10 +8,12 @@ use Rattle.nj_tokens.specs.declared.token.Token.TheVariants as Tokens
 use Rattle.nj_syntax.specs.Terms.{Deep, place_of, named_at, named, AreArguments, name, apply, comma}
 use Rattle.nj_print.specs.ArgumentText.{name_at, listed, text_layer, argument_text}
 use Rattle.nj_print.specs.Primed.{shown_layer, is_shown_in}
-use Rattle.nj_print.specs.Spellable.{is_identifier, spellable_layer, is_spellable_argument}
-use Rattle.nj_print.proofs.ArgumentLemmas.{Each, fold-Free, fold-Bound, fold-Apply, by_forms}
+use Rattle.text_words.specs.Identifier.{is_identifier}
+use Rattle.nj_print.specs.Spellable.{spellable_layer, is_spellable_argument}
+use Rattle.nj_formula.proofs.KnownArguments.{Each, fold-Free, fold-Bound, fold-Apply, by_forms}
 use Rattle.nj_print.proofs.FreshLemmas.{Shown, FreshBy, weakened, place_of-free, shown_place, place_of-bound}
-use Rattle.nj_print.proofs.SpellsLemmas.{Spells, nothing, blank_then, sign_then, name_then, both, text_of}
+use Rattle.nj_print.proofs.SpellsLemmas.{Spells, nothing, blank_then, sign_then, name_then}
+use Rattle.nj_print.proofs.SpellsWhole.{both, text_of}
 use Rattle.nj_print.specs.ReadBack.{IsTextOf}
 use Rattle.nj_syntax.specs.Answers.{IsTerm}
 

@@ -1,4 +1,5 @@
--- The text of a term: a comma and a space between arguments, nothing before a parenthesis (this project's own).
+-- The text of a term: a comma and a space between arguments, nothing before a parenthesis (this
+-- project's own).
 use Rattle.std.specs.Prelude.{ℕ, List, [], ◌∷◌, ◌++◌, codes, slice_index_or}
 use Rattle.nj_formula.specs.declared.argument.Argument.{Argument, fold-Argument}
 use Rattle.nj_formula.specs.declared.argument.Argument.TheOpen.{Argument-F}
@@ -21,7 +22,8 @@ listed (text ∷ texts) = text ++ after_commas texts
 abbrev pub text_layer : List (List ℕ) → Argument-F (List ℕ) → List ℕ
 text_layer names (Argument-F.Free x) = x
 text_layer names (Argument-F.Bound place) = name_at names place
-text_layer names (Argument-F.Apply function texts) = function ++ (codes "(" ++ (listed texts ++ codes ")"))
+text_layer names (Argument-F.Apply function texts) =
+    function ++ (codes "(" ++ (listed texts ++ codes ")"))
 
 -- the text of an argument under these printed names
 abbrev pub argument_text : List (List ℕ) → Argument → List ℕ

@@ -3,5 +3,7 @@ pub mod Primed
 pub mod Prints
 pub mod Adds
 pub mod Spellable
+pub mod Within
 pub mod Opens
 pub mod ReadBack
+pub mod Readable

@@ -1,8 +1,9 @@
--- How many pairs of parentheses there are, counted by the opening ones.
+-- Pairs of parentheses, counted by the opening ones.
 use Rattle.std.specs.Prelude.{ℕ, ◌+◌, List, [], ◌∷◌}
 use Rattle.nj_tokens.specs.declared.token.Token.{Token}
 use Rattle.nj_tokens.specs.declared.token.Token.TheVariants as Tokens
 
+-- how many parentheses open among the tokens
 abbrev pub opens : List Token → ℕ
 opens [] = 0
 opens (Tokens.Open ∷ tokens) = opens tokens + 1

@@ -7,10 +7,12 @@ use Rattle.nj_formula.specs.declared.argument.Argument.TheOpen.{Argument-F}
 use Rattle.nj_formula.specs.Statement.{Statement, falsity, atom, neg, conj, disj, implies, every, exists}
 use Rattle.nj_print.specs.ArgumentText.{name_at}
 
--- one layer: a free name, or the printed name of a place that is bound outside of the d innermost quantifiers
+-- one layer: a free name, or the printed name of a place that is bound outside of the d innermost
+-- quantifiers
 abbrev pub shown_layer : List ℕ → List (List ℕ) → ℕ → Argument-F Bool → Bool
 shown_layer y names d (Argument-F.Free x) = bytes_eq x y
-shown_layer y names d (Argument-F.Bound place) = nat_le d place && bytes_eq (name_at names (place - d)) y
+shown_layer y names d (Argument-F.Bound place) =
+    nat_le d place && bytes_eq (name_at names (place - d)) y
 shown_layer y names d (Argument-F.Apply function arguments) = list_any (λ shown. shown) arguments
 
 -- the name stands in the argument, which is under d quantifiers more than the names
@@ -20,7 +22,8 @@ is_shown_in y names d = fold-Argument Bool (shown_layer y names d)
 -- the name is free in what is printed under these names and d quantifiers more
 abbrev pub is_shown : List ℕ → List (List ℕ) → ℕ → Statement → Bool
 is_shown y names d falsity = false
-is_shown y names d (atom predicate arguments) = list_any (λ shown. shown) (map (is_shown_in y names d) arguments)
+is_shown y names d (atom predicate arguments) =
+    list_any (λ shown. shown) (map (is_shown_in y names d) arguments)
 is_shown y names d (neg a) = is_shown y names d a
 is_shown y names d (conj a b) = is_shown y names d a || is_shown y names d b
 is_shown y names d (disj a b) = is_shown y names d a || is_shown y names d b
@@ -33,7 +36,8 @@ abbrev pub with_primes : List ℕ → ℕ → List ℕ
 with_primes x primes = x ++ replicate primes 39
 
 -- y is x with the least number of `'` with which it is not free in the body of its quantifier
-pub record IsPrimed (names : List (List ℕ)) (x : List ℕ) (body : Statement) (y : List ℕ) : Type 0 where
+pub record IsPrimed (names : List (List ℕ)) (x : List ℕ) (body : Statement)
+    (y : List ℕ) : Type 0 where
   pub primes : ℕ
   pub is : y ≡ with_primes x primes
   pub free_of : is_shown y names 1 body ≡ false

@@ -32,25 +32,31 @@ enclosed_layer p (Formula-F.Exists name body) = nat_lt 10 p
 abbrev pub is_enclosed : ℕ → Formula → Bool
 is_enclosed p = fold-Formula Bool (enclosed_layer p)
 
--- the formula has this text in a place for this priority and higher ones, under these printed names, innermost first
+-- the formula has this text in a place for this priority and higher ones, under these printed
+-- names, innermost first
 pub data Prints : ℕ → List (List ℕ) → Formula → List ℕ → Type 0 where
   falsity : {p : ℕ} {names : List (List ℕ)} → Prints p names Formulas.False (codes "False")
   atom : {p : ℕ} {names : List (List ℕ)} {x : List ℕ} → Prints p names (Formulas.Atom x []) x
   predicate : {p : ℕ} {names : List (List ℕ)} {x : List ℕ} {t : Argument} {more : List Argument}
-      → Prints p names (Formulas.Atom x (t ∷ more)) (x ++ (codes "(" ++ (listed (map (argument_text names) (t ∷ more)) ++ codes ")")))
+      → Prints p names (Formulas.Atom x (t ∷ more))
+      (x ++ (codes "(" ++ (listed (map (argument_text names) (t ∷ more)) ++ codes ")")))
   negation : {p : ℕ} {names : List (List ℕ)} {a : Formula} {text : List ℕ} → p ≤ 40
       → Prints 40 names a text → Prints p names (Formulas.Not a) (codes "~" ++ text)
-  operator : {p : ℕ} {names : List (List ℕ)} {a b : Formula} {left right : List ℕ} (op : Operator) → p ≤ priority op
+  operator : {p : ℕ} {names : List (List ℕ)} {a b : Formula} {left right : List ℕ} (op : Operator)
+      → p ≤ priority op
       → Prints (priority op + 1) names a left → Prints (priority op) names b right
       → Prints p names (joined op a b) (left ++ (operator_text op ++ right))
-  quantifier : {p : ℕ} {names : List (List ℕ)} {x y : List ℕ} {a : Formula} {text : List ℕ} (q : Quantifier) → p ≤ 10
+  quantifier : {p : ℕ} {names : List (List ℕ)} {x y : List ℕ} {a : Formula} {text : List ℕ}
+      (q : Quantifier) → p ≤ 10
       → IsPrimed names x (meaning a) y → Prints 10 (y ∷ names) a text
       → Prints p names (quantified q x a) (word q ++ (codes " " ++ (y ++ (codes ". " ++ text))))
-  parentheses : {p : ℕ} {names : List (List ℕ)} {a : Formula} {text : List ℕ} → is_enclosed p a ≡ true
+  parentheses : {p : ℕ} {names : List (List ℕ)} {a : Formula} {text : List ℕ}
+      → is_enclosed p a ≡ true
       → Prints 10 names a text → Prints p names a (codes "(" ++ (text ++ codes ")"))
 
 -- what follows a quantifier's word and a space: the printed name, the dot and the body
-pub record PrintsBody (names : List (List ℕ)) (x : List ℕ) (a : Formula) (text : List ℕ) : Type 0 where
+pub record PrintsBody (names : List (List ℕ)) (x : List ℕ)
+    (a : Formula) (text : List ℕ) : Type 0 where
   pub name : List ℕ
   pub body : List ℕ
   pub is : text ≡ name ++ (codes ". " ++ body)

@@ -9,7 +9,8 @@ use Rattle.nj_syntax.specs.Terms.{Deep}
 use Rattle.nj_syntax.specs.Answers.{AreAt, IsFormula}
 
 -- the text's bytes are its scalars, and it has tokens up to its end, which are this formula or term
-pub record IsTextOf {A : Type 0} (Is : List Deep → A → Type 0) (text : List ℕ) (a : A) : Type 0 where
+pub record IsTextOf {A : Type 0} (Is : List Deep → A → Type 0)
+    (text : List ℕ) (a : A) : Type 0 where
   pub ascii : IsAscii text
   pub tokens : List Placed
   pub cut : AreTokens 0 text tokens (length text) true
@@ -21,7 +22,8 @@ pub record IsTextOf {A : Type 0} (Is : List Deep → A → Type 0) (text : List 
 abbrev pub IsReadBack : Formula → List ℕ → Type 0
 IsReadBack a text = (b : Formula) × IsTextOf IsFormula text b × (meaning b ≡ meaning a)
 
--- what reading a print answers: the formula up to bound names, if it isn't too deep and memory suffices
+-- what reading a print answers: the formula up to bound names, if it isn't too deep and memory
+-- suffices
 abbrev pub IsParsed : Formula → Result Formula FormulaFault → Type 0
 IsParsed a (Ok b) = meaning b ≡ meaning a
 IsParsed a (Err (FormulaFault.At pos kind)) = ⊥

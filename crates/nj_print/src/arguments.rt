@@ -22,7 +22,7 @@ pub fn write_argument(
         Argument::Apply(function, arguments) => {
             text.push_str(function.as_str())?;
             text.push_str("(")?;
-            write_arguments(text, names, arguments.as_slice())?;
+            write_arguments(text, names, arguments.get().as_slice())?;
             text.push_str(")")
         }
     }

@@ -12,6 +12,7 @@ ghost use Rattle.nj_print.specs.Prints.{Prints};
 ghost use Rattle.nj_print.specs.Spellable.{is_spellable_argument, IsSpellable};
 ghost use Rattle.nj_print.specs.ReadBack.{IsTextOf, IsReadBack, IsParsed};
 ghost use Rattle.nj_print.specs.Opens.{opens};
+ghost use Rattle.nj_print.specs.Readable.{PrintsAreRead, PartsAreReadable, InstancesAreSpellable};
 
 /// A law: a formula has a print, and no other one.
 pub fn one_print()
@@ -26,8 +27,8 @@ pub fn reads_back()
         → IsSpellable a → Prints 10 [] a text → IsReadBack a text }
 {}
 
-/// A law: reading the print of a formula answers the formula, up to bound names, unless the print is
-/// too deep or there is no memory.
+/// A law: reading the print of a formula answers the formula, up to bound names, unless the print
+/// is too deep or there is no memory.
 pub fn print_is_parsed()
     ensures { (a : Formula) (text : List ℕ) (answer : Result Formula FormulaFault)
         → IsSpellable a → Prints 10 [] a text → Answers IsFormula text answer → IsParsed a answer }
@@ -47,4 +48,20 @@ pub fn fewest_parentheses()
         → IsSpellable a → Prints 10 [] a text → AreTokens 0 text tokens stop whole
         → IsFormula deep b → meaning b ≡ meaning a
         → opens (map (λ t. t.token) tokens) ≤ opens (map (λ t. t.0) deep) }
+{}
+
+/// A law: what a text was read as is read again from its print, up to bound names, so that printing
+/// and reading again finds no fault and nothing too deep.
+pub fn prints_are_read()
+    ensures { PrintsAreRead }
+{}
+
+/// A law: so are the parts of such a formula, and its instances at an identifier.
+pub fn parts_are_readable()
+    ensures { PartsAreReadable }
+{}
+
+/// A law: a text can say the instance of a formula at a term, if it can say both.
+pub fn instances_are_spellable()
+    ensures { InstancesAreSpellable }
 {}

@@ -9,8 +9,9 @@ mod law;
 mod names;
 mod printer;
 mod priority;
-#[cfg(test)]
-mod tests;
 
-pub use law::{fewest_parentheses, one_print, print_is_parsed, reads_back, term_reads_back};
+pub use law::{
+    fewest_parentheses, instances_are_spellable, one_print, parts_are_readable, print_is_parsed,
+    prints_are_read, reads_back, term_reads_back,
+};
 pub use printer::{print, print_term};

@@ -26,7 +26,7 @@ fn is_shown_in(argument: &Argument, name: &str, names: &VecDeque<Name>, depth: u
     match argument {
         Argument::Free(other) => other.is(name),
         Argument::Bound(place) => *place >= depth && name_at(names, *place - depth) == name,
-        Argument::Apply(_, arguments) => any_shown(arguments.as_slice(), name, names, depth),
+        Argument::Apply(_, arguments) => any_shown(arguments.get().as_slice(), name, names, depth),
     }
 }
 
@@ -43,8 +43,8 @@ fn any_shown(arguments: &[Argument], name: &str, names: &VecDeque<Name>, depth: 
     false
 }
 
-/// Whether the name is free in what is printed under these names and `depth` quantifiers more.
-/// No memory holds 2^64 quantifiers.
+/// Whether the name is free in what is printed under these names and `depth` quantifiers more. No
+/// memory holds 2^64 quantifiers.
 fn is_shown(
     formula: &Formula,
     name: &str,
@@ -56,7 +56,12 @@ fn is_shown(
 {
     match formula {
         Formula::False => Ok(false),
-        Formula::Atom(_, arguments) => Ok(any_shown(arguments.as_slice(), name, names, depth)),
+        Formula::Atom(_, arguments) => Ok(any_shown(
+            arguments.get().as_slice(),
+            name,
+            names,
+            depth,
+        )),
         Formula::Not(a) => is_shown(a.get(), name, names, depth),
         Formula::And(a, b) | Formula::Or(a, b) | Formula::Implies(a, b) => {
             if is_shown(a.get(), name, names, depth)? {

@@ -61,7 +61,7 @@ impl Printer {
     {
         match formula {
             Formula::False => self.text.push_str("False"),
-            Formula::Atom(predicate, arguments) => self.atom(predicate, arguments),
+            Formula::Atom(predicate, arguments) => self.atom(predicate, arguments.get()),
             Formula::Not(a) => {
                 self.text.push_str("~")?;
                 self.formula(a.get(), NOT)

@@ -9,7 +9,8 @@ use Rattle.nj_syntax.specs.declared.state.Pending.{Pending}
 use Rattle.nj_syntax.specs.declared.state.Mode.{Mode}
 use Rattle.nj_syntax.specs.Terms.{Deep, AreArguments}
 use Rattle.nj_syntax.specs.Grammar.{Reads, priority, sign, word, is_word}
-use Rattle.nj_syntax.specs.Steps.{State, place, bound_names}
+use Rattle.nj_syntax.specs.Reduced.{place, bound_names}
+use Rattle.nj_syntax.specs.Steps.{State}
 
 -- the tokens stand before an operand
 pub data Around : List Pending → List Deep → Type 0 where

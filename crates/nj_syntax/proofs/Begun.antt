@@ -8,7 +8,8 @@ use Rattle.nj_syntax.specs.declared.state.Pending.{Pending}
 use Rattle.nj_syntax.specs.Terms.{Deep, AreArguments, name, apply}
 use Rattle.nj_syntax.specs.Grammar.{Reads, predicate, atom, word, sign}
 use Rattle.nj_syntax.specs.Answers.{IsFormula, IsTerm, Begins}
-use Rattle.nj_syntax.specs.Steps.{State, place, bound_names}
+use Rattle.nj_syntax.specs.Reduced.{place, bound_names}
+use Rattle.nj_syntax.specs.Steps.{State}
 use Rattle.nj_syntax.proofs.Around.{Around, Within, Reached}
 use Rattle.nj_syntax.proofs.Frames.{place_most, weaker, not_read, right_read, parenthesis_read, body_read, with_left, around_one, after_argument, gathered}
 

@@ -1,5 +1,6 @@
 -- How the reader holds an operand whose last token it has read: its operators are pending until what follows takes them in.
 use Rattle.std.proofs.Common.{◌≡◌, ◌<◌, ◌≤◌, ℕ, true, false, cond, List, [], ◌∷◌, nat_lt, refl, ap, ◌∙◌, lt_of_lt_of_le, arith}
+use Rattle.std.proofs.lemmas.Bool.{lt-ltb, le-ltb}
 use Rattle.std.proofs.lemmas.Bool.Decides.{nat_tests}
 use Rattle.nj_formula.specs.declared.formula.Formula.{Formula}
 use Rattle.nj_formula.specs.declared.formula.Formula.TheVariants as Formulas
@@ -9,7 +10,8 @@ use Rattle.nj_syntax.specs.declared.operator.Quantifier.{Quantifier}
 use Rattle.nj_syntax.specs.declared.state.Pending.{Pending}
 use Rattle.nj_syntax.specs.declared.state.Mode.{Mode}
 use Rattle.nj_syntax.specs.Grammar.{priority, sign, joined, quantified}
-use Rattle.nj_syntax.specs.Steps.{step, place, reduced, closed, finished, after_reduced, after_closed, formula_at}
+use Rattle.nj_syntax.specs.Reduced.{place, reduced, closed, finished}
+use Rattle.nj_syntax.specs.Steps.{step, after_reduced, after_closed, formula_at}
 
 -- in a place for this priority, what is pending and the mode hold the operand on top of what was pending below it
 pub data Closes : ℕ → List Pending → List Pending → Mode → Formula → Type 0 where
@@ -27,12 +29,6 @@ abbrev pub value : Mode → Formula
 value (Mode.Atom x) = Formulas.Atom x []
 value (Mode.Operator a) = a
 value m = Formulas.False
-
-tests_less : {m n : ℕ} → m < n → nat_lt m n ≡ true
-tests_less h = grind (arith, nat_tests)
-
-pub tests_not_less : {m n : ℕ} → n ≤ m → nat_lt m n ≡ false
-tests_not_less h = grind (arith, nat_tests)
 
 least_priority : (op : Operator) → 25 ≤ priority op
 least_priority Operator.And = omega arith
@@ -52,7 +48,7 @@ reduced_value op atom less = refl
 reduced_value op (negation h k) less = reduced_value op k (greatest_priority op)
 reduced_value op (operator {below = below} {left = left} {b = b} inner h k) less =
     let weaker = lt_of_lt_of_le less h in
-    reduced_value op k weaker ∙ ap (λ t. cond t (reduced op below (joined inner left b)) (Pending.Right inner left ∷ below, b)) (tests_less weaker)
+    reduced_value op k weaker ∙ ap (λ t. cond t (reduced op below (joined inner left b)) (Pending.Right inner left ∷ below, b)) (lt-ltb _ _ weaker)
 reduced_value op (quantifier q h k) less = absurd (let least = least_priority op in omega arith)
 
 -- and leaves what binds less strongly than itself
@@ -60,7 +56,7 @@ pub reduced_stops : (op : Operator) (pending : List Pending) (a : Formula) → p
 reduced_stops op [] a within = refl
 reduced_stops op (Pending.Not ∷ below) a within = absurd (let greatest = greatest_priority op in omega arith)
 reduced_stops op (Pending.Right inner left ∷ below) a within =
-    ap (λ t. cond t (reduced op below (joined inner left a)) (Pending.Right inner left ∷ below, a)) (tests_not_less within)
+    ap (λ t. cond t (reduced op below (joined inner left a)) (Pending.Right inner left ∷ below, a)) (le-ltb _ _ within)
 reduced_stops op (Pending.Parenthesis ∷ below) a within = refl
 reduced_stops op (Pending.Body q x ∷ below) a within = refl
 reduced_stops op (Pending.Predicate x done ∷ below) a within = refl

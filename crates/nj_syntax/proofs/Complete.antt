@@ -1,5 +1,6 @@
 -- The reader goes over each formula, and then holds it.
 use Rattle.std.proofs.Common.{◌≡◌, ◌≤◌, ℕ, ◌+◌, suc, Bool, true, false, cond, ◌||◌, List, [], ◌∷◌, ◌++◌, length, codes, bytes_eq, Some, None, refl, ap, sym, ◌∙◌, le_trans, le_refl, arith, add-one}
+use Rattle.std.proofs.lemmas.Bool.{le-ltb}
 use Rattle.nj_formula.specs.declared.argument.Argument.{Argument}
 use Rattle.nj_formula.specs.declared.formula.Formula.{Formula}
 use Rattle.nj_formula.specs.declared.formula.Formula.TheVariants as Formulas
@@ -11,11 +12,13 @@ use Rattle.nj_syntax.specs.declared.state.Mode.{Mode}
 use Rattle.nj_syntax.specs.Terms.{Deep}
 use Rattle.nj_syntax.specs.Grammar.{priority, sign, joined, word, quantified, is_word, Reads, falsity, atom, predicate, parentheses, negation, operator, quantifier}
 use Rattle.nj_syntax.specs.Answers.{IsFormula}
-use Rattle.nj_syntax.specs.Steps.{State, step_word, place, bound_names, formula_at, goes as going}
-use Rattle.nj_syntax.specs.Runs.{Runs, stays}
-use Rattle.nj_syntax.proofs.Append.{runs_append, goes_at}
-use Rattle.nj_syntax.proofs.CompleteTerms.{Frame, ReadsMany, arguments_read, predicate_closes}
-use Rattle.nj_syntax.proofs.Closing.{Closes, tests_not_less, sign_step, close_step, formula_is}
+use Rattle.nj_syntax.specs.Reduced.{place, bound_names}
+use Rattle.nj_syntax.specs.Steps.{State, step_word, formula_at, goes as going}
+use Rattle.nj_syntax.proofs.Runs.{Runs, stays}
+use Rattle.nj_syntax.proofs.Runs.{runs_append, goes_at}
+use Rattle.nj_syntax.proofs.FrameSteps.{Frame, ReadsMany, predicate_closes}
+use Rattle.nj_syntax.proofs.CompleteTerms.{arguments_read}
+use Rattle.nj_syntax.proofs.Closing.{Closes, sign_step, close_step, formula_is}
 
 -- a run over an operand, which is then held
 pub record ReadsOperand (p : ℕ) (below : List Pending) (deep : List Deep) (a : Formula) : Type 0 where
@@ -36,8 +39,8 @@ atom_step pending x plain =
     rw (parts.0, parts.1, parts.2) refl
 
 word_step : (pending : List Pending) (q : Quantifier) → place pending ≤ 10 → step_word pending (word q) ≡ going (Mode.Binder q) pending (length pending)
-word_step pending Quantifier.All within = ap (λ t. cond t None (going (Mode.Binder Quantifier.All) pending (length pending))) (tests_not_less within)
-word_step pending Quantifier.Exists within = ap (λ t. cond t None (going (Mode.Binder Quantifier.Exists) pending (length pending))) (tests_not_less within)
+word_step pending Quantifier.All within = ap (λ t. cond t None (going (Mode.Binder Quantifier.All) pending (length pending))) (le-ltb _ _ within)
+word_step pending Quantifier.Exists within = ap (λ t. cond t None (going (Mode.Binder Quantifier.Exists) pending (length pending))) (le-ltb _ _ within)
 
 -- under one thing more, the depth is one more
 one_deeper : (pending : List Pending) {d : ℕ} → length pending ≡ d → suc (length pending) ≡ d + 1

@@ -9,7 +9,7 @@ use Rattle.nj_syntax.specs.declared.operator.Quantifier.{Quantifier}
 use Rattle.nj_syntax.specs.declared.state.Pending.{Pending}
 use Rattle.nj_syntax.specs.Terms.{Deep, AreArguments, name, apply, comma}
 use Rattle.nj_syntax.specs.Grammar.{Reads, falsity, atom, predicate, parentheses, negation, operator, quantifier, priority, sign, joined, word, quantified}
-use Rattle.nj_syntax.specs.Steps.{place}
+use Rattle.nj_syntax.specs.Reduced.{place}
 use Rattle.nj_syntax.proofs.Around.{Gathered, none, some}
 
 pub priority_most : (op : Operator) → priority op + 1 ≤ 40

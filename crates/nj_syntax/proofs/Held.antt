@@ -5,8 +5,9 @@ use Rattle.nj_tokens.specs.declared.token.Token.{Token}
 use Rattle.nj_syntax.specs.declared.state.Pending.{Pending}
 use Rattle.nj_syntax.specs.Terms.{Deep, AreArguments, name, apply}
 use Rattle.nj_syntax.specs.Grammar.{predicate, atom, word}
-use Rattle.nj_syntax.specs.Steps.{State, bound_names, step, step_comma}
-use Rattle.nj_syntax.specs.Runs.{Runs, stays, goes}
+use Rattle.nj_syntax.specs.Reduced.{bound_names}
+use Rattle.nj_syntax.specs.Steps.{State, step, step_comma}
+use Rattle.nj_syntax.proofs.Runs.{Runs, stays, goes}
 use Rattle.nj_syntax.proofs.Around.{Around, some, none, Within, Reached}
 use Rattle.nj_syntax.proofs.Frames.{gathered, after_argument}
 use Rattle.nj_syntax.proofs.Kept.{Keeps, moved, operator_kept, operand_kept}

@@ -10,7 +10,8 @@ use Rattle.nj_syntax.specs.declared.operator.Quantifier.{Quantifier}
 use Rattle.nj_syntax.specs.declared.state.Pending.{Pending}
 use Rattle.nj_syntax.specs.Terms.{Deep}
 use Rattle.nj_syntax.specs.Grammar.{Reads, falsity, priority, sign, joined, word}
-use Rattle.nj_syntax.specs.Steps.{State, Step, place, bound_names, reduced, closed, after_reduced, after_closed, step_operator, step_operand, step_word, step_quantifier}
+use Rattle.nj_syntax.specs.Reduced.{place, bound_names, reduced, closed}
+use Rattle.nj_syntax.specs.Steps.{State, Step, after_reduced, after_closed, step_operator, step_operand, step_word, step_quantifier}
 use Rattle.nj_syntax.proofs.Around.{Around, Reached}
 use Rattle.nj_syntax.proofs.Frames.{priority_most, priority_least, place_most, weaker, not_read, right_read, parenthesis_read, body_read, with_left, around_one}
 

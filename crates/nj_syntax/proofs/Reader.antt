@@ -3,7 +3,7 @@ use Rattle.std.proofs.Common.{◌≡◌, List, Option, Some}
 use Rattle.nj_syntax.specs.Terms.{Deep}
 use Rattle.nj_syntax.specs.Answers.{Begins}
 use Rattle.nj_syntax.specs.Steps.{State}
-use Rattle.nj_syntax.specs.Runs.{Runs}
+use Rattle.nj_syntax.proofs.Runs.{Runs}
 
 pub record IsReader {A : Type 0} (Is : List Deep → A → Type 0) (start : State) (ends : State → Option A) : Type 0 where
   -- with what has been read something begins

@@ -8,8 +8,9 @@ use Rattle.nj_syntax.specs.declared.state.Pending.{Pending}
 use Rattle.nj_syntax.specs.Terms.{Deep, AreArguments, name}
 use Rattle.nj_syntax.specs.Grammar.{Reads, atom, word, sign}
 use Rattle.nj_syntax.specs.Answers.{IsFormula, IsTerm, Begins}
-use Rattle.nj_syntax.specs.Steps.{State, place, bound_names, finished, formula_at, term_at}
-use Rattle.nj_syntax.specs.Runs.{Runs}
+use Rattle.nj_syntax.specs.Reduced.{place, bound_names, finished}
+use Rattle.nj_syntax.specs.Steps.{State, formula_at, term_at}
+use Rattle.nj_syntax.proofs.Runs.{Runs}
 use Rattle.nj_syntax.proofs.Around.{Around, Within, Reached}
 use Rattle.nj_syntax.proofs.Frames.{place_most, weaker, not_read, right_read, body_read, with_left}
 use Rattle.nj_syntax.proofs.Held.{reached}

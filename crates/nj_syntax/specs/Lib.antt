@@ -1,6 +1,9 @@
+pub mod Deepest
 pub mod Terms
 pub mod Grammar
 pub mod Answers
+pub mod Reduced
 pub mod Steps
+pub mod Answer
 pub mod Seen
-pub mod Runs
+pub mod Laws

@@ -1,4 +1,4 @@
--- How the reader goes from token to token, what is pending newest first. This is the code's own way; what is promised stands in Answers.
+-- How the reader goes from token to token (the code's own way; what is promised stands in Answers).
 use Rattle.std.specs.Prelude.{ℕ, ◌+◌, if◌then◌else◌, nat_lt, List, [], ◌∷◌, ◌++◌, length, Option, Some, None, codes}
 use Rattle.std.specs.Str.{bytes_eq}
 use Rattle.nj_formula.specs.declared.argument.Argument.{Argument}
@@ -11,63 +11,25 @@ use Rattle.nj_syntax.specs.declared.operator.Quantifier.{Quantifier}
 use Rattle.nj_syntax.specs.declared.state.Pending.{Pending}
 use Rattle.nj_syntax.specs.declared.state.Mode.{Mode}
 use Rattle.nj_syntax.specs.Terms.{named}
-use Rattle.nj_syntax.specs.Grammar.{priority, joined, quantified}
+use Rattle.nj_syntax.specs.Reduced.{bound_names, place, Held, reduced, closed, finished}
 
--- the names that the pending quantifiers bind, innermost first
-abbrev pub bound_names : List Pending → List (List ℕ)
-bound_names [] = []
-bound_names (Pending.Body q x ∷ below) = x ∷ bound_names below
-bound_names (p ∷ below) = bound_names below
-
--- the least priority in the place of the next operand
-abbrev pub place : List Pending → ℕ
-place (Pending.Not ∷ below) = 40
-place (Pending.Right op a ∷ below) = priority op
-place _ = 10
-
--- what is pending, and an operand
-abbrev pub Held : Type 0
-Held = List Pending × Formula
-
--- the operand with what binds more strongly than the operator, which comes next
-abbrev pub reduced : Operator → List Pending → Formula → Held
-reduced op [] a = ([], a)
-reduced op (Pending.Not ∷ below) a = reduced op below (Formulas.Not a)
-reduced op (Pending.Right left_op left ∷ below) a =
-    if nat_lt (priority op) (priority left_op) then reduced op below (joined left_op left a)
-    else (Pending.Right left_op left ∷ below, a)
-reduced op (p ∷ below) a = (p ∷ below, a)
-
--- the operand with all that is pending within the parentheses, and what is pending outside of them
-abbrev pub closed : List Pending → Formula → Option Held
-closed [] a = None
-closed (Pending.Not ∷ below) a = closed below (Formulas.Not a)
-closed (Pending.Right op left ∷ below) a = closed below (joined op left a)
-closed (Pending.Body q x ∷ below) a = closed below (quantified q x a)
-closed (Pending.Parenthesis ∷ below) a = Some (below, a)
-closed (p ∷ below) a = None
-
--- the operand with all that is pending, where no parenthesis is open
-abbrev pub finished : List Pending → Formula → Option Formula
-finished [] a = Some a
-finished (Pending.Not ∷ below) a = finished below (Formulas.Not a)
-finished (Pending.Right op left ∷ below) a = finished below (joined op left a)
-finished (Pending.Body q x ∷ below) a = finished below (quantified q x a)
-finished (p ∷ below) a = None
-
--- what is next, what is then pending, and the token's depth
+-- what is next, and what is pending
 abbrev pub State : Type 0
 State = Mode × List Pending
 
+-- that and the token's depth, where the token can stand there
 abbrev pub Step : Type 0
 Step = Option (State × ℕ)
 
+-- on to this
 abbrev pub goes : Mode → List Pending → ℕ → Step
 goes next pending depth = Some ((next, pending), depth)
 
+-- an operator waits for its right operand
 abbrev pub after_reduced : Operator → Held → Step
 after_reduced op held = goes Mode.Operand (Pending.Right op held.1 ∷ held.0) (length held.0)
 
+-- the operand stands in parentheses
 abbrev pub after_closed : Option Held → Step
 after_closed None = None
 after_closed (Some held) = goes (Mode.Operator held.1) held.0 (length held.0)
@@ -76,17 +38,21 @@ after_closed (Some held) = goes (Mode.Operator held.1) held.0 (length held.0)
 abbrev pub step_operator : List Pending → Formula → Token → Step
 step_operator pending a Token.And = after_reduced Operator.And (reduced Operator.And pending a)
 step_operator pending a Token.Or = after_reduced Operator.Or (reduced Operator.Or pending a)
-step_operator pending a Token.Implies = after_reduced Operator.Implies (reduced Operator.Implies pending a)
+step_operator pending a Token.Implies =
+    after_reduced Operator.Implies (reduced Operator.Implies pending a)
 step_operator pending a Token.Close = after_closed (closed pending a)
 step_operator pending a _ = None
 
 -- a quantifier, which is outermost, in parentheses or in a quantifier's body
 abbrev pub step_quantifier : List Pending → Quantifier → Step
-step_quantifier pending q = if nat_lt 10 (place pending) then None else goes (Mode.Binder q) pending (length pending)
+step_quantifier pending q =
+    if nat_lt 10 (place pending) then None else goes (Mode.Binder q) pending (length pending)
 
+-- a name where an operand begins
 abbrev pub step_word : List Pending → List ℕ → Step
 step_word pending x =
-    if bytes_eq x (codes "False") then goes (Mode.Operator Formulas.False) pending (length pending) else
+    if bytes_eq x (codes "False") then goes (Mode.Operator Formulas.False) pending (length pending)
+    else
     (if bytes_eq x (codes "ALL") then step_quantifier pending Quantifier.All else
     (if bytes_eq x (codes "EX") then step_quantifier pending Quantifier.Exists else
     goes (Mode.Atom x) pending (length pending)))
@@ -110,15 +76,19 @@ step_comma (Pending.Function f arguments ∷ below) a Token.Close =
     goes (Mode.Comma (Apply f (arguments ++ a ∷ []))) below (length below)
 step_comma _ a _ = None
 
+-- any token
 abbrev pub step : State → Token → Step
 step (Mode.Operand, pending) t = step_operand pending t
 step (Mode.Binder q, pending) (Token.Name x) = goes (Mode.Dot q x) pending (length pending)
-step (Mode.Dot q x, pending) Token.Dot = goes Mode.Operand (Pending.Body q x ∷ pending) (length pending)
-step (Mode.Atom x, pending) Token.Open = goes Mode.Argument (Pending.Predicate x [] ∷ pending) (length pending)
+step (Mode.Dot q x, pending) Token.Dot =
+    goes Mode.Operand (Pending.Body q x ∷ pending) (length pending)
+step (Mode.Atom x, pending) Token.Open =
+    goes Mode.Argument (Pending.Predicate x [] ∷ pending) (length pending)
 step (Mode.Atom x, pending) t = step_operator pending (Formulas.Atom x []) t
 step (Mode.Operator a, pending) t = step_operator pending a t
 step (Mode.Argument, pending) (Token.Name x) = goes (Mode.Head x) pending (length pending)
-step (Mode.Head x, pending) Token.Open = goes Mode.Argument (Pending.Function x [] ∷ pending) (length pending)
+step (Mode.Head x, pending) Token.Open =
+    goes Mode.Argument (Pending.Function x [] ∷ pending) (length pending)
 step (Mode.Head x, pending) t = step_comma pending (named (bound_names pending) x) t
 step (Mode.Comma a, pending) t = step_comma pending a t
 step (mode, pending) t = None

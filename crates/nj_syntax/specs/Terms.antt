@@ -15,6 +15,7 @@ abbrev pub place_of : List (List ℕ) → List ℕ → Option ℕ
 place_of [] x = None
 place_of (y ∷ bound) x = if bytes_eq y x then Some 0 else option_map (λ n. n + 1) (place_of bound x)
 
+-- a bound name, or a free one
 abbrev pub named_at : List ℕ → Option ℕ → Argument
 named_at x None = Free x
 named_at x (Some n) = Bound n
@@ -25,10 +26,14 @@ named bound x = named_at x (place_of bound x)
 
 -- terms with commas between them, under these bound names, at this depth; one term is a list of one
 pub data AreArguments : List (List ℕ) → ℕ → List Deep → List Argument → Type 0 where
-  name : {bound : List (List ℕ)} {d : ℕ} {x : List ℕ} → AreArguments bound d ((Name x, d) ∷ []) (named bound x ∷ [])
-  apply : {bound : List (List ℕ)} {d : ℕ} {f : List ℕ} {inside : List Deep} {arguments : List Argument}
+  name : {bound : List (List ℕ)} {d : ℕ} {x : List ℕ}
+      → AreArguments bound d ((Name x, d) ∷ []) (named bound x ∷ [])
+  apply : {bound : List (List ℕ)} {d : ℕ} {f : List ℕ}
+      {inside : List Deep} {arguments : List Argument}
       → AreArguments bound (d + 1) inside arguments
-      → AreArguments bound d ((Name f, d) ∷ (Open, d) ∷ inside ++ (Close, d) ∷ []) (Apply f arguments ∷ [])
-  comma : {bound : List (List ℕ)} {d : ℕ} {first rest : List Deep} {t : Argument} {more : List Argument}
+      → AreArguments bound d ((Name f, d) ∷ (Open, d) ∷ inside ++ (Close, d) ∷ [])
+      (Apply f arguments ∷ [])
+  comma : {bound : List (List ℕ)} {d : ℕ} {first rest : List Deep}
+      {t : Argument} {more : List Argument}
       → AreArguments bound d first (t ∷ []) → AreArguments bound d rest more
       → AreArguments bound d (first ++ (Comma, d) ∷ rest) (t ∷ more)

@@ -1,10 +1,12 @@
-//! Tokens of terms: those that follow a name in the place of an argument, and those that follow an argument.
+//! Tokens of terms: those that follow a name in the place of an argument, and those that follow an
+//! argument.
 
 ghost use Rattle.std.specs.Prelude.{◌≡◌, [], ◌∷◌, ◌++◌, ◌+◌, reverse, length, IfOk};
 ghost use Rattle.nj_tokens.specs.declared.token.Token.{Token as Tokens};
 ghost use Rattle.nj_syntax.specs.declared.state.Mode.{Mode as Modes};
 ghost use Rattle.nj_syntax.specs.Terms.{place_of, named};
-ghost use Rattle.nj_syntax.specs.Steps.{bound_names, goes, step_comma, step};
+ghost use Rattle.nj_syntax.specs.Reduced.{bound_names};
+ghost use Rattle.nj_syntax.specs.Steps.{goes, step_comma, step};
 ghost use Rattle.nj_syntax.specs.Seen.{seen_step};
 
 use crate::operands::{begin, stay};
@@ -53,13 +55,16 @@ fn with(arguments: Items<Argument>, argument: Argument) -> Result<Items<Argument
 
 /// The next argument of this predicate or function.
 fn next_argument(pending: Items<Pending>, frame: Pending) -> Result<Option<Step>, AllocError>
-    ensures { IfOk result (λ s. seen_step s ≡ goes Modes.Argument (frame ∷ reverse pending) (length (reverse pending) + 1)) }
+    ensures { IfOk result (λ s.
+        seen_step s
+        ≡ goes Modes.Argument (frame ∷ reverse pending) (length (reverse pending) + 1)) }
 {
     let mut pending = pending;
     pending.push(frame)?;
     Ok(Some(stay(Mode::Argument, pending)))
 }
 
+/// A comma after an argument.
 fn after_comma(pending: Items<Pending>, argument: Argument) -> Result<Option<Step>, AllocError>
     ensures { IfOk result (λ s. seen_step s ≡ step_comma (reverse pending) argument Tokens.Comma) }
 {
@@ -78,17 +83,22 @@ fn after_comma(pending: Items<Pending>, argument: Argument) -> Result<Option<Ste
     }
 }
 
-fn after_last(pending: Items<Pending>, argument: Argument) -> Result<Option<Step>, AllocError>
+/// The parenthesis that closes after the last argument.
+fn after_last(
+    alloc: Global,
+    pending: Items<Pending>,
+    argument: Argument,
+) -> Result<Option<Step>, AllocError>
     ensures { IfOk result (λ s. seen_step s ≡ step_comma (reverse pending) argument Tokens.Close) }
 {
     let mut pending = pending;
     match pending.pop() {
         Some(Pending::Predicate(name, arguments)) => {
-            let atom = Formula::Atom(name, with(arguments, argument)?);
+            let atom = Formula::atom(alloc, name, with(arguments, argument)?)?;
             Ok(Some(stay(Mode::Operator(atom), pending)))
         }
         Some(Pending::Function(name, arguments)) => {
-            let term = Argument::Apply(name, with(arguments, argument)?);
+            let term = Argument::apply(alloc, name, with(arguments, argument)?)?;
             Ok(Some(stay(Mode::Comma(term), pending)))
         }
         _ => Ok(None),
@@ -97,6 +107,7 @@ fn after_last(pending: Items<Pending>, argument: Argument) -> Result<Option<Step
 
 /// A token after an argument.
 pub fn after_argument(
+    alloc: Global,
     pending: Items<Pending>,
     argument: Argument,
     token: &Token,
@@ -105,7 +116,7 @@ pub fn after_argument(
 {
     match token {
         Token::Comma => after_comma(pending, argument),
-        Token::Close => after_last(pending, argument),
+        Token::Close => after_last(alloc, pending, argument),
         _ => Ok(None),
     }
 }
@@ -126,7 +137,7 @@ pub fn after_head(
         }
         _ => {
             let argument = named(pending.as_slice(), name);
-            after_argument(pending, argument, token)
+            after_argument(alloc, pending, argument, token)
         }
     }
 }

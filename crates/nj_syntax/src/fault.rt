@@ -16,7 +16,8 @@ pub enum FaultKind {
 pub enum FormulaFault {
     /// The first place at fault, in scalars: where the token begins, or the text's length.
     At { pos: usize, kind: FaultKind },
-    /// A token before the first place at fault stands under more than 200 operators, quantifiers and parentheses.
+    /// A token before the first place at fault stands under more than 200 operators, quantifiers
+    /// and parentheses.
     TooDeep,
     /// There was no memory.
     NoMemory,

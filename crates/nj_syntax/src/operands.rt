@@ -2,8 +2,10 @@
 
 ghost use Rattle.std.specs.Prelude.{◌≡◌, ◌∷◌, reverse, length, IfOk, Some, nat_lt};
 ghost use Rattle.nj_syntax.specs.declared.state.Mode.{Mode as Modes};
-ghost use Rattle.nj_syntax.specs.Steps.{place, goes, step_word, step_quantifier, step_operand, step_operator, after_closed, after_reduced, step};
-ghost use Rattle.nj_syntax.specs.Steps.{reduced as up_to, closed as up_to_parenthesis};
+ghost use Rattle.nj_syntax.specs.Reduced.{place};
+ghost use Rattle.nj_syntax.specs.Steps.{goes, step_word, step_quantifier, step_operand, step_operator};
+ghost use Rattle.nj_syntax.specs.Steps.{after_closed, after_reduced, step};
+ghost use Rattle.nj_syntax.specs.Reduced.{reduced as up_to, closed as up_to_parenthesis};
 ghost use Rattle.nj_syntax.specs.Seen.{seen_step};
 
 use crate::operator::{Operator, Quantifier};
@@ -27,7 +29,8 @@ pub fn stay(mode: Mode, pending: Items<Pending>) -> Step
 
 /// The next mode, with one thing more pending.
 pub fn begin(mode: Mode, pending: Items<Pending>, new: Pending) -> Result<Step, AllocError>
-    ensures { IfOk result (λ s. seen_step (Some s) ≡ goes mode (new ∷ reverse pending) (length (reverse pending))) }
+    ensures { IfOk result (λ s.
+        seen_step (Some s) ≡ goes mode (new ∷ reverse pending) (length (reverse pending))) }
 {
     let mut pending = pending;
     let depth = pending.len();
@@ -48,6 +51,7 @@ fn wants_operand(pending: &[Pending]) -> bool
     }
 }
 
+/// A quantifier where an operand may begin.
 fn quantifier(pending: Items<Pending>, q: Quantifier) -> Option<Step>
     ensures { seen_step result ≡ step_quantifier (reverse pending) q }
 {
@@ -96,7 +100,8 @@ fn operator(
     operand: Formula,
     op: Operator,
 ) -> Result<Option<Step>, AllocError>
-    ensures { IfOk result (λ s. seen_step s ≡ after_reduced op (up_to op (reverse pending) operand)) }
+    ensures { IfOk result (λ s.
+        seen_step s ≡ after_reduced op (up_to op (reverse pending) operand)) }
 {
     let held = reduced(alloc, op, pending, operand)?;
     let right = Pending::Right(op, held.operand);
@@ -109,7 +114,8 @@ fn close(
     pending: Items<Pending>,
     operand: Formula,
 ) -> Result<Option<Step>, AllocError>
-    ensures { IfOk result (λ s. seen_step s ≡ after_closed (up_to_parenthesis (reverse pending) operand)) }
+    ensures { IfOk result (λ s.
+        seen_step s ≡ after_closed (up_to_parenthesis (reverse pending) operand)) }
 {
     match closed(alloc, pending, operand)? {
         Some(held) => Ok(Some(stay(Mode::Operator(held.operand), held.pending))),
@@ -152,7 +158,7 @@ pub fn after_atom(
         _ => after_operand(
             alloc,
             pending,
-            Formula::Atom(name, Items::new(alloc)),
+            Formula::atom(alloc, name, Items::new(alloc))?,
             token,
         ),
     }

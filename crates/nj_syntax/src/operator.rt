@@ -2,7 +2,6 @@ ghost use Rattle.std.specs.Prelude.{◌≡◌, IfOk};
 ghost use Rattle.nj_syntax.specs.Grammar.{priority, joined, quantified};
 
 use nj_formula::{Formula, Name};
-use sqlite_items::Boxed;
 use std::alloc::{AllocError, Global};
 
 /// What joins two formulas.
@@ -37,20 +36,20 @@ impl Operator {
         }
     }
 
+    /// The two formulas joined by it.
     pub(crate) fn joined(self, alloc: Global, a: Formula, b: Formula) -> Result<Formula, AllocError>
         ensures { IfOk result (λ f. f ≡ joined self a b) }
     {
-        let a = Boxed::new(alloc, a)?;
-        let b = Boxed::new(alloc, b)?;
-        Ok(match self {
-            Operator::And => Formula::And(a, b),
-            Operator::Or => Formula::Or(a, b),
-            Operator::Implies => Formula::Implies(a, b),
-        })
+        match self {
+            Operator::And => Formula::and(alloc, a, b),
+            Operator::Or => Formula::or(alloc, a, b),
+            Operator::Implies => Formula::implies(alloc, a, b),
+        }
     }
 }
 
 impl Quantifier {
+    /// The name bound by it in the body.
     pub(crate) fn over(
         self,
         alloc: Global,
@@ -59,10 +58,9 @@ impl Quantifier {
     ) -> Result<Formula, AllocError>
         ensures { IfOk result (λ f. f ≡ quantified self name body) }
     {
-        let body = Boxed::new(alloc, body)?;
-        Ok(match self {
-            Quantifier::All => Formula::All(name, body),
-            Quantifier::Exists => Formula::Exists(name, body),
-        })
+        match self {
+            Quantifier::All => Formula::all(alloc, name, body),
+            Quantifier::Exists => Formula::exists(alloc, name, body),
+        }
     }
 }

@@ -1,28 +1,27 @@
 ghost use Rattle.std.specs.Prelude.{◌≡◌, IsTrue};
 ghost use Rattle.nj_formula.specs.Closed.{is_closed};
 ghost use Rattle.nj_syntax.specs.Answers.{Answers, IsFormula, IsTerm};
-ghost use Rattle.nj_syntax.specs.Runs.{ended};
+ghost use Rattle.nj_syntax.specs.Answer.{ended};
 
 use crate::fault::{FaultKind, FormulaFault};
 use crate::state::{Mode, State};
 use nj_formula::{Argument, Formula, ObjTerm};
-use nj_tokens::tokens;
 use sqlite_items::Items;
 use std::alloc::Global;
 
-/// The formula that the text is, a list of Unicode scalars. The faults are told in scalars: the first place
-/// with which no formula goes on, unless a token before it is too deep.
+/// The formula that the text is, a list of Unicode scalars. The faults are told in scalars: the
+/// first place with which no formula goes on, unless a token before it is too deep. It looks no
+/// further than the fault.
 pub fn parse(alloc: Global, text: &[char]) -> Result<Formula, FormulaFault>
     ensures { Answers IsFormula text.now result }
 {
-    let cut = tokens(alloc, text)?;
     let start = State {
         mode: Mode::Operand,
         pending: Items::new(alloc),
     };
-    let end = start.read(alloc, cut.tokens.as_slice())?;
-    let found = end.formula(alloc)?;
-    ended(found, cut.stop, cut.whole)
+    let end = start.read(alloc, text)?;
+    let found = end.state.formula(alloc)?;
+    ended(found, end.stop, end.whole)
 }
 
 /// The term that the text is, with the faults of a formula.
@@ -35,16 +34,16 @@ pub fn parse_term(alloc: Global, text: &[char]) -> Result<ObjTerm, FormulaFault>
     }
 }
 
+/// The term as an argument.
 fn argument(alloc: Global, text: &[char]) -> Result<Argument, FormulaFault>
     ensures { Answers IsTerm text.now result }
 {
-    let cut = tokens(alloc, text)?;
     let start = State {
         mode: Mode::Argument,
         pending: Items::new(alloc),
     };
-    let end = start.read(alloc, cut.tokens.as_slice())?;
-    ended(end.term(), cut.stop, cut.whole)
+    let end = start.read(alloc, text)?;
+    ended(end.state.term(), end.stop, end.whole)
 }
 
 /// No quantifier stands around a term by itself.

@@ -1,39 +1,76 @@
-ghost use Rattle.std.specs.Prelude.{◌≡◌, reverse, IfOk, IfErr};
-ghost use Rattle.nj_syntax.specs.Steps.{formula_at, term_at, alone};
-ghost use Rattle.nj_syntax.specs.Seen.{seen};
-ghost use Rattle.nj_syntax.specs.Runs.{HasRead, StopsAt};
+ghost use Rattle.std.specs.Prelude.{◌≡◌, reverse, IfOk};
+ghost use Rattle.nj_tokens.specs.Tokens.{cut_of};
+ghost use Rattle.nj_syntax.specs.Steps.{formula_at, term_at, alone, step};
+ghost use Rattle.nj_syntax.specs.Answer.{after, read_from};
+ghost use Rattle.nj_syntax.specs.Seen.{seen, Gives, seen_end};
 
 use crate::fault::{FaultKind, FormulaFault};
 use crate::reduce::finished;
 use crate::state::{Mode, Pending, State};
 use nj_formula::{Argument, Formula};
-use nj_tokens::Placed;
+use nj_tokens::{Lexer, Next, Placed};
 use sqlite_items::Items;
 use std::alloc::{AllocError, Global};
 
 /// Under how many operators, quantifiers and parentheses a token may stand.
 const DEEPEST: usize = 200;
 
+/// Where the reading stands after all tokens of a text.
+#[derive(Drop)]
+pub struct End {
+    pub state: State,
+    /// The text's length, or the first scalar with which no token begins.
+    pub stop: usize,
+    /// Whether the whole text is tokens and blanks.
+    pub whole: bool,
+}
+
 impl State {
-    /// The state after the tokens, or the first of them that is at fault.
-    pub fn read(self, alloc: Global, tokens: &[Placed]) -> Result<State, FormulaFault>
-        ensures ok { IfOk result (λ end. HasRead (seen self) tokens.now (seen end)) }
-        ensures err { IfErr result (λ fault. StopsAt (seen self) tokens.now fault) }
+    /// Reads on over the tokens of the text, up to the first of them that is at fault.
+    pub fn read(self, alloc: Global, text: &[char]) -> Result<End, FormulaFault>
+        ensures { Gives seen_end result (read_from (seen self) (cut_of text.now)) }
     {
+        let mut lexer = Lexer::new(alloc);
         let mut state = self;
-        'tokens: for placed in tokens {
-            let Some(step) = state.step(alloc, &placed.token)? else {
-                return Err(FormulaFault::At {
-                    pos: placed.at,
-                    kind: FaultKind::Expected,
-                });
-            };
-            if step.depth > DEEPEST {
-                return Err(FormulaFault::TooDeep);
+        let mut at = 0;
+        'tokens: loop {
+            match lexer.next(text, at)? {
+                Next::Token(placed, behind) => {
+                    state = state.after(alloc, &placed)?;
+                    at = behind;
+                }
+                Next::Stray(stop) => {
+                    return Ok(End {
+                        state,
+                        stop,
+                        whole: false,
+                    });
+                }
+                Next::End => {
+                    return Ok(End {
+                        state,
+                        stop: text.len(),
+                        whole: true,
+                    });
+                }
             }
-            state = step.state;
         }
-        Ok(state)
+    }
+
+    /// The state after one more token of the text.
+    fn after(self, alloc: Global, placed: &Placed) -> Result<State, FormulaFault>
+        ensures { Gives seen result (after placed.now (step (seen self) placed.now.token)) }
+    {
+        let Some(step) = self.step(alloc, &placed.token)? else {
+            return Err(FormulaFault::At {
+                pos: placed.at,
+                kind: FaultKind::Expected,
+            });
+        };
+        if step.depth > DEEPEST {
+            return Err(FormulaFault::TooDeep);
+        }
+        Ok(step.state)
     }
 
     /// The formula, where the text may end here.
@@ -42,7 +79,10 @@ impl State {
     {
         let State { mode, pending } = self;
         match mode {
-            Mode::Atom(name) => finished(alloc, pending, Formula::Atom(name, Items::new(alloc))),
+            Mode::Atom(name) => {
+                let atom = Formula::atom(alloc, name, Items::new(alloc))?;
+                finished(alloc, pending, atom)
+            }
             Mode::Operator(a) => finished(alloc, pending, a),
             _ => Ok(None),
         }

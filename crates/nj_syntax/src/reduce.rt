@@ -1,24 +1,17 @@
 ghost use Rattle.std.specs.Prelude.{◌≡◌, reverse, IfOk, option_map};
-ghost use Rattle.nj_formula.specs.declared.formula.Formula.TheVariants.{Not};
-ghost use Rattle.nj_syntax.specs.Steps.{reduced, closed, finished};
+ghost use Rattle.nj_syntax.specs.Reduced.{reduced, closed, finished};
 
 use crate::operator::Operator;
 use crate::state::Pending;
 use nj_formula::Formula;
-use sqlite_items::{Boxed, Items};
+use sqlite_items::Items;
 use std::alloc::{AllocError, Global};
 
 /// What is pending, and the operand that comes next to it.
-#[derive(Debug, Drop)]
+#[derive(Drop)]
 pub struct Held {
     pub pending: Items<Pending>,
     pub operand: Formula,
-}
-
-fn negated(alloc: Global, a: Formula) -> Result<Formula, AllocError>
-    ensures { IfOk result (λ f. f ≡ Not a) }
-{
-    Ok(Formula::Not(Boxed::new(alloc, a)?))
 }
 
 /// The operand with what binds more strongly than the operator, which comes next.
@@ -28,13 +21,14 @@ pub fn reduced(
     pending: Items<Pending>,
     operand: Formula,
 ) -> Result<Held, AllocError>
-    ensures { IfOk result (λ held. (reverse held.pending, held.operand) ≡ reduced op (reverse pending) operand) }
+    ensures { IfOk result (λ held.
+        (reverse held.pending, held.operand) ≡ reduced op (reverse pending) operand) }
 {
     let mut pending = pending;
     let mut operand = operand;
     'up: while let Some(top) = pending.pop() {
         match top {
-            Pending::Not => operand = negated(alloc, operand)?,
+            Pending::Not => operand = Formula::not(alloc, operand)?,
             Pending::Right(left_op, left) if op.priority() < left_op.priority() => {
                 operand = left_op.joined(alloc, left, operand)?;
             }
@@ -47,19 +41,21 @@ pub fn reduced(
     Ok(Held { pending, operand })
 }
 
-/// The operand with all that is pending within the parentheses, and what is pending outside of them.
+/// The operand with all that is pending within the parentheses, and what is pending outside of
+/// them.
 pub fn closed(
     alloc: Global,
     pending: Items<Pending>,
     operand: Formula,
 ) -> Result<Option<Held>, AllocError>
-    ensures { IfOk result (λ held. option_map (λ h. (reverse h.pending, h.operand)) held ≡ closed (reverse pending) operand) }
+    ensures { IfOk result (λ held.
+        option_map (λ h. (reverse h.pending, h.operand)) held ≡ closed (reverse pending) operand) }
 {
     let mut pending = pending;
     let mut operand = operand;
     'up: while let Some(top) = pending.pop() {
         match top {
-            Pending::Not => operand = negated(alloc, operand)?,
+            Pending::Not => operand = Formula::not(alloc, operand)?,
             Pending::Right(op, left) => operand = op.joined(alloc, left, operand)?,
             Pending::Body(q, name) => operand = q.over(alloc, name, operand)?,
             Pending::Parenthesis => return Ok(Some(Held { pending, operand })),
@@ -81,7 +77,7 @@ pub fn finished(
     let mut operand = operand;
     'up: while let Some(top) = pending.pop() {
         match top {
-            Pending::Not => operand = negated(alloc, operand)?,
+            Pending::Not => operand = Formula::not(alloc, operand)?,
             Pending::Right(op, left) => operand = op.joined(alloc, left, operand)?,
             Pending::Body(q, name) => operand = q.over(alloc, name, operand)?,
             _ => return Ok(None),

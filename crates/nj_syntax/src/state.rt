@@ -3,7 +3,7 @@ use nj_formula::{Argument, Formula, Name};
 use sqlite_items::Items;
 
 /// What has begun and waits for its operand, its body or its closing parenthesis.
-#[derive(Debug, Drop)]
+#[derive(Drop)]
 pub enum Pending {
     Not,
     /// An operator with its left operand.
@@ -17,7 +17,7 @@ pub enum Pending {
 }
 
 /// What the next token may be.
-#[derive(Debug, Drop)]
+#[derive(Drop)]
 pub enum Mode {
     /// The first one of an operand.
     Operand,
@@ -38,7 +38,7 @@ pub enum Mode {
 }
 
 /// Where the reading stands after some tokens.
-#[derive(Debug, Drop)]
+#[derive(Drop)]
 pub struct State {
     pub mode: Mode,
     /// The newest is the last.
@@ -46,7 +46,7 @@ pub struct State {
 }
 
 /// The state after a token, and the token's depth.
-#[derive(Debug, Drop)]
+#[derive(Drop)]
 pub struct Step {
     pub state: State,
     pub depth: usize,

@@ -28,7 +28,7 @@ impl State {
                 Ok(Some(stay(Mode::Head(name.copy(alloc)?), pending)))
             }
             (Mode::Head(name), token) => after_head(alloc, pending, name, token),
-            (Mode::Comma(argument), token) => after_argument(pending, argument, token),
+            (Mode::Comma(argument), token) => after_argument(alloc, pending, argument, token),
             _ => Ok(None),
         }
     }

@@ -1,3 +1,4 @@
-pub mod LexisLemmas
-pub mod TokensLemmas
-pub mod ReadingLemmas
+mod LexisLemmas
+pub mod KnownTokens
+pub mod KnownNames
+mod TokensLemmas

@@ -1,2 +1,4 @@
 pub mod Lexis
 pub mod Tokens
+pub mod Next
+pub mod Laws

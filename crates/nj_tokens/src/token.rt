@@ -1,9 +1,9 @@
 use nj_formula::Name;
-use sqlite_items::Items;
 
-#[derive(Debug, Drop)]
+/// A token of formulas and terms.
+#[derive(Drop)]
 pub enum Token {
-    /// An identifier: a letter, then letters, digits, `_` and `'`, all of them ASCII.
+    /// An identifier.
     Name(Name),
     /// `~`
     Not,
@@ -24,18 +24,19 @@ pub enum Token {
 }
 
 /// A token, and the scalar at which it begins.
-#[derive(Debug, Drop)]
+#[derive(Drop)]
 pub struct Placed {
     pub token: Token,
     pub at: usize,
 }
 
-/// The tokens of a text, as far as there are tokens.
-#[derive(Debug, Drop)]
-pub struct Tokens {
-    pub tokens: Items<Placed>,
-    /// The text's length, or the first scalar with which no token begins.
-    pub stop: usize,
-    /// Whether the whole text is tokens and blanks.
-    pub whole: bool,
+/// What stands next in a text, behind blanks. Places are told in scalars.
+#[derive(Drop)]
+pub enum Next {
+    /// A token, and the place right behind it.
+    Token(Placed, usize),
+    /// The first scalar with which no token begins.
+    Stray(usize),
+    /// The text's end.
+    End,
 }

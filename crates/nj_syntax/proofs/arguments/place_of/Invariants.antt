@@ -1,6 +1,6 @@
 use Rattle.std.proofs.Common.{◌≡◌, ◌≤◌, ◌+◌, reverse, length, option_map}
 use Rattle.nj_syntax.specs.Terms.{place_of}
-use Rattle.nj_syntax.specs.Steps.{bound_names}
+use Rattle.nj_syntax.specs.Reduced.{bound_names}
 use Rattle.nj_syntax.proofs.arguments.place_of.Given as goal
 
 abbrev pub invariant-outward : goal.invariant-outward

@@ -1,21 +1,18 @@
-use Rattle.std.proofs.Common.{[], reverse, ap, ◌∙◌}
+use Rattle.std.proofs.Common.{[], reverse, ap}
 use Rattle.nj_syntax.specs.declared.state.Mode.{Mode}
 use Rattle.nj_syntax.specs.Answers.{IsTerm}
 use Rattle.nj_syntax.specs.Steps.{term_at}
-use Rattle.nj_syntax.specs.Runs.{ended}
-use Rattle.nj_syntax.specs.Seen.{seen}
-use Rattle.nj_syntax.proofs.Answered.{answered, failed}
+use Rattle.nj_syntax.specs.Seen.{seen_end}
+use Rattle.nj_syntax.proofs.Reading.{found_answers, fault_answers}
 use Rattle.nj_syntax.proofs.Readers.{term_reader}
 use Rattle.nj_syntax.proofs.parsing.argument.Goals as goal
 
 pub returns : goal.returns
-returns c = answered IsTerm (Mode.Argument, []) term_at term_reader (Mode.Argument, reverse c.new.result) c.args.text.now c.as_slice.result.now
-    c.in_ok-cut.cut.tokens c.in_ok-cut.cut.stop c.in_ok-cut.cut.whole c.ended.result
-    (ap (λ p. (Mode.Argument, reverse p)) c.new.ensures) c.as_slice.ensures c.in_ok-cut.ensures (seen c.in_ok-end.end) c.in_ok-end.ensures.ok
-    (c.ended.ensures ∙ ap (λ o. ended o c.in_ok-cut.cut.stop c.in_ok-cut.cut.whole) c.term.ensures)
+returns c = found_answers IsTerm (Mode.Argument, []) term_at term_reader (Mode.Argument, reverse c.new.result) c.args.text.now
+    (ap (λ p. (Mode.Argument, reverse p)) c.new.ensures) (seen_end c.in_ok-end.end) c.term.result c.ended.result
+    c.in_ok-end.ensures c.term.ensures c.ended.ensures
 
 pub returns-in_err-end : goal.returns-in_err-end
-returns-in_err-end c = failed IsTerm (Mode.Argument, []) term_at term_reader (Mode.Argument, reverse c.new.result) c.args.text.now c.as_slice.result.now
-    c.in_ok-cut.cut.tokens c.in_ok-cut.cut.stop c.in_ok-cut.cut.whole c.from_residual-in_err-end.result
-    (ap (λ p. (Mode.Argument, reverse p)) c.new.ensures) c.as_slice.ensures c.in_ok-cut.ensures c.in_err-end.field-0.0 c.in_err-end.ensures.err
-    c.from_residual-in_err-end.ensures.1
+returns-in_err-end c = fault_answers IsTerm (Mode.Argument, []) term_at term_reader (Mode.Argument, reverse c.new.result) c.args.text.now
+    (ap (λ p. (Mode.Argument, reverse p)) c.new.ensures) seen_end c.in_err-end.field-0.0 c.from_residual.result
+    c.from_residual.ensures.1 c.in_err-end.ensures

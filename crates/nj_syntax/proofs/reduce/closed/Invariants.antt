@@ -1,5 +1,5 @@
 use Rattle.std.proofs.Common.{◌≡◌, reverse, length}
-use Rattle.nj_syntax.specs.Steps.{closed}
+use Rattle.nj_syntax.specs.Reduced.{closed}
 use Rattle.nj_syntax.proofs.reduce.closed.Given as goal
 
 abbrev pub invariant-up : goal.invariant-up

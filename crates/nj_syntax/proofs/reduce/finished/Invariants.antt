@@ -1,5 +1,5 @@
 use Rattle.std.proofs.Common.{◌≡◌, reverse, length}
-use Rattle.nj_syntax.specs.Steps.{finished}
+use Rattle.nj_syntax.specs.Reduced.{finished}
 use Rattle.nj_syntax.proofs.reduce.finished.Given as goal
 
 abbrev pub invariant-up : goal.invariant-up

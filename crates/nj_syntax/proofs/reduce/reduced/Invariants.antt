@@ -1,5 +1,5 @@
 use Rattle.std.proofs.Common.{◌≡◌, reverse, length}
-use Rattle.nj_syntax.specs.Steps.{reduced}
+use Rattle.nj_syntax.specs.Reduced.{reduced}
 use Rattle.nj_syntax.proofs.reduce.reduced.Given as goal
 
 abbrev pub invariant-up : goal.invariant-up

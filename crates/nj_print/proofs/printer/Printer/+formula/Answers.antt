@@ -13,7 +13,7 @@ bare-returns-in-False-clause-text t c =
 pub bare-returns-in_ok-push_str-in-Not-clause-text :
     goal.bare-returns-in_ok-push_str-in-Not-clause-text
 bare-returns-in_ok-push_str-in-Not-clause-text t c =
-    on_ok c.formula.result (wrote_negation c.in-Not.is c.get.ensures c.in_ok-push_str-in-Not.ensures.bytes) c.formula.ensures.text
+    on_ok c.formula.result (wrote_negation c.in-Not.is c.get-in-Not.ensures c.in_ok-push_str-in-Not.ensures.bytes) c.formula.ensures.text
 
 pub bare-returns-in_ok-push_str-in-And-clause-text :
     goal.bare-returns-in_ok-push_str-in-And-clause-text
