@@ -1,3 +1,4 @@
 pub mod Parts
-pub mod Called
-pub mod Once
+pub mod Named
+pub mod Inner
+pub mod Merges

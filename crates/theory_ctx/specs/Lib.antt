@@ -5,5 +5,5 @@ pub mod Answers
 pub mod Looked
 pub mod Locals
 pub mod Merged
-pub mod Leading
 pub mod Cited
+pub mod Agreement

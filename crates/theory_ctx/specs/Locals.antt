@@ -1,7 +1,7 @@
 -- Local facts: which of them a name means, and how they hide the facts of theories (this project's own).
 use Rattle.std.specs.Prelude.{ℕ, List, [], ◌∷◌, find, Option, Some, None}
 use Rattle.std.specs.Str.{bytes_eq}
-use Rattle.theory_ctx.specs.declared.fact.Fact.{Fact}
+use Rattle.theory_ctx.specs.Facts.{Fact}
 use Rattle.theory_ctx.specs.declared.local.Local.{Local}
 use Rattle.theory_ctx.specs.Answers.{Answer, found}
 use Rattle.theory_ctx.specs.Looked.{parts_of, looked}

@@ -1,14 +1,18 @@
 -- The facts of several contexts together.
-use Rattle.std.specs.Prelude.{◌≡◌, not, List, [], ◌∷◌, filter, None}
-use Rattle.theory_ctx.specs.declared.fact.Fact.{Fact}
-use Rattle.theory_ctx.specs.Facts.{is_called, fact_of}
+use Rattle.std.specs.Prelude.{List, [], fold}
+use Rattle.std.specs.List.{flat_map}
+use Rattle.shared_map.specs.Changes.{put, united}
+use Rattle.theory_ctx.specs.Facts.{Fact}
+use Rattle.theory_ctx.specs.Order.{by_name}
 
--- each fact, but none that has the theory and the name of an earlier one
-abbrev pub merged : List Fact → List Fact
-merged [] = []
-merged (fact ∷ facts) = fact ∷ filter (λ other. not (is_called fact.theory fact.name other)) (merged facts)
+-- the facts with one more in its place
+abbrev pub added : Fact → List Fact → List Fact
+added = put by_name
 
--- no two facts have one theory and one name
-abbrev pub AreOnce : List Fact → Type 0
-AreOnce [] = Unit {0}
-AreOnce (fact ∷ facts) = (fact_of fact.theory fact.name facts ≡ None) × AreOnce facts
+-- the facts of all parts; of a theory and name that several parts have, the earliest part's
+abbrev pub merged : List (List Fact) → List Fact
+merged = fold (united by_name) []
+
+-- the facts of all parts, one part behind the other
+abbrev pub all_of : List (List Fact) → List Fact
+all_of = flat_map (λ part. part)

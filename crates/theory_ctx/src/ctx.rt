@@ -1,18 +1,23 @@
-ghost use Rattle.std.specs.Prelude.{◌≡◌, List, [], ◌∷◌, ◌++◌, ◌↔◌, None, is_some, IsSome, IfOk, OnOk, OnErr};
-ghost use Rattle.std.specs.List.{flat_map};
-ghost use Rattle.theory_ctx.specs.declared.fact.Fact.{Fact};
-ghost use Rattle.theory_ctx.specs.Facts.{fact_of};
+ghost use Rattle.std.specs.Prelude.{◌≡◌, ℕ, List, [], ◌∷◌, ◌↔◌, Some, IsSome, IfOk, OnOk, OnErr, map, option_map, if◌then◌else◌};
+ghost use Rattle.std.specs.List.{list_any};
+ghost use Rattle.nj_formula.specs.Meaning.{meaning};
+ghost use Rattle.nj_formula.specs.Free.{is_free};
+ghost use Rattle.shared_map.specs.Pairs.{IsSorted};
+ghost use Rattle.shared_map.specs.Lent.{lent};
+ghost use Rattle.theory_ctx.specs.Facts.{Fact, fact_of, is_called};
+ghost use Rattle.theory_ctx.specs.Order.{by_name};
 ghost use Rattle.theory_ctx.specs.Answers.{told};
-ghost use Rattle.theory_ctx.specs.Looked.{looked};
-ghost use Rattle.theory_ctx.specs.Merged.{merged, AreOnce};
+ghost use Rattle.theory_ctx.specs.Looked.{among, looked};
+ghost use Rattle.theory_ctx.specs.Merged.{added, merged};
+ghost use Rattle.theory_ctx.specs.Order.{to_name};
+ghost use Rattle.shared_map.specs.Cuts.{within};
 
+use crate::called::{Called, Named};
 use crate::cited::Cited;
-use crate::fact::{Fact, fact_of};
-use crate::leading::leading_imports;
+use crate::fact_name::FactName;
 use crate::lookup::Lookup;
-use crate::shared_fact::SharedFact;
 use nj_formula::{Formula, Name};
-use sqlite_items::Items;
+use shared_map::{Entries, SharedMap};
 use std::alloc::{AllocError, Global};
 use std::marker::Model;
 
@@ -36,17 +41,16 @@ impl From<AllocError> for AddError {
 }
 
 /// The facts that a theory sees: its own and those of its imports. Contracts see it as their list,
-/// the newest last; no two of them have one theory and one name. A context that is copied or merged
-/// shares its facts.
-#[derive(Debug, Drop)]
+/// sorted by name and then by theory; no two of them have one theory and one name. A context that is
+/// copied, extended or merged shares its facts.
+#[derive(Drop)]
 pub struct Ctx {
-    facts: Items<SharedFact>,
+    facts: SharedMap<FactName, Formula>,
 }
 
 impl Model for Ctx {
     ghost use Rattle.std.specs.Prelude.{List};
-    ghost use Rattle.theory_ctx.specs.declared.fact.Fact.{Fact};
-    ghost use Rattle.theory_ctx.specs.Merged.{AreOnce};
+    ghost use Rattle.theory_ctx.specs.Facts.{Fact};
     ghost use Rattle.nj_formula.specs.contracts.formula.Formula as formula;
     ghost use Rattle.std.specs.Coded.{codes};
 
@@ -55,33 +59,29 @@ impl Model for Ctx {
     ghost coded = { Prim.hlevel (codes, formula.the_row.coded) };
 
     ghost view = { λ ctx. ctx.facts };
-
-    ghost invariant = { λ ctx. AreOnce ctx.facts };
 }
 
 impl Ctx {
     /// The context of no facts, which takes no memory.
-    pub fn new(alloc: Global) -> Ctx
+    pub fn new() -> Ctx
         ensures { result ≡ [] }
     {
         Ctx {
-            facts: Items::new(alloc),
+            facts: SharedMap::new(),
         }
     }
 
-    /// The same context, which shares its facts with this one.
-    pub fn copy(&self, alloc: Global) -> Result<Ctx, AllocError>
+    /// The same context, in the same memory.
+    pub fn copy(&self) -> Result<Ctx, AllocError>
         ensures { IfOk result (λ ctx. ctx ≡ self.now) }
     {
-        let mut facts = Items::new(alloc);
-        for shared in self.facts.as_slice() {
-            facts.push(shared.share()?)?;
-        }
-        Ok(Ctx { facts })
+        Ok(Ctx {
+            facts: self.facts.copy()?,
+        })
     }
 
-    /// Adds a fact of a theory, as the newest. It is `Taken` where the theory has a fact of this name
-    /// already. At an error the context is as before.
+    /// Adds a fact of a theory. It is `Taken` where the theory has a fact of this name already. At an
+    /// error the context is as before.
     pub fn add(
         &mut self,
         alloc: Global,
@@ -90,68 +90,71 @@ impl Ctx {
         formula: Formula,
     ) -> Result<(), AddError>
         ensures ok { OnOk result (self.new
-            ≡ self.old ++ record { theory = theory.now; name = name.now; formula = formula } ∷ []) }
-        ensures once { OnOk result (AreOnce self.new) }
+            ≡ added (record { name = name.now; theory = theory.now }, formula) self.old) }
+        ensures sorted { OnOk result (IsSorted by_name self.new) }
         ensures taken { (result ≡ Err AddError.Taken) ↔ IsSome (fact_of theory.now name.now self.old) }
         ensures err { OnErr result (self.new ≡ self.old) }
     {
-        if self.has(theory, name) {
+        if self.fact(theory, name).is_some() {
             return Err(AddError::Taken);
         }
-        let theory = Name::new(alloc, theory)?;
-        let name = Name::new(alloc, name)?;
-        let fact = SharedFact::new(
-            alloc,
-            Fact {
-                theory,
-                name,
-                formula,
-            },
-        )?;
-        self.insert(fact)?;
+        let fact = FactName {
+            name: Name::new(alloc, name)?,
+            theory: Name::new(alloc, theory)?,
+        };
+        self.facts.set(alloc, fact, formula)?;
         Ok(())
     }
 
-    /// The facts of all parts, each once. Where two parts have different facts of one theory and
-    /// one name, that of the earlier part is kept.
+    /// The facts of all parts. Where two parts have different facts of one theory and one name, that
+    /// of the earlier part is kept. What only one part has is shared.
     pub fn merge(alloc: Global, parts: &[&Ctx]) -> Result<Ctx, AllocError>
-        ensures facts { IfOk result (λ ctx. ctx ≡ merged (flat_map (λ part. part.now) parts.now)) }
-        ensures once { IfOk result (λ ctx. AreOnce ctx) }
+        ensures { IfOk result (λ ctx. ctx ≡ merged (map (λ part. part.now) parts.now)) }
     {
-        let mut all = Ctx::new(alloc);
+        let mut facts = SharedMap::new();
         for part in parts {
-            all.include(part)?;
+            facts = facts.union(alloc, &part.facts)?;
         }
-        Ok(all)
+        Ok(Ctx { facts })
     }
 
-    /// Adds the facts of another context that are not there yet.
-    fn include(&mut self, other: &Ctx) -> Result<(), AllocError>
-        ensures { OnOk result ((facts : List Fact)
-            → self.old ≡ merged facts → self.new ≡ merged (facts ++ other.now)) }
+    /// All facts, sorted by name and then by theory, lent.
+    pub fn facts(&self) -> Entries<'_, FactName, Formula>
+        ensures all { result ≡ self.now }
+        ensures sorted { IsSorted by_name result }
     {
-        for shared in other.facts.as_slice() {
-            let fact = shared.get();
-            if !self.has(fact.theory.as_str(), fact.name.as_str()) {
-                self.insert(shared.share()?)?;
-            }
+        self.facts.iter()
+    }
+
+    /// Whether the name is free in a fact.
+    pub fn has_free(&self, name: &str) -> bool
+        ensures { result ≡ list_any (λ fact. is_free name.now (meaning fact.1)) self.now }
+    {
+        any_has_free(self.facts.iter(), name)
+    }
+
+    /// The fact of this name of this theory.
+    fn fact(&self, theory: &str, name: &str) -> Option<(&FactName, &Formula)>
+        ensures { option_map lent result ≡ fact_of theory.now name.now self.now }
+    {
+        self.facts.first_in(&Called { theory, name })
+    }
+
+    /// What the facts of this name are, whichever theory made them.
+    fn named(&self, name: &str) -> Lookup<'_>
+        ensures { told result ≡ among (within (to_name name.now) self.now) }
+    {
+        let mut facts = self.facts.range(&Named { name });
+        let Some((first, formula)) = facts.next() else {
+            return Lookup::Unknown;
+        };
+        match facts.next() {
+            None => first.found(formula),
+            Some((second, _)) => Lookup::Ambiguous {
+                first: first.long_name(),
+                second: second.long_name(),
+            },
         }
-        Ok(())
-    }
-
-    fn has(&self, theory: &str, name: &str) -> bool
-        ensures { result ≡ is_some (fact_of theory.now name.now self.now) }
-    {
-        fact_of(self.facts.as_slice(), theory, name).is_some()
-    }
-
-    fn insert(&mut self, fact: SharedFact) -> Result<(), AllocError>
-        requires { fact_of fact.theory fact.name self.old ≡ None }
-        ensures ok { OnOk result (self.new ≡ self.old ++ fact ∷ []) }
-        ensures err { OnErr result (self.new ≡ self.old) }
-        ensures once { AreOnce self.new }
-    {
-        self.facts.push(fact)
     }
 
     /// The fact that a name means in the theory `theory`. A plain name `n` is first sought among the
@@ -160,17 +163,27 @@ impl Ctx {
     pub fn lookup(&self, theory: &str, name: &str) -> Lookup<'_>
         ensures { told result ≡ looked self.now theory.now name.now }
     {
-        let facts = self.facts.as_slice();
         match Cited::new(name) {
-            Cited::Plain(name) => match fact_of(facts, theory, name) {
-                Some(fact) => fact.found(),
-                None => leading_imports(facts, theory, name).lookup(),
+            Cited::Plain(name) => match self.fact(theory, name) {
+                Some((fact, formula)) => fact.found(formula),
+                None => self.named(name),
             },
-            Cited::Long { theory, name } => match fact_of(facts, theory, name) {
-                Some(fact) => fact.found(),
+            Cited::Long { theory, name } => match self.fact(theory, name) {
+                Some((fact, formula)) => fact.found(formula),
                 None => Lookup::Unknown,
             },
             Cited::Longer => Lookup::Unknown,
         }
     }
+}
+
+fn any_has_free(facts: Entries<FactName, Formula>, name: &str) -> bool
+    ensures { result ≡ list_any (λ fact. is_free name.now (meaning fact.1)) facts.entry }
+{
+    for (_, formula) in facts {
+        if formula.has_free(name) {
+            return true;
+        }
+    }
+    false
 }

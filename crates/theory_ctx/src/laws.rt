@@ -1,25 +1,41 @@
-ghost use Rattle.std.specs.Prelude.{◌≡◌, ℕ, List, [], ◌∷◌, ◌++◌, Some, None};
-ghost use Rattle.theory_ctx.specs.declared.fact.Fact.{Fact};
-ghost use Rattle.theory_ctx.specs.Facts.{fact_of};
-ghost use Rattle.theory_ctx.specs.Spelled.{long_name};
+ghost use Rattle.std.specs.Prelude.{◌≡◌, ◌≢◌, ℕ, List, [], ◌∷◌, None};
+ghost use Rattle.shared_map.specs.Pairs.{Each, IsSorted};
+ghost use Rattle.theory_ctx.specs.declared.local.Local.{Local};
+ghost use Rattle.theory_ctx.specs.Facts.{Fact, fact_of};
+ghost use Rattle.theory_ctx.specs.Order.{by_name};
 ghost use Rattle.theory_ctx.specs.Answers.{found};
 ghost use Rattle.theory_ctx.specs.Looked.{parts_of, looked};
-ghost use Rattle.theory_ctx.specs.Merged.{merged, AreOnce};
+ghost use Rattle.theory_ctx.specs.Locals.{Scoped, looked_in};
+ghost use Rattle.theory_ctx.specs.Merged.{merged, all_of};
+ghost use Rattle.theory_ctx.specs.Agreement.{DoAgree, AreSame};
 
-/// A law: merged facts have, for each theory and name, the first fact of it, and no other.
+/// A law: merged facts have, for each theory and name, the fact of the earliest part that has one.
 pub fn merge_law()
-    ensures first { (t n : List ℕ) (facts : List Fact) → fact_of t n (merged facts) ≡ fact_of t n facts }
-    ensures once { (facts : List Fact) → AreOnce (merged facts) }
+    ensures first { (parts : List (List Fact)) (t n : List ℕ) → Each (IsSorted by_name) parts
+        → fact_of t n (merged parts) ≡ fact_of t n (all_of parts) }
+    ensures sorted { (parts : List (List Fact)) → Each (IsSorted by_name) parts
+        → IsSorted by_name (merged parts) }
 {}
 
-/// A law: a fact that was added, and whose theory and name have no dot, is found in its theory by
-/// its name, and in every theory by its long name.
-pub fn add_law()
-    ensures own { (facts : List Fact) (fact : Fact) → fact_of fact.theory fact.name facts ≡ None
-        → parts_of fact.name ≡ fact.name ∷ []
-        → looked (facts ++ fact ∷ []) fact.theory fact.name ≡ found (Some fact.theory) fact.name fact.formula }
-    ensures long { (facts : List Fact) (fact : Fact) (theory : List ℕ) → fact_of fact.theory fact.name facts ≡ None
-        → parts_of (long_name fact.theory fact.name) ≡ fact.theory ∷ fact.name ∷ []
-        → looked (facts ++ fact ∷ []) theory (long_name fact.theory fact.name)
-        ≡ found (Some fact.theory) fact.name fact.formula }
+/// A law: where the parts agree, what a name means depends neither on the order in which they are
+/// merged nor on how often each is named.
+pub fn order_law()
+    ensures { (parts others : List (List Fact)) (own name : List ℕ)
+        → Each (IsSorted by_name) parts → Each (IsSorted by_name) others
+        → DoAgree parts → AreSame parts others
+        → looked (merged parts) own name ≡ looked (merged others) own name }
+{}
+
+/// A law: a local fact hides what else has its name, the innermost first; it hides no other name,
+/// and no long name.
+pub fn local_law()
+    ensures innermost { (scope : Scoped) (local : Local) (name : List ℕ)
+        → parts_of name ≡ local.name ∷ []
+        → looked_in (record scope { locals = local ∷ scope.locals }) name
+        ≡ found None local.name local.formula }
+    ensures others { (scope : Scoped) (local : Local) (name n : List ℕ)
+        → parts_of name ≡ n ∷ [] → local.name ≢ n
+        → looked_in (record scope { locals = local ∷ scope.locals }) name ≡ looked_in scope name }
+    ensures long { (scope : Scoped) (name t n : List ℕ) → parts_of name ≡ t ∷ n ∷ []
+        → looked_in scope name ≡ looked scope.facts scope.theory name }
 {}

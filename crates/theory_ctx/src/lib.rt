@@ -5,21 +5,20 @@
 //! terms or threads.
 #![tactic(auto)]
 
+mod called;
 mod cited;
 mod ctx;
-mod fact;
+mod fact_name;
+mod inner_scope;
 mod laws;
-mod leading;
 mod local;
 mod lookup;
 mod scope;
-mod shared_fact;
-#[cfg(test)]
-mod tests;
 
 pub use ctx::{AddError, Ctx};
-pub use fact::Fact;
-pub use laws::{add_law, merge_law};
+pub use fact_name::FactName;
+pub use inner_scope::InnerScope;
+pub use laws::{local_law, merge_law, order_law};
 pub use local::Local;
 pub use lookup::{LongName, Lookup};
 pub use scope::Scope;

@@ -7,6 +7,7 @@ ghost use Rattle.theory_ctx.specs.Locals.{local_of, looked_in};
 
 use crate::cited::Cited;
 use crate::ctx::Ctx;
+use crate::inner_scope::InnerScope;
 use crate::local::Local;
 use crate::lookup::Lookup;
 use nj_formula::{Formula, Name};
@@ -17,7 +18,7 @@ use std::marker::Model;
 /// What a lookup goes through: local facts, of which the newest is the innermost, then the facts
 /// that a theory sees. Contracts see it as these lists. An unnamed local fact can't be cited, so it
 /// is never put here.
-#[derive(Debug, Drop)]
+#[derive(Drop)]
 pub struct Scope<'a> {
     locals: Items<Local>,
     theory: &'a str,
@@ -73,6 +74,28 @@ impl<'a> Scope<'a> {
         self.locals.pop()
     }
 
+    /// The local fact this deep, from 0 for the innermost.
+    pub fn local_at(&self, depth: usize) -> Option<&Local>
+        ensures { option_copied result ≡ slice_get self.now.locals depth }
+    {
+        let locals = self.locals.as_slice();
+        if depth < locals.len() {
+            Some(&locals[locals.len() - 1 - depth])
+        } else {
+            None
+        }
+    }
+
+    /// A scope inside this one, which is lent. It takes no memory.
+    pub fn inner(&self, alloc: Global) -> InnerScope<'_, 'a>
+        ensures { result ≡ self.now }
+    {
+        InnerScope {
+            outer: self,
+            locals: Items::new(alloc),
+        }
+    }
+
     /// The fact that a name means here: the innermost local fact of this name, else what
     /// `Ctx::lookup` answers. A long name passes the local facts by.
     pub fn lookup(&self, name: &str) -> Lookup<'_>
@@ -87,10 +110,17 @@ impl<'a> Scope<'a> {
     fn local(&self, name: &str) -> Option<&Local>
         ensures { option_copied result ≡ local_of self.now.locals (parts_of name.now) }
     {
-        match Cited::new(name) {
-            Cited::Plain(name) => newest(self.locals.as_slice(), name),
-            Cited::Long { .. } | Cited::Longer => None,
-        }
+        cited_in(self.locals.as_slice(), name)
+    }
+}
+
+/// The last of the facts that is cited so. A long name passes them by.
+pub(crate) fn cited_in<'a>(locals: &'a [Local], name: &str) -> Option<&'a Local>
+    ensures { option_copied result ≡ local_of (reverse locals.now) (parts_of name.now) }
+{
+    match Cited::new(name) {
+        Cited::Plain(name) => newest(locals, name),
+        Cited::Long { .. } | Cited::Longer => None,
     }
 }
 

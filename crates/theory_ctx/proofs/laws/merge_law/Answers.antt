@@ -1,8 +1,8 @@
-use Rattle.theory_ctx.proofs.Once.{fact_of-merged, AreOnce-merged}
+use Rattle.theory_ctx.proofs.Merges.{fact_of-merged, IsSorted-merged}
 use Rattle.theory_ctx.proofs.laws.merge_law.Goals as goal
 
 pub returns-clause-first : goal.returns-clause-first
-returns-clause-first c = fact_of-merged
+returns-clause-first c parts t n each = fact_of-merged t n parts each
 
-pub returns-clause-once : goal.returns-clause-once
-returns-clause-once c = AreOnce-merged
+pub returns-clause-sorted : goal.returns-clause-sorted
+returns-clause-sorted c = IsSorted-merged

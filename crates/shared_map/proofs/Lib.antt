@@ -1,0 +1,6 @@
+mod Lists
+pub mod KnownSorted
+mod Places
+pub mod KnownFound
+mod United
+mod Range

@@ -1,0 +1,135 @@
+ghost use Rattle.std.specs.Prelude.{◌≡◌, ◌∷◌, ◌++◌, IfOk};
+ghost use Rattle.std.specs.Arc.{arc_value};
+
+use crate::tree::{Parts, Tree};
+use std::alloc::{AllocError, Global};
+use std::sync::Arc;
+
+/// One side of a fork is at most this many times as heavy as the other.
+const DELTA: usize = 3;
+
+/// One rotation serves where the inner part is less than this many times as heavy as the outer one.
+const RATIO: usize = 2;
+
+/// The tree of these parts, of whatever weights. It shares what it can of them.
+pub(crate) fn joined<T: Drop>(
+    alloc: Global,
+    left: &Tree<T>,
+    item: &Arc<T>,
+    right: &Tree<T>,
+) -> Result<Tree<T>, AllocError>
+    ensures { IfOk result (λ tree. tree ≡ left.now ++ arc_value item.now ∷ right.now) }
+{
+    if is_heavy(left, right) {
+        if let Some(parts) = left.parts() {
+            let right = joined(alloc, parts.right, item, right)?;
+            return balanced(alloc, parts.left, parts.item, &right);
+        }
+    }
+    if is_heavy(right, left) {
+        if let Some(parts) = right.parts() {
+            let left = joined(alloc, left, item, parts.left)?;
+            return balanced(alloc, &left, parts.item, parts.right);
+        }
+    }
+    Tree::fork(alloc, left, item, right)
+}
+
+/// One list behind another.
+pub(crate) fn appended<T: Drop>(
+    alloc: Global,
+    left: &Tree<T>,
+    right: &Tree<T>,
+) -> Result<Tree<T>, AllocError>
+    ensures { IfOk result (λ tree. tree ≡ left.now ++ right.now) }
+{
+    match right.parts() {
+        None => left.copy(),
+        Some(parts) => {
+            let left = appended(alloc, left, parts.left)?;
+            joined(alloc, &left, parts.item, parts.right)
+        }
+    }
+}
+
+fn weight<T: Drop>(tree: &Tree<T>) -> usize {
+    tree.len().saturating_add(1)
+}
+
+/// Whether one part is too heavy beside the other.
+fn is_heavy<T: Drop>(one: &Tree<T>, other: &Tree<T>) -> bool {
+    weight(one) > weight(other).saturating_mul(DELTA)
+}
+
+/// Whether two rotations are wanted: the inner part is heavy beside the outer one.
+fn is_inner_heavy<T: Drop>(inner: &Tree<T>, outer: &Tree<T>) -> bool {
+    weight(inner) >= weight(outer).saturating_mul(RATIO)
+}
+
+/// The tree of parts of which one may be a little too heavy.
+fn balanced<T: Drop>(
+    alloc: Global,
+    left: &Tree<T>,
+    item: &Arc<T>,
+    right: &Tree<T>,
+) -> Result<Tree<T>, AllocError>
+    ensures { IfOk result (λ tree. tree ≡ left.now ++ arc_value item.now ∷ right.now) }
+{
+    if is_heavy(left, right) {
+        if let Some(parts) = left.parts() {
+            return left_raised(alloc, parts, item, right);
+        }
+    }
+    if is_heavy(right, left) {
+        if let Some(parts) = right.parts() {
+            return right_raised(alloc, left, item, parts);
+        }
+    }
+    Tree::fork(alloc, left, item, right)
+}
+
+/// A rotation that brings up the left part, or what is inside it.
+fn left_raised<T: Drop>(
+    alloc: Global,
+    left: Parts<T>,
+    item: &Arc<T>,
+    right: &Tree<T>,
+) -> Result<Tree<T>, AllocError>
+    ensures { IfOk result (λ tree. tree ≡ left.entry.left.now ++ arc_value left.entry.item.now
+        ∷ left.entry.right.now ++ arc_value item.now ∷ right.now) }
+{
+    match left.right.parts() {
+        Some(inner) if is_inner_heavy(left.right, left.left) => {
+            let left = Tree::fork(alloc, left.left, left.item, inner.left)?;
+            let right = Tree::fork(alloc, inner.right, item, right)?;
+            Tree::fork(alloc, &left, inner.item, &right)
+        }
+        _ => {
+            let right = Tree::fork(alloc, left.right, item, right)?;
+            Tree::fork(alloc, left.left, left.item, &right)
+        }
+    }
+}
+
+/// A rotation that brings up the right part, or what is inside it.
+fn right_raised<T: Drop>(
+    alloc: Global,
+    left: &Tree<T>,
+    item: &Arc<T>,
+    right: Parts<T>,
+) -> Result<Tree<T>, AllocError>
+    ensures { IfOk result (λ tree. tree ≡ (left.now ++ arc_value item.now
+        ∷ right.entry.left.now) ++ arc_value right.entry.item.now ∷ right.entry.right.now) }
+{
+    match right.left.parts() {
+        Some(inner) if is_inner_heavy(right.left, right.right) => {
+            let left = Tree::fork(alloc, left, item, inner.left)?;
+            let right = Tree::fork(alloc, inner.right, right.item, right.right)?;
+            Tree::fork(alloc, &left, inner.item, &right)
+        }
+        _ => {
+            let left = Tree::fork(alloc, left, item, right.left)?;
+            Tree::fork(alloc, &left, right.item, right.right)
+        }
+    }
+}
