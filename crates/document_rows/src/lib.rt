@@ -1,0 +1,21 @@
+//! Examples of the document's crates. Each test is a table of steps, with what they answer.
+//!
+//! It holds tests alone, in a crate of their own so that the crates are checked without them.
+#![tactic(auto)]
+
+#[cfg(test)]
+mod executions;
+#[cfg(test)]
+mod graphs;
+#[cfg(test)]
+mod histories;
+#[cfg(test)]
+mod live_versions;
+#[cfg(test)]
+mod maps;
+#[cfg(test)]
+mod reports;
+#[cfg(test)]
+mod shown;
+#[cfg(test)]
+mod sketch;

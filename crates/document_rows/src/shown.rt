@@ -1,0 +1,314 @@
+use crate::sketch::{Sketch, bare, named, of_fact, reports, told};
+use pide_base::{ExecId, Range};
+use report_markup::ReportKind::{Command, Def, Error, Formula, Proved, Ref, State, Theory};
+use report_markup::{Report, write_reports};
+use snapshots::{AssignedPart, Snapshot, are_movable, snapshot, write_shown};
+use sqlite_items::Items;
+use std::alloc::{AllocError, Global};
+use std::test::Fail;
+use text_edits::{Edit, Text};
+
+/// A part told in a line: its execution, its command's span, and its reports once it is finished.
+type Row = (u64, (usize, usize), Option<&'static [Sketch]>);
+
+/// A pending edit told in a line.
+#[derive(Clone, Copy)]
+enum Change {
+    Insert(usize, &'static str),
+    Remove(usize, &'static str),
+}
+
+fn edits(alloc: Global, changes: &[Change]) -> Result<Vec<Edit>, AllocError> {
+    let mut edits = Vec::new(alloc);
+    for change in changes {
+        edits.push(match change {
+            Change::Insert(start, text) => Edit::Insert {
+                start: *start,
+                text: Text::from_str(alloc, text)?,
+            },
+            Change::Remove(start, text) => Edit::Remove {
+                start: *start,
+                text: Text::from_str(alloc, text)?,
+            },
+        })?;
+    }
+    Ok(edits)
+}
+
+fn found(alloc: Global, rows: &[Row]) -> Result<Vec<Vec<Report>>, AllocError> {
+    let mut found = Vec::new(alloc);
+    for (_, _, told) in rows {
+        found.push(reports(alloc, told.unwrap_or(&[]))?)?;
+    }
+    Ok(found)
+}
+
+fn part<'a>(row: &Row, found: &'a Vec<Report>) -> Option<AssignedPart<'a>> {
+    let (exec, (start, stop), told) = *row;
+    Some(AssignedPart {
+        exec: ExecId::new(exec)?,
+        span: Range { start, stop },
+        reports: told.map(|_| found.as_slice()),
+    })
+}
+
+fn parts<'a>(
+    alloc: Global,
+    rows: &[Row],
+    found: &'a [Vec<Report>],
+) -> Result<Items<AssignedPart<'a>>, AllocError> {
+    let mut parts = Items::new(alloc);
+    for (row, reports) in rows.iter().zip(found) {
+        if let Some(part) = part(row, reports) {
+            parts.push(part)?;
+        }
+    }
+    Ok(parts)
+}
+
+/// What a snapshot shows, as YXML, and its pending executions and whether it is outdated, as text.
+fn summary(alloc: Global, snapshot: &Snapshot<'_>) -> Result<(String, String), Fail> {
+    let mut shown = String::new(alloc);
+    write_shown(&mut shown, snapshot.reports.as_slice())?;
+    let mut rest = String::new(alloc);
+    for exec in &snapshot.pending {
+        rest.push_str(format!(in alloc; "{} ", exec.number())?.as_str())?;
+    }
+    rest.push_str(if snapshot.outdated { "outdated" } else { "" })?;
+    Ok((shown, rest))
+}
+
+fn taken(alloc: Global, rows: &[Row], changes: &[Change]) -> Result<(String, String), Fail> {
+    let found = found(alloc, rows)?;
+    let parts = parts(alloc, rows, found.as_slice())?;
+    let edits = edits(alloc, changes)?;
+    if !are_movable(parts.as_slice(), edits.as_slice()) {
+        return Ok((String::new(alloc), String::from_str(alloc, "not movable")?));
+    }
+    let snapshot = snapshot(alloc, parts.as_slice(), edits.as_slice())?;
+    summary(alloc, &snapshot)
+}
+
+fn yxml(alloc: Global, sketches: &[Sketch]) -> Result<String, Fail> {
+    let mut out = String::new(alloc);
+    write_reports(&mut out, reports(alloc, sketches)?.as_slice())?;
+    Ok(out)
+}
+
+/// `theory A begin lemma l: "P --> P" by (impI h h) end`, all finished.
+const PROVED: [Row; 5] = [
+    (
+        1,
+        (0, 14),
+        Some(&[named!(0, 6, Command, "theory"), named!(7, 8, Theory, "A")]),
+    ),
+    (
+        2,
+        (15, 33),
+        Some(&[
+            named!(0, 5, Command, "lemma"),
+            of_fact!(6, 7, Def, "l"),
+            told!(9, 18, Formula, "P --> P"),
+        ]),
+    ),
+    (3, (34, 47), Some(&[named!(0, 2, Command, "by")])),
+    (
+        3,
+        (34, 47),
+        Some(&[bare!(0, 13, Proved), named!(11, 12, Ref, "h")]),
+    ),
+    (4, (48, 51), Some(&[named!(0, 3, Command, "end")])),
+];
+
+#[test]
+fn a_theory_and_edits_of_it(rt: HostRuntime) -> Result<(), Fail> {
+    let rows: [(&[Change], &[Sketch], &str); 4] = [
+        (
+            &[],
+            &[
+                named!(0, 6, Command, "theory"),
+                named!(7, 8, Theory, "A"),
+                named!(15, 20, Command, "lemma"),
+                of_fact!(21, 22, Def, "l"),
+                told!(24, 33, Formula, "P --> P"),
+                bare!(34, 47, Proved),
+                named!(34, 36, Command, "by"),
+                named!(45, 46, Ref, "h"),
+                named!(48, 51, Command, "end"),
+            ],
+            "",
+        ),
+        (
+            &[Change::Insert(15, "zz")],
+            &[
+                named!(0, 6, Command, "theory"),
+                named!(7, 8, Theory, "A"),
+                named!(17, 22, Command, "lemma"),
+                of_fact!(23, 24, Def, "l"),
+                told!(26, 35, Formula, "P --> P"),
+                bare!(36, 49, Proved),
+                named!(36, 38, Command, "by"),
+                named!(47, 48, Ref, "h"),
+                named!(50, 53, Command, "end"),
+            ],
+            "outdated",
+        ),
+        (
+            &[Change::Insert(8, "zz")],
+            &[
+                named!(0, 6, Command, "theory"),
+                named!(7, 10, Theory, "A"),
+                named!(17, 22, Command, "lemma"),
+                of_fact!(23, 24, Def, "l"),
+                told!(26, 35, Formula, "P --> P"),
+                bare!(36, 49, Proved),
+                named!(36, 38, Command, "by"),
+                named!(47, 48, Ref, "h"),
+                named!(50, 53, Command, "end"),
+            ],
+            "outdated",
+        ),
+        (
+            &[Change::Remove(6, " A ")],
+            &[
+                named!(0, 6, Command, "theory"),
+                named!(12, 17, Command, "lemma"),
+                of_fact!(18, 19, Def, "l"),
+                told!(21, 30, Formula, "P --> P"),
+                bare!(31, 44, Proved),
+                named!(31, 33, Command, "by"),
+                named!(42, 43, Ref, "h"),
+                named!(45, 48, Command, "end"),
+            ],
+            "outdated",
+        ),
+    ];
+    for (changes, shown, rest) in rows {
+        let taken = taken(rt.alloc(), &PROVED, changes)?;
+        assert_eq!(rt; taken.0.as_str(), yxml(rt.alloc(), shown)?.as_str());
+        assert_eq!(rt; taken.1.as_str(), rest);
+    }
+    Ok(())
+}
+
+/// The parts, what is shown of them, and which executions are pending.
+fn check(
+    rt: &impl std::process::Abort,
+    alloc: Global,
+    rows: &[Row],
+    shown: &[Sketch],
+    rest: &str,
+) -> Result<(), Fail> {
+    let taken = taken(alloc, rows, &[])?;
+    assert_eq!(rt; taken.0.as_str(), yxml(alloc, shown)?.as_str());
+    assert_eq!(rt; taken.1.as_str(), rest);
+    Ok(())
+}
+
+#[test]
+fn nothing_is_finished(rt: HostRuntime) -> Result<(), Fail> {
+    let rows = [
+        (3, (28, 32), None),
+        (1, (0, 14), None),
+        (2, (15, 27), None),
+        (5, (46, 50), None),
+        (4, (33, 45), None),
+        (6, (51, 54), None),
+    ];
+    check(&rt, rt.alloc(), &rows, &[], "1 2 3 4 5 6 ")
+}
+
+#[test]
+fn a_wrong_proof_and_a_right_one(rt: HostRuntime) -> Result<(), Fail> {
+    const ROWS: [Row; 5] = [
+        (3, (28, 32), Some(&[named!(0, 2, Command, "by")])),
+        (3, (28, 32), Some(&[told!(0, 4, Error, "unknown name x")])),
+        (5, (46, 50), Some(&[named!(0, 2, Command, "by")])),
+        (
+            5,
+            (46, 50),
+            Some(&[bare!(0, 4, Proved), of_fact!(3, 4, Ref, "l")]),
+        ),
+        (6, (51, 54), Some(&[named!(0, 3, Command, "end")])),
+    ];
+    let shown = [
+        told!(28, 32, Error, "unknown name x"),
+        named!(28, 30, Command, "by"),
+        bare!(46, 50, Proved),
+        named!(46, 48, Command, "by"),
+        of_fact!(49, 50, Ref, "l"),
+        named!(51, 54, Command, "end"),
+    ];
+    check(&rt, rt.alloc(), &ROWS, &shown, "")
+}
+
+#[test]
+fn states_that_are_printed(rt: HostRuntime) -> Result<(), Fail> {
+    const ROWS: [Row; 4] = [
+        (
+            1,
+            (0, 14),
+            Some(&[named!(0, 6, Command, "theory"), named!(7, 8, Theory, "A")]),
+        ),
+        (3, (0, 14), Some(&[told!(0, 14, State, "theory A")])),
+        (
+            2,
+            (15, 27),
+            Some(&[
+                named!(0, 5, Command, "axiom"),
+                of_fact!(6, 7, Def, "a"),
+                told!(9, 12, Formula, "P"),
+            ]),
+        ),
+        (4, (15, 27), Some(&[told!(0, 12, State, "theory A")])),
+    ];
+    let shown = [
+        told!(0, 14, State, "theory A"),
+        named!(0, 6, Command, "theory"),
+        named!(7, 8, Theory, "A"),
+        told!(15, 27, State, "theory A"),
+        named!(15, 20, Command, "axiom"),
+        of_fact!(21, 22, Def, "a"),
+        told!(24, 27, Formula, "P"),
+    ];
+    check(&rt, rt.alloc(), &ROWS, &shown, "")
+}
+
+#[test]
+fn an_open_fork_is_pending_beside_what_its_evaluation_shows(rt: HostRuntime) -> Result<(), Fail> {
+    const ROWS: [Row; 4] = [
+        (2, (15, 33), Some(&[named!(0, 5, Command, "lemma")])),
+        (3, (34, 47), Some(&[named!(0, 2, Command, "by")])),
+        (3, (34, 47), None),
+        (4, (48, 51), Some(&[named!(0, 3, Command, "end")])),
+    ];
+    let shown = [
+        named!(15, 20, Command, "lemma"),
+        named!(34, 36, Command, "by"),
+        named!(48, 51, Command, "end"),
+    ];
+    check(&rt, rt.alloc(), &ROWS, &shown, "3 ")
+}
+
+/// Two nested ranges become equal, so their kinds decide, and a third becomes empty.
+#[test]
+fn an_edit_that_changes_the_order(rt: HostRuntime) -> Result<(), Fail> {
+    const ROWS: [Row; 1] = [(
+        1,
+        (10, 20),
+        Some(&[
+            bare!(0, 1, Def),
+            bare!(1, 9, Ref),
+            bare!(2, 9, Command),
+            bare!(2, 9, Error),
+        ]),
+    )];
+    let shown = [
+        bare!(10, 17, Command),
+        bare!(10, 17, Error),
+        bare!(10, 17, Ref),
+    ];
+    let taken = taken(rt.alloc(), &ROWS, &[Change::Remove(10, "ab")])?;
+    assert_eq!(rt; taken.0.as_str(), yxml(rt.alloc(), &shown)?.as_str());
+    Ok(())
+}

@@ -1,0 +1,4 @@
+mod Has
+mod Exactly
+mod Steps
+mod RoundLemmas
