@@ -13,7 +13,7 @@ use Rattle.hist_lock.specs.Rule.{ticket, AtStage, IsGone, Knows, Kept}
 use Rattle.hist_lock.specs.Steps.{absorbed, spent_seat}
 use Rattle.hist_lock.specs.Callers.{brings}
 use Rattle.hist_lock.proofs.Seats.{at_inside, stays, tickets_set}
-use Rattle.hist_lock.proofs.Kept.{idle_live, gone_stays, same_place}
+use Rattle.hist_lock.proofs.Kept.{idle_live, gone_stays, same_place, reseated}
 
 module _ {S E : Type 0} (entries : S → List E) (whose : E → ℕ) (legal : List E → Type 0) where
   abbrev Rule : State (Option S) (Doing E) → Type 0
@@ -44,31 +44,22 @@ module _ {S E : Type 0} (entries : S → List E) (whose : E → ℕ) (legal : Li
         spent = (u, ap (get_elem? vs') p.caller ∙ set_here vs other u (at_inside vs other e there), refl);
         mine = ap (λ c. own whose c k.log) p.caller ∙ p.mine;
       } in
-      let P : Joined E → Type 0 = IsGone whose legal k.log vs' in record {
-        log = k.log;
-        drawn = k.drawn;
-        served = k.served;
-        owner = k.owner;
-        phase = k.phase;
-        words = k.words;
-        short = k.short;
-        legal_log = k.legal_log;
-        few = omega arith;
-        counted = omega arith;
-        placed = same_place entries whose legal s.homes vs k.log k.served other e u k.phase there (λ f. let h : Idle ≡ Holds k.served = sym e_idle ∙ f in cc)
-            (same_place entries whose legal s.homes s.views k.log k.served id d w k.phase at (λ f. let h : Idle ≡ Holds k.served = sym d_idle ∙ f in cc) k.placed);
-        staged = stays (λ j f. AtStage k.log k.drawn k.served k.owner k.phase j f.view.seen f.stage) vs other u tt (λ j f _ a.
-            stays (λ j f. AtStage k.log k.drawn k.served k.owner k.phase j f.view.seen f.stage) s.views id w (subst (AtStage k.log k.drawn k.served k.owner k.phase id d.view.seen) (sym d_idle) tt) (λ j f _ a. k.staged j f a) j f a);
-        known = stays (λ j f. f.stage ≢ Spent → Knows whose legal k.log vs' j f) vs other u (λ lives. absurd (lives refl)) (λ j f _ a.
-            stays (λ j f. f.stage ≢ Spent → Knows whose legal k.log vs' j f) s.views id w
-            (λ _. record {
-              caller = o.caller;
-              seen = o.seen;
-              told = p.seen;
-              mine = o.mine;
-              joined = All-append P d.view.joined (brings e.view) (λ i x l. gone _ (o.joined i x l)) (All-cons P _ e.view.joined ended (λ i x l. gone _ (p.joined i x l)));
-              made = λ z. long ∙ o.made z;
-            })
-            (λ j f _ b lives. knows_gone k.log s.views vs' j f long gone (k.known j f b lives)) j f a);
-        no_other = λ c l. k.no_other c (omega arith);
-      }
+      let P : Joined E → Type 0 = IsGone whose legal k.log vs' in reseated entries whose legal s k vs'
+      (omega arith)
+      (omega arith)
+      (same_place entries whose legal s.homes vs k.log k.served other e u k.phase there (λ f. let h : Idle ≡ Holds k.served = sym e_idle ∙ f in cc)
+      (same_place entries whose legal s.homes s.views k.log k.served id d w k.phase at (λ f. let h : Idle ≡ Holds k.served = sym d_idle ∙ f in cc) k.placed))
+      (stays (λ j f. AtStage k.log k.drawn k.served k.owner k.phase j f.view.seen f.stage) vs other u tt (λ j f _ a.
+      stays (λ j f. AtStage k.log k.drawn k.served k.owner k.phase j f.view.seen f.stage) s.views id w (subst (AtStage k.log k.drawn k.served k.owner k.phase id d.view.seen) (sym d_idle) tt) (λ j f _ a. k.staged j f a) j f a))
+      (stays (λ j f. f.stage ≢ Spent → Knows whose legal k.log vs' j f) vs other u (λ lives. absurd (lives refl)) (λ j f _ a.
+      stays (λ j f. f.stage ≢ Spent → Knows whose legal k.log vs' j f) s.views id w
+      (λ _. record {
+        caller = o.caller;
+        seen = o.seen;
+        told = p.seen;
+        mine = o.mine;
+        joined = All-append P d.view.joined (brings e.view) (λ i x l. gone _ (o.joined i x l)) (All-cons P _ e.view.joined ended (λ i x l. gone _ (p.joined i x l)));
+        made = λ z. long ∙ o.made z;
+      })
+      (λ j f _ b lives. knows_gone k.log s.views vs' j f long gone (k.known j f b lives)) j f a))
+      (λ c l. k.no_other c (omega arith))

@@ -98,3 +98,27 @@ module _ {S E : Type 0} (entries : S → List E) (whose : E → ℕ) (legal : Li
   same_place homes vs log served id d w (out j) at waits h =
       let other : j ≢ id = λ e. waits (ap (λ (x : Doing E). x.stage) (at_same vs id j d h.0 (sym e) at h.1) ∙ h.2) in
       (h.0, set_else vs id j w other ∙ h.1, h.2)
+
+  -- the same history and queue, with other seats
+  pub reseated : (s : State (Option S) (Doing E)) (k : Kept entries whose legal s) (vs : List (Doing E))
+      → length vs ≤ 2 ^ 32 → k.served + tickets vs ≡ k.drawn → InPlace entries s.homes vs k.log k.served k.phase
+      → ((j : ℕ) (d : Doing E) → get_elem? vs j ≡ some d → AtStage k.log k.drawn k.served k.owner k.phase j d.view.seen d.stage)
+      → ((j : ℕ) (d : Doing E) → get_elem? vs j ≡ some d → d.stage ≢ Spent → Knows whose legal k.log vs j d)
+      → ((c : ℕ) → length vs ≤ c → own whose c k.log ≡ [])
+      → Kept entries whose legal record { words = s.words; homes = s.homes; views = vs }
+  reseated s k vs few counted placed at_stages known no_other = record {
+    log = k.log;
+    drawn = k.drawn;
+    served = k.served;
+    owner = k.owner;
+    phase = k.phase;
+    words = k.words;
+    short = k.short;
+    legal_log = k.legal_log;
+    few = few;
+    counted = counted;
+    placed = placed;
+    staged = at_stages;
+    known = known;
+    no_other = no_other;
+  }

@@ -1,11 +1,11 @@
-pub mod Entries
-pub mod Seats
-pub mod Kept
-pub mod Tickets
-pub mod Turns
-pub mod Appends
-pub mod Sights
-pub mod Splits
-pub mod Joins
-pub mod Bounds
-pub mod Joinings
+mod Entries
+mod Seats
+mod Kept
+mod Tickets
+mod Turns
+mod Appends
+mod Sights
+mod Splits
+mod Joins
+mod Bounds
+pub mod KnownJoinings

@@ -12,7 +12,7 @@ use Rattle.hist_lock.specs.declared.view.Stage.TheVariants.{Idle, Holds, Spent}
 use Rattle.hist_lock.specs.Rule.{Phase, home, out, ticket, tickets, AtStage, IsGone, Knows, InPlace, Kept}
 use Rattle.hist_lock.specs.Steps.{parent_seat, child_seat}
 use Rattle.hist_lock.proofs.Seats.{at_inside, stays, tickets_set}
-use Rattle.hist_lock.proofs.Kept.{idle_live, gone_stays, same_place}
+use Rattle.hist_lock.proofs.Kept.{idle_live, gone_stays, same_place, reseated}
 
 at_snoc : {A : Type 0} (l : List A) (a b : A) (j : ℕ) → get_elem? (l ++ a ∷ []) j ≡ some b → (get_elem? l j ≡ some b) ⊎ ((j ≡ length l) × (a ≡ b))
 at_snoc [] a b zero e = inr (refl, some-injective a b e)
@@ -41,46 +41,37 @@ module _ {S E : Type 0} (entries : S → List E) (whose : E → ℕ) (legal : Li
       let w : Doing E = parent_seat d in let u : Doing E = child_seat d in let vs : List (Doing E) = set s.views id w in let long : length vs ≡ length s.views = length-set s.views id w in
       let longer : length (vs ++ u ∷ []) ≡ length s.views + 1 = omega (arith, length-append vs (u ∷ [])) in
       let same = tickets_set s.views id d w at in let counted = k.counted in let few = k.few in
-      let gone = λ (r : Joined E) (g : IsGone whose legal k.log s.views r). gone_longer k.log vs u r (gone_stays entries whose legal k.log k.log s.views id d w at live (λ c n. refl) r g) in record {
-        log = k.log;
-        drawn = k.drawn;
-        served = k.served;
-        owner = k.owner;
-        phase = k.phase;
-        words = k.words;
-        short = k.short;
-        legal_log = k.legal_log;
-        few = omega arith;
-        counted = omega (arith, tickets-snoc vs u);
-        placed = place_longer s.homes vs u k.log k.served k.phase (same_place entries whose legal s.homes s.views k.log k.served id d w k.phase at (λ e. let h : Idle ≡ Holds k.served = sym idle ∙ e in cc) k.placed);
-        staged = λ j e there. ⊎_elim
-            (λ (h : get_elem? vs j ≡ some e). stays (λ j f. AtStage k.log k.drawn k.served k.owner k.phase j f.view.seen f.stage) s.views id w (subst (AtStage k.log k.drawn k.served k.owner k.phase id d.view.seen) (sym idle) tt) (λ j f _ a. k.staged j f a) j e h)
-            (λ (h : (j ≡ length vs) × (u ≡ e)). subst (λ (f : Doing E). AtStage k.log k.drawn k.served k.owner k.phase j f.view.seen f.stage) h.1 tt) (at_snoc vs u e j there);
-        known = λ j e there lives. ⊎_elim
-            (λ (h : get_elem? vs j ≡ some e). stays (λ j f. f.stage ≢ Spent → Knows whose legal k.log (vs ++ u ∷ []) j f) s.views id w
-            (λ _. record {
-              caller = o.caller;
-              seen = o.seen;
-              told = o.told;
-              mine = o.mine;
-              joined = λ i x l. gone _ (o.joined i x l);
-              made = λ _. omega arith;
-            })
-            (λ j f other a lively. let b = k.known j f a lively in record {
-              caller = b.caller;
-              seen = b.seen;
-              told = b.told;
-              mine = b.mine;
-              joined = λ i x l. gone _ (b.joined i x l);
-              made = λ z. absurd (other (z ∙ sym is_first));
-            }) j e h lives)
-            (λ (h : (j ≡ length vs) × (u ≡ e)). subst (λ (f : Doing E). Knows whose legal k.log (vs ++ u ∷ []) j f) h.1 (let at_end = h.0 in record {
-              caller = omega arith;
-              seen = o.seen;
-              told = o.seen;
-              mine = k.no_other j (omega arith);
-              joined = All-nil (IsGone whose legal k.log (vs ++ u ∷ []));
-              made = λ z. absurd (omega arith);
-            })) (at_snoc vs u e j there);
-        no_other = λ c l. k.no_other c (omega arith);
-      }
+      let gone = λ (r : Joined E) (g : IsGone whose legal k.log s.views r). gone_longer k.log vs u r (gone_stays entries whose legal k.log k.log s.views id d w at live (λ c n. refl) r g) in reseated entries whose legal s k (vs ++ u ∷ [])
+      (omega arith)
+      (omega (arith, tickets-snoc vs u))
+      (place_longer s.homes vs u k.log k.served k.phase (same_place entries whose legal s.homes s.views k.log k.served id d w k.phase at (λ e. let h : Idle ≡ Holds k.served = sym idle ∙ e in cc) k.placed))
+      (λ j e there. ⊎_elim
+      (λ (h : get_elem? vs j ≡ some e). stays (λ j f. AtStage k.log k.drawn k.served k.owner k.phase j f.view.seen f.stage) s.views id w (subst (AtStage k.log k.drawn k.served k.owner k.phase id d.view.seen) (sym idle) tt) (λ j f _ a. k.staged j f a) j e h)
+      (λ (h : (j ≡ length vs) × (u ≡ e)). subst (λ (f : Doing E). AtStage k.log k.drawn k.served k.owner k.phase j f.view.seen f.stage) h.1 tt) (at_snoc vs u e j there))
+      (λ j e there lives. ⊎_elim
+      (λ (h : get_elem? vs j ≡ some e). stays (λ j f. f.stage ≢ Spent → Knows whose legal k.log (vs ++ u ∷ []) j f) s.views id w
+      (λ _. record {
+        caller = o.caller;
+        seen = o.seen;
+        told = o.told;
+        mine = o.mine;
+        joined = λ i x l. gone _ (o.joined i x l);
+        made = λ _. omega arith;
+      })
+      (λ j f other a lively. let b = k.known j f a lively in record {
+        caller = b.caller;
+        seen = b.seen;
+        told = b.told;
+        mine = b.mine;
+        joined = λ i x l. gone _ (b.joined i x l);
+        made = λ z. absurd (other (z ∙ sym is_first));
+      }) j e h lives)
+      (λ (h : (j ≡ length vs) × (u ≡ e)). subst (λ (f : Doing E). Knows whose legal k.log (vs ++ u ∷ []) j f) h.1 (let at_end = h.0 in record {
+        caller = omega arith;
+        seen = o.seen;
+        told = o.seen;
+        mine = k.no_other j (omega arith);
+        joined = All-nil (IsGone whose legal k.log (vs ++ u ∷ []));
+        made = λ z. absurd (omega arith);
+      })) (at_snoc vs u e j there))
+      (λ c l. k.no_other c (omega arith))

@@ -13,7 +13,8 @@ abbrev pub SeesMore : {E : Type 0} → View E → View E → Type 0
 SeesMore v w = w ≡ record v { seen = w.seen }
 
 module _ {S E : Type 0} (entries : S → List E) (whose : E → ℕ) (legal : List E → Type 0) where
-  -- the state stands for a legal list that begins with what was seen, and the caller's own entries in it are these
+  -- the state stands for a legal list that begins with what was seen, and the caller's own entries
+  -- in it are these
   pub record Fits (v : View E) (x : S) : Type 0 where
     pub is_legal : legal (entries x)
     pub seen : IsPrefix v.seen (entries x)

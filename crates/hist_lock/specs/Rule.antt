@@ -43,7 +43,8 @@ module _ {E : Type 0} where
       × (phase ≡ out j) × (seen ≡ log)
   AtStage log drawn served owner phase j seen Spent = Unit {0}
 
-module _ {E : Type 0} (whose : E → ℕ) (legal : List E → Type 0) (log : List E) (seats : List (Doing E)) where
+module _ {E : Type 0} (whose : E → ℕ) (legal : List E → Type 0) (log : List E)
+    (seats : List (Doing E)) where
   -- a caller has ended, with these entries
   pub record IsGone (r : Joined E) : Type 0 where
     pub spent : (d : Doing E) × (get_elem? seats r.caller ≡ some d) × (d.stage ≡ Spent)
@@ -61,11 +62,15 @@ module _ {E : Type 0} (whose : E → ℕ) (legal : List E → Type 0) (log : Lis
 module _ {S E : Type 0} (entries : S → List E) where
   -- at home the state stands for the history; a seat that it is out with has the turn
   abbrev pub InPlace : List (maybe.Option (Option S)) → List (Doing E) → List E → ℕ → Phase → Type 0
-  InPlace homes seats log served home = (x : S) × (get_elem? homes 0 ≡ some (some (Some x))) × (entries x ≡ log)
-  InPlace homes seats log served (out j) = (d : Doing E) × (get_elem? seats j ≡ some d) × (d.stage ≡ Holds served)
+  InPlace homes seats log served home =
+      (x : S) × (get_elem? homes 0 ≡ some (some (Some x))) × (entries x ≡ log)
+  InPlace homes seats log served (out j) =
+      (d : Doing E) × (get_elem? seats j ≡ some d) × (d.stage ≡ Holds served)
 
--- there is one legal history, each seat knows its part of it, and it has entries of these seats alone
-pub record Kept {S E : Type 0} (entries : S → List E) (whose : E → ℕ) (legal : List E → Type 0) (s : State (Option S) (Doing E)) : Type 0 where
+-- there is one legal history, each seat knows its part of it, and it has entries of these seats
+-- alone
+pub record Kept {S E : Type 0} (entries : S → List E) (whose : E → ℕ) (legal : List E → Type 0)
+    (s : State (Option S) (Doing E)) : Type 0 where
   pub log : List E
   pub drawn : ℕ
   pub served : ℕ
@@ -77,6 +82,8 @@ pub record Kept {S E : Type 0} (entries : S → List E) (whose : E → ℕ) (leg
   pub few : length s.views ≤ 2 ^ 32
   pub counted : served + tickets s.views ≡ drawn
   pub placed : InPlace entries s.homes s.views log served phase
-  pub staged : (j : ℕ) (d : Doing E) → get_elem? s.views j ≡ some d → AtStage log drawn served owner phase j d.view.seen d.stage
-  pub known : (j : ℕ) (d : Doing E) → get_elem? s.views j ≡ some d → d.stage ≢ Spent → Knows whose legal log s.views j d
+  pub staged : (j : ℕ) (d : Doing E) → get_elem? s.views j ≡ some d
+      → AtStage log drawn served owner phase j d.view.seen d.stage
+  pub known : (j : ℕ) (d : Doing E) → get_elem? s.views j ≡ some d → d.stage ≢ Spent
+      → Knows whose legal log s.views j d
   pub no_other : (c : ℕ) → length s.views ≤ c → own whose c log ≡ []

@@ -35,16 +35,21 @@ module _ {E : Type 0} where
   abbrev pub spent_seat : Doing E
   spent_seat = record { stage = Spent; view = spent_view; told = [] }
 
-  -- the old and the new seat after a split
+  -- the old seat after a split
   abbrev pub parent_seat : Doing E → Doing E
   parent_seat d = record d { view = parent d.view }
 
+  -- the new seat after it
   abbrev pub child_seat : Doing E → Doing E
   child_seat d = record { stage = Idle; view = child d.view; told = d.view.seen }
 
   -- the seat d after the seat e was joined into it
   abbrev pub absorbed : Doing E → Doing E → Doing E
-  absorbed d e = record d { view = record d.view { joined = d.view.joined ++ brings e.view }; told = e.view.seen }
+  absorbed d e =
+      record d {
+        view = record d.view { joined = d.view.joined ++ brings e.view };
+        told = e.view.seen;
+      }
 
 -- a seat's view, with the slot that it holds
 abbrev pub Sat : Type 0 → Type 0 → Type 0
@@ -101,11 +106,15 @@ module _ {S E : Type 0} (entries : S → List E) (whose : E → ℕ) (legal : Li
   -- the seat holds the state x, which fits what the caller knew
   abbrev pub TakesTurn : Sat S E → Sat S E → Type 0
   TakesTurn m m' = (x : S) × Fits entries whose legal m.0.view x
-      × (m' ≡ (staged (saw m.0 (entries x) m.0.view.mine) (Holds (ticket_of m.0.stage)), (0, Some x) ∷ m.1))
+      × (m' ≡ (
+        staged (saw m.0 (entries x) m.0.view.mine) (Holds (ticket_of m.0.stage)),
+        (0, Some x) ∷ m.1,
+      ))
 
   -- a look at the ticket that is served
   abbrev pub looked : Step (Option S) → Sat S E → ℕ → Sat S E → Type 0
-  looked st m r m' = let mine = ticket_of m.0.stage % 2 ^ 64 in (r ≡ mine → TakesTurn m m') × (r ≢ mine → m' ≡ m)
+  looked st m r m' = let mine = ticket_of m.0.stage % 2 ^ 64 in
+      (r ≡ mine → TakesTurn m m') × (r ≢ mine → m' ≡ m)
 
   -- the seat has seen all entries of the state that it holds, and the caller's own among them
   abbrev pub seeing : Doing E → S → Doing E
@@ -134,4 +143,5 @@ module _ {S E : Type 0} (entries : S → List E) (whose : E → ℕ) (legal : Li
 
   -- of what was seen and what the seat was told of, the longer list is seen
   abbrev pub learned : Step (Option S) → Sat S E → ℕ → Sat S E → Type 0
-  learned st m r m' = (xs : List E) × IsLonger m.0.view.seen m.0.told xs × legal xs × (m' ≡ (saw m.0 xs m.0.view.mine, m.1))
+  learned st m r m' = (xs : List E) × IsLonger m.0.view.seen m.0.told xs × legal xs
+      × (m' ≡ (saw m.0 xs m.0.view.mine, m.1))

@@ -20,7 +20,8 @@ impl<S: State> Shared<S> {
         requires own { IsPassOf self.now pass.old }
         requires may { May S.entries S.whose S.legal (C.asks call) (C.gives call) (view pass.old) }
         ensures own { IsPassOf self.now pass.new }
-        ensures turned { Turned S.entries S.whose S.legal (C.gives call) (view pass.old) result (view pass.new) }
+        ensures turned { Turned S.entries S.whose S.legal (C.gives call) (view pass.old) result
+            (view pass.new) }
     {
         let Pass { place, count } = pass;
         let mut state = self.enter(rt, place);
@@ -40,14 +41,16 @@ impl<S: State> Shared<S> {
         ensures begins { IsPrefix (view pass.old).seen (view pass.new).seen }
         ensures more { length (view pass.old).seen < length (view pass.new).seen }
         ensures legal { S.legal (view pass.new).seen }
-        ensures mine { own S.whose (view pass.new).caller (view pass.new).seen ≡ (view pass.new).mine }
+        ensures mine { own S.whose (view pass.new).caller (view pass.new).seen
+            ≡ (view pass.new).mine }
         ensures rest { SeesMore (view pass.old) (view pass.new) }
     {
         let Pass { place, count } = pass;
         *count = self.watch(rt, place, *count);
     }
 
-    /// Makes a pass for the next caller, who has then seen as much. Only the first pass, of caller 0, is split.
+    /// Makes a pass for the next caller, who has then seen as much. Only the first pass, of caller
+    /// 0, is split.
     pub fn split(&self, pass: &mut Pass<S>) -> Pass<S>
         requires own { IsPassOf self.now pass.old }
         requires first { (view pass.old).caller ≡ 0 }

@@ -13,8 +13,8 @@ use std::alloc::{AllocFailed, Global};
 use std::snapshot::Snapshot;
 
 impl<S: State> Shared<S> {
-    /// A lock round a state whose entries are all caller 0's, and the pass of caller 0. For want of memory the state
-    /// comes back.
+    /// A lock round a state whose entries are all caller 0's, and the pass of caller 0. For want of
+    /// memory the state comes back.
     pub fn new(alloc: Global, state: S) -> Result<(Shared<S>, Pass<S>), AllocFailed<S>>
         requires legal { S.legal (S.entries state) }
         requires first { All (λ e. S.whose e ≡ 0) (S.entries state) }

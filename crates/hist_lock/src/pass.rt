@@ -5,8 +5,8 @@ ghost use Rattle.hist_lock.specs.declared.view.Stage.TheVariants.{Idle};
 use crate::rule::Place;
 use crate::state::State;
 
-/// A caller's pass. It may go to another thread, and is used by one caller at a time. A pass that is dropped, and not
-/// joined into another, keeps the lock from being closed.
+/// A caller's pass. It may go to another thread, and is used by one caller at a time. A pass that
+/// is dropped, and not joined into another, keeps the lock from being closed.
 #[derive(Drop)]
 pub struct Pass<S: State> {
     pub(crate) place: Place<S>,

@@ -1,4 +1,5 @@
-//! The queue: a caller draws a ticket, waits until it is served, has the state, and passes the turn on.
+//! The queue: a caller draws a ticket, waits until it is served, has the state, and passes the turn
+//! on.
 ghost use Rattle.std.specs.Prelude.{◌≡◌, ◌%◌, ◌^◌, ◌<◌, ◌++◌, ℕ, [], ◌∷◌, length, Some, None, IsTrue, IsFalse};
 ghost use mathlib.Core.List.{IsPrefix};
 ghost use Rattle.hist_lock.specs.Known.{Fits};
@@ -110,10 +111,12 @@ impl<S: State> Shared<S> {
         requires own { IsSeatOf self.now place.old }
         requires turn { HasTurn place.old.me }
         requires holds { Carries place.old.me None }
-        requires adds { IsTrue adds → IsOneMore S.entries S.whose S.legal place.old.me.0.view state }
+        requires adds { IsTrue adds
+            → IsOneMore S.entries S.whose S.legal place.old.me.0.view state }
         requires keeps { IsFalse adds → S.entries state ≡ place.old.me.0.view.seen }
         ensures own { IsSameSeat place.old place.new }
-        ensures added { IsTrue adds → place.new.me ≡ (staged (seeing S.entries S.whose S.legal place.old.me.0 state) Idle, []) }
+        ensures added { IsTrue adds → place.new.me
+            ≡ (staged (seeing S.entries S.whose S.legal place.old.me.0 state) Idle, []) }
         ensures kept { IsFalse adds → place.new.me ≡ (staged place.old.me.0 Idle, []) }
     {
         self.put(place, state);
@@ -131,7 +134,8 @@ impl<S: State> Shared<S> {
         ensures begins { IsPrefix place.old.me.0.view.seen place.new.me.0.view.seen }
         ensures count { result ≡ length place.new.me.0.view.seen }
         ensures legal { S.legal place.new.me.0.view.seen }
-        ensures mine { own S.whose place.old.me.0.view.caller place.new.me.0.view.seen ≡ place.old.me.0.view.mine }
+        ensures mine { own S.whose place.old.me.0.view.caller place.new.me.0.view.seen
+            ≡ place.old.me.0.view.mine }
         ensures rest { HasSeen place.old.me place.new.me }
     {
         self.table.shared.load::<Watch<S>>(place, ENTRIES)
@@ -147,7 +151,8 @@ impl<S: State> Shared<S> {
         ensures more { count < length place.new.me.0.view.seen }
         ensures count { result ≡ length place.new.me.0.view.seen }
         ensures legal { S.legal place.new.me.0.view.seen }
-        ensures mine { own S.whose place.old.me.0.view.caller place.new.me.0.view.seen ≡ place.old.me.0.view.mine }
+        ensures mine { own S.whose place.old.me.0.view.caller place.new.me.0.view.seen
+            ≡ place.old.me.0.view.mine }
         ensures rest { HasSeen place.old.me place.new.me }
     {
         for _ in rt.forever() {

@@ -1,17 +1,21 @@
-//! The rule of the table. Word 0 counts the tickets drawn, word 1 those served, word 2 the entries, and the slot is
-//! the state's place. Words count modulo 2^64.
+//! The rule of the table: what its words count, modulo 2^64, and that its slot is the state's
+//! place.
 use crate::state::State;
 use crate::view::Doing;
 use atomic_table::{Seat, TableRule};
 use std::marker::PhantomData;
 use std::snapshot::Snapshot;
 
+/// The word that counts the tickets drawn.
 pub const TICKETS: usize = 0;
 
+/// The word that counts the tickets served.
 pub const SERVED: usize = 1;
 
+/// The word that counts the entries.
 pub const ENTRIES: usize = 2;
 
+/// The rule: one legal history, of which each seat knows a part.
 pub struct OneHistory<S> {
     of: PhantomData<S>,
 }
@@ -24,4 +28,5 @@ impl<S: State> TableRule<Option<S>, Doing<S::Entry>, Snapshot<S>> for OneHistory
     ghost first = { λ key. first_seat (S.entries key.value) };
 }
 
+/// A seat at the table, with what it holds.
 pub type Place<S> = Seat<Option<S>, Doing<<S as State>::Entry>>;

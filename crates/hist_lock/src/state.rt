@@ -4,6 +4,7 @@ ghost use Rattle.hist_lock.specs.Entries.{Grows};
 
 /// A state that stands for a list of entries.
 pub trait State {
+    /// What the list is made of.
     type Entry;
 
     /// The list that a state stands for, oldest entry first.
@@ -25,6 +26,7 @@ pub trait State {
 
 /// A call on a state. It adds one entry at most; one that only looks adds none.
 pub trait Turn<S: State> {
+    /// What the call tells its caller.
     type Answer;
 
     /// What the call asks of the state that it finds.
@@ -33,6 +35,7 @@ pub trait Turn<S: State> {
     /// The answer that it may give on a state, and the state that it then leaves.
     ghost gives: { Self → S → Self.Answer → S → Type 0 };
 
+    /// Makes the call on the state, which stands for a legal list before and after it.
     fn run(self, state: &mut S) -> Self::Answer
         requires asks { asks self state.old }
         requires legal { S.legal (S.entries state.old) }

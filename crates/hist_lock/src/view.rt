@@ -17,14 +17,19 @@ pub struct View<E> {
 
 /// A caller that has ended, with all its entries.
 pub struct Joined<E> {
+    /// Its number.
     pub caller: u64,
+    /// Its entries, in order.
     pub mine: LinkedList<E>,
 }
 
 /// Where a seat is in the queue. A ticket counts from 0 on.
 pub enum Stage {
+    /// It has no ticket.
     Idle,
+    /// It waits with this ticket.
     Waits(u64),
+    /// It has the turn, by this ticket.
     Holds(u64),
     /// It was joined into another.
     Spent,
@@ -32,7 +37,9 @@ pub enum Stage {
 
 /// What a seat at the table knows.
 pub struct Doing<E> {
+    /// Where it is in the queue.
     pub stage: Stage,
+    /// What its caller knows.
     pub view: View<E>,
     /// What a pass that was joined into it had seen.
     pub told: LinkedList<E>,

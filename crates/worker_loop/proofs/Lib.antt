@@ -1,0 +1,5 @@
+pub mod KnownTurns
+mod Held
+mod Rounds
+mod Writes
+pub mod KnownWorkers

@@ -1,0 +1,9 @@
+pub mod Held
+pub mod Stays
+pub mod Rounds
+pub mod Answers
+pub mod Worked
+pub mod Attempts
+pub mod Sending
+pub mod Written
+pub mod Crew
