@@ -1,11 +1,11 @@
 -- What a decoder hands out, and what of its stream is then answered.
 use Rattle.std.proofs.Common.{◌≡◌, [], ◌∷◌, ◌++◌, List, ℕ, Option, None, Some, refl, sym, ap, ◌∙◌, subst, append-nil, append_assoc}
-use Rattle.byte_message.proofs.Ending.{reads}
-use Rattle.byte_message.proofs.Longer.{longer-reading}
+use Rattle.byte_message.proofs.KnownEndings.{reads}
+use Rattle.byte_message.proofs.KnownLonger.{longer-reading}
 use Rattle.byte_message.specs.Feeding.{ending_by, ending_of}
 use Rattle.byte_message.specs.Heading.{heading}
 use Rattle.byte_message.specs.Heading.Heading.{Faulty, Unended}
-use Rattle.byte_message.specs.Kept.{Framing, Keeps, Stands}
+use Rattle.byte_message.specs.Kept.{Framing, KeepsRest, Stands}
 use Rattle.byte_message.specs.Stream.{AreSpelled, Ending, IsReadAs, IsSpelling}
 use Rattle.byte_message.specs.Stream.Ending.{Bad}
 use Rattle.byte_message.specs.declared.frame_fault.FrameFault.{FrameFault}
@@ -63,7 +63,7 @@ parts-none : (front rest : List ℕ) → [] ≡ front ++ rest → (front ≡ [])
 parts-none [] rest e = (refl, sym e)
 parts-none (b ∷ front) rest e = absurd (let no : ⊥ = cc in no)
 
-none-faulty : (fault : Option FrameFault) (at : ℕ) (rest kept : List ℕ) → rest ≡ [] → Keeps fault at rest kept → fault ≡ None
+none-faulty : (fault : Option FrameFault) (at : ℕ) (rest kept : List ℕ) → rest ≡ [] → KeepsRest fault at rest kept → fault ≡ None
 none-faulty None at rest kept e k = refl
 none-faulty (Some fault) at rest kept e (wrong, bad, p) =
     absurd (let same : Unended ≡ Faulty wrong = sym (ap heading e) ∙ bad in let no : ⊥ = cc in no)

@@ -6,8 +6,8 @@ use Rattle.std.proofs.KnownBytes.{Appends-nil, Consumes-nil}
 use Rattle.pide_base.specs.Faults.{Rose}
 use Rattle.pide_base.specs.declared.status.Status.{Status}
 use Rattle.pide_base.specs.declared.status.Status.TheVariants as status
-use Rattle.byte_message.proofs.Ending.{one-reading}
-use Rattle.byte_message.proofs.Longer.{bad-reading}
+use Rattle.byte_message.proofs.KnownEndings.{one-reading}
+use Rattle.byte_message.proofs.KnownLonger.{bad-reading}
 use Rattle.byte_message.specs.Feeding.{ending_of}
 use Rattle.byte_message.specs.Kept.{Framing}
 use Rattle.byte_message.specs.Stream.{IsReadAs}
@@ -125,53 +125,3 @@ memory-run left held =
 pub unserved-run : (left held : Option (List ℕ)) (s : Status) → (s ≡ status.Usage) ⊎ (s ≡ status.NoMemory) → IsRun s left left held held []
 unserved-run left held s (inl e) = subst (λ (t : Status). IsRun t left left held held []) (sym e) (usage-run left held)
 unserved-run left held s (inr e) = subst (λ (t : Status). IsRun t left left held held []) (sym e) (memory-run left held)
-
--- what is taken of known bytes is a front of them
-known-front : (left left' : Option (List ℕ)) (bytes taken : List ℕ) → left ≡ Some bytes → Consumes left left' taken → (rest : List ℕ) × (bytes ≡ taken ++ rest) × (left' ≡ Some rest)
-known-front left left' bytes taken known took = after left' (subst (λ (l : Option (List ℕ)). Consumes l left' taken) known took)
-  where
-    after : (l : Option (List ℕ)) → Consumes (Some bytes) l taken → (rest : List ℕ) × (bytes ≡ taken ++ rest) × (l ≡ Some rest)
-    after None p = absurd p
-    after (Some rest) p = (rest, p, refl)
-
--- bytes that end between messages end neither at a fault nor within a message
-never-faulty : (bytes taken rest : List ℕ) (fault : FrameFault) → bytes ≡ taken ++ rest → HasEnding bytes Whole → HasEnding taken (Bad fault) → ⊥
-never-faulty bytes taken rest fault parts has bad =
-    let all : IsReadAs bytes bad.0 (Bad fault) = subst (λ (b : List ℕ). IsReadAs b bad.0 (Bad fault)) (sym parts) (bad-reading taken rest bad.0 fault bad.1) in
-    let same : Whole ≡ Bad fault = (one-reading bytes has.0 bad.0 Whole (Bad fault) has.1 all).1 in
-    absurd (let no : ⊥ = cc in no)
-
-never-short : (bytes taken rest : List ℕ) (at : ℕ) → bytes ≡ taken ++ rest → rest ≡ [] → HasEnding bytes Whole → HasEnding taken (Short at) → ⊥
-never-short bytes taken rest at parts none has short =
-    let whole : bytes ≡ taken = parts ∙ ap (λ (r : List ℕ). taken ++ r) none ∙ append-nil taken in
-    let all : IsReadAs bytes short.0 (Short at) = subst (λ (b : List ℕ). IsReadAs b short.0 (Short at)) (sym whole) short.1 in
-    let same : Whole ≡ Short at = (one-reading bytes has.0 short.0 Whole (Short at) has.1 all).1 in
-    absurd (let no : ⊥ = cc in no)
-
--- the run is done, or memory is short, where nothing else hinders it
-pub completes : (words : Bool) (left left' held held' : Option (List ℕ)) (pulls pulls' pushes pushes' : ℕ) (s : Status) (h : List Entry) → IsRun s left left' held held' h
-    → (s ≡ status.Usage → words ≡ false) → (s ≡ status.ReadFault → Rose pulls pulls') → (s ≡ status.WriteFault → Rose pushes pushes')
-    → CompleteSo words left pulls pulls' pushes pushes' s
-completes words left left' held held' pulls pulls' pushes pushes' s h run usage read write bytes taken known has few quiet_in quiet_out = by_status s refl
-  where
-    by_status : (t : Status) → s ≡ t → (s ≡ status.Done) ⊎ (s ≡ status.NoMemory)
-    by_status status.Done e = inl e
-    by_status status.NoMemory e = inr e
-    by_status status.Usage e = absurd (let other : false ≡ true = sym (usage e) ∙ taken in let no : ⊥ = cc in no)
-    by_status status.ReadFault e = absurd (quiet_in (read e))
-    by_status status.WriteFault e = absurd (quiet_out (write e))
-    by_status (status.BadFrame at) e =
-        let bad = run.bad_frame at e in
-        let front = known-front left left' bytes bad.0 known bad.1 in
-        absurd (never-faulty bytes bad.0 front.0 bad.2.0 front.1 has bad.2.1)
-    by_status (status.Truncated at) e =
-        let short = run.truncated at e in
-        let front = known-front left left' bytes short.0 known short.1 in
-        absurd (never-short bytes short.0 front.0 at front.1 (subst IsAtEnd front.2 short.2) has short.3)
-    by_status status.LongInput e =
-        let long = run.long_input in
-        let front = known-front left left' bytes long.0 known long.1 in
-        let many = (subst (λ (t : Status). TakesSo t long.0) e long.2).0 in
-        let all : length bytes ≡ length long.0 + length front.0 = ap length front.1 ∙ length-append long.0 front.0 in
-        absurd (omega arith)
-    by_status (status.BadText at) e = absurd (run.never at e)

@@ -1,8 +1,10 @@
+mod Completes
 mod Decoding
 mod Ends
-pub mod GoingOn
+mod GoingOn
 mod Laws
 mod Pulling
 mod Refused
 mod Stopping
-pub mod Waiting
+mod Waited
+mod Waiting

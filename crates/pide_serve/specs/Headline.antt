@@ -1,5 +1,5 @@
--- What the program promises of a run. `h` is the history handed back, the newest entry first; the bytes taken are
--- those that were left before and no more after.
+-- What the program promises of a run. `h` is the history handed back, the newest entry first; the
+-- bytes taken are those that were left before and no more after.
 use Rattle.std.specs.Prelude.{◌≡◌, ◌≢◌, ℕ, ◌<◌, ◌≤◌, ◌^◌, ◌⊎◌, Bool, true, List, [], ◌∷◌, ◌++◌, Option, None, Some, ⊤, length}
 use Rattle.std.specs.Io.KnownBytes.{Appends, Consumes, IsAtEnd}
 use Rattle.pide_base.specs.Faults.{Rose}
@@ -24,12 +24,18 @@ use Rattle.session_core.specs.Replies.{markup_of, replies, reply}
 use Rattle.session_core.specs.Shown.{pending, shown}
 use Rattle.pide_serve.specs.Served.{calls}
 
--- the bytes written are the replies of the history; where writing fails or memory is short, a front of them
+-- so many bytes are too many for one run (this project's own)
+abbrev pub too_many : ℕ
+too_many = 2 ^ 40
+
+-- the bytes written are the replies of the history; where writing fails or memory is short, a
+-- front of them
 abbrev pub BytesWritten : Status → Option (List ℕ) → Option (List ℕ) → List Entry → Type 0
 BytesWritten status.WriteFault old new h = AppendsFront old new (replies h)
 BytesWritten status.NoMemory old new h = AppendsFront old new (replies h)
 BytesWritten _ old new h = Appends old new (replies h)
 
+-- the session has ended, but where nothing was served, or writing failed or memory was short
 abbrev pub Closed : Status → List Entry → Type 0
 Closed status.Usage h = h ≡ []
 Closed status.WriteFault h = ⊤
@@ -46,38 +52,49 @@ place_of (frame.BadHeader at) = at
 place_of (frame.TooMany at count) = at
 place_of (frame.TooLong at chunk) = at
 
--- the status tells how the bytes end: between messages, at a line at fault, or within a message. They end at no fault
--- where they are too many
+-- the status tells how the bytes end: between messages, at a line at fault, or within a message.
+-- They end at no fault where they are too many
 abbrev pub Tells : Status → Ending → Type 0
 Tells status.Done ending = ending ≡ Whole
-Tells (status.BadFrame at) ending = (fault : FrameFault) × (ending ≡ Bad fault) × (at ≡ place_of fault)
+Tells (status.BadFrame at) ending =
+    (fault : FrameFault) × (ending ≡ Bad fault) × (at ≡ place_of fault)
 Tells (status.Truncated at) ending = ending ≡ Short at
 Tells status.LongInput ending = (fault : FrameFault) → ending ≢ Bad fault
 Tells _ ending = ⊤
 
 -- these messages and perhaps others after them are those of the bytes
 abbrev pub ReadFront : List ℕ → List (List (List ℕ)) → Type 0
-ReadFront bytes messages = (rest : List (List (List ℕ))) × (ending : Ending) × IsReadAs bytes (messages ++ rest) ending
+ReadFront bytes messages =
+    (rest : List (List (List ℕ))) × (ending : Ending) × IsReadAs bytes (messages ++ rest) ending
 
+-- these bytes' messages were answered, and the status tells how they end; where writing fails or
+-- memory is short, a front of them was
 abbrev pub CallsSo : Status → List ℕ → List Entry → Type 0
 CallsSo status.WriteFault taken h = ReadFront taken (calls h)
 CallsSo status.NoMemory taken h = ReadFront taken (calls h)
 CallsSo s taken h = (ending : Ending) × IsReadAs taken (calls h) ending × Tells s ending
 
--- the messages answered are those of the bytes taken, in order; where writing fails or memory is short, a front of them
+-- the messages answered are those of the bytes taken, in order; where writing fails or memory is
+-- short, a front of them
 abbrev pub MessagesRead : Status → Option (List ℕ) → Option (List ℕ) → List Entry → Type 0
 MessagesRead s old new h = (taken : List ℕ) × Consumes old new taken × CallsSo s taken h
 
--- a snapshot of a live version's node shows just the finished parts' reports of the markup from scratch, and lists
--- each other assigned execution as pending
+-- a snapshot of a live version's node shows just the finished parts' reports of the markup from
+-- scratch, and lists each other assigned execution as pending
 abbrev pub ShowsSo : List Entry → List (List ℕ) → Type 0
-ShowsSo h message = (id : ℕ) (name : List ℕ) (v : Version) → asked message ≡ Some (asks.Snapshot id name) → version_of h id ≡ Some v
-    → refusal h message ≡ None → reply h (entry.Call message) ≡ plain_spelling (markup_of v (shown h v) (pending h v))
+ShowsSo h message =
+    (id : ℕ) (name : List ℕ) (v : Version) → asked message ≡ Some (asks.Snapshot id name)
+    → version_of h id ≡ Some v
+    → refusal h message ≡ None
+    → reply h (entry.Call message) ≡ plain_spelling (markup_of v (shown h v) (pending h v))
 
--- an update that is not refused makes a version with an execution for each command of its text, all of them wanted
+-- an update that is not refused makes a version with an execution for each command of its text,
+-- all of them wanted
 abbrev pub CoversSo : List Entry → List (List ℕ) → Type 0
-CoversSo h message = (id : ℕ) (t : FirstText) → asked message ≡ Some (asks.Update id t) → refusal h message ≡ None
-    → (v : Version) × (version_of (entry.Call message ∷ h) id ≡ Some v) × (v.commands ≡ assigned_from 1 0 (commands_of t))
+CoversSo h message =
+    (id : ℕ) (t : FirstText) → asked message ≡ Some (asks.Update id t) → refusal h message ≡ None
+    → (v : Version) × (version_of (entry.Call message ∷ h) id ≡ Some v)
+    × (v.commands ≡ assigned_from 1 0 (commands_of t))
 
 -- of each message that was answered
 abbrev pub EachCall : (List Entry → List (List ℕ) → Type 0) → List Entry → Type 0
@@ -88,7 +105,8 @@ EachCall P (entry.Finished who part ∷ h) = EachCall P h
 EachCall P (entry.Dropped who part ∷ h) = EachCall P h
 EachCall P (entry.Ended ∷ h) = EachCall P h
 
--- one thread made the history; where writing fails or memory is short it may end before the settle that it waits for
+-- one thread made the history; where writing fails or memory is short it may end before the settle
+-- that it waits for
 abbrev pub MadeAlone : Status → List Entry → Type 0
 MadeAlone status.WriteFault h = (waited : Option Version) × IsAlone waited h
 MadeAlone status.NoMemory h = (waited : Option Version) × IsAlone waited h
@@ -104,34 +122,40 @@ DoneSo old new = (taken : List ℕ) × Consumes old new taken × IsAtEnd new × 
 
 -- truncated: the source ended, and the bytes taken end within the message that begins at this place
 abbrev pub TruncatedSo : ℕ → Option (List ℕ) → Option (List ℕ) → Type 0
-TruncatedSo at old new = (taken : List ℕ) × Consumes old new taken × IsAtEnd new × HasEnding taken (Short at)
+TruncatedSo at old new =
+    (taken : List ℕ) × Consumes old new taken × IsAtEnd new × HasEnding taken (Short at)
 
 -- no frame: the bytes taken end at a line at fault, whose message begins at this place
 abbrev pub BadFrameSo : ℕ → Option (List ℕ) → Option (List ℕ) → Type 0
 BadFrameSo at old new = (taken : List ℕ) × Consumes old new taken
     × ((fault : FrameFault) × HasEnding taken (Bad fault) × (at ≡ place_of fault))
 
+-- as many bytes as are too many were taken, none of their lines at fault, or fewer; a run may stop
+-- at the last of them too
 abbrev pub TakesSo : Status → List ℕ → Type 0
-TakesSo status.LongInput taken = (length taken ≡ 2 ^ 40) × ((fault : FrameFault) → HasEnding taken (Bad fault) → ⊥)
-TakesSo (status.BadFrame at) taken = length taken ≤ 2 ^ 40
-TakesSo status.WriteFault taken = length taken ≤ 2 ^ 40
-TakesSo status.NoMemory taken = length taken ≤ 2 ^ 40
-TakesSo _ taken = length taken < 2 ^ 40
+TakesSo status.LongInput taken =
+    (length taken ≡ too_many) × ((fault : FrameFault) → HasEnding taken (Bad fault) → ⊥)
+TakesSo (status.BadFrame at) taken = length taken ≤ too_many
+TakesSo status.WriteFault taken = length taken ≤ too_many
+TakesSo status.NoMemory taken = length taken ≤ too_many
+TakesSo _ taken = length taken < too_many
 
--- too long: just where 2^40 bytes without a line at fault were taken; else fewer are taken, and never more. Where
--- writing fails or memory is short any number up to that may be
+-- too long: just where 2^40 bytes without a line at fault were taken; else fewer are taken, and
+-- never more. Where writing fails or memory is short any number up to that may be
 abbrev pub LongSo : Status → Option (List ℕ) → Option (List ℕ) → Type 0
 LongSo s old new = (taken : List ℕ) × Consumes old new taken × TakesSo s taken
 
--- where the words are taken, the bytes end between messages and are fewer than are too many, and no count rises, the
--- run is done, or memory is short
+-- where the words are taken, the bytes end between messages and are fewer than are too many, and
+-- no count rises, the run is done, or memory is short
 abbrev pub CompleteSo : Bool → Option (List ℕ) → ℕ → ℕ → ℕ → ℕ → Status → Type 0
 CompleteSo words left pulls pulls' pushes pushes' s =
-    (bytes : List ℕ) → words ≡ true → left ≡ Some bytes → HasEnding bytes Whole → length bytes < 2 ^ 40 → (Rose pulls pulls' → ⊥) → (Rose pushes pushes' → ⊥)
+    (bytes : List ℕ) → words ≡ true → left ≡ Some bytes → HasEnding bytes Whole
+    → length bytes < too_many → (Rose pulls pulls' → ⊥) → (Rose pushes pushes' → ⊥)
     → (s ≡ status.Done) ⊎ (s ≡ status.NoMemory)
 
 -- what each run keeps, whatever its status
-pub record IsRun (s : Status) (left left' held held' : Option (List ℕ)) (h : List Entry) : Type 0 where
+pub record IsRun (s : Status) (left left' held held' : Option (List ℕ))
+    (h : List Entry) : Type 0 where
   pub written : BytesWritten s held held' h
   pub legal : OneLegalHistory s h
   pub read : MessagesRead s left left' h

@@ -15,18 +15,24 @@ use Rattle.pide_serve.specs.Headline.{BytesWritten, CallsSo, IsRun, MadeAlone, O
 use Rattle.pide_serve.specs.Served.{WritesFront, WritesOn, calls}
 
 -- these messages were answered, and their replies are written
-abbrev pub GoesOn : Option (List ℕ) → Option (List ℕ) → List Entry → List Entry → List (List (List ℕ)) → Type 0
+abbrev pub GoesOn : Option (List ℕ) → Option (List ℕ) → List Entry → List Entry
+    → List (List (List ℕ)) → Type 0
 GoesOn held held' h h' messages =
-    (has_ended h' ≡ false) × (calls h' ≡ calls h ++ messages) × (IsAlone None h → IsAlone None h') × WritesOn held held' h h'
+    (has_ended h' ≡ false) × (calls h' ≡ calls h ++ messages) × (IsAlone None h → IsAlone None h')
+    × WritesOn held held' h h'
 
 -- a front of these messages was answered, and a front of the replies is written
-abbrev pub Stops : Option (List ℕ) → Option (List ℕ) → List Entry → List Entry → List (List (List ℕ)) → Type 0
+abbrev pub Stops : Option (List ℕ) → Option (List ℕ) → List Entry → List Entry
+    → List (List (List ℕ)) → Type 0
 Stops held held' h h' messages =
-    ((front : List (List (List ℕ))) × (rest : List (List (List ℕ))) × (messages ≡ front ++ rest) × (calls h' ≡ calls h ++ front))
+    ((front : List (List (List ℕ))) × (rest : List (List (List ℕ))) × (messages ≡ front ++ rest)
+    × (calls h' ≡ calls h ++ front))
     × (IsAlone None h → (waited : Option Version) × IsAlone waited h') × WritesFront held held' h h'
 
--- each whole message of these bytes is answered, no line of them is at fault, and the session goes on
-pub record Serving (taken : List ℕ) (held held' : Option (List ℕ)) (h : List Entry) (frames : Framing) : Type 0 where
+-- each whole message of these bytes is answered, no line of them is at fault, and the session goes
+-- on
+pub record Serving (taken : List ℕ) (held held' : Option (List ℕ)) (h : List Entry)
+    (frames : Framing) : Type 0 where
   pub stands : Stands taken (calls h) frames
   pub none_waits : frames.waiting ≡ []
   pub fine : frames.fault ≡ None
@@ -36,7 +42,8 @@ pub record Serving (taken : List ℕ) (held held' : Option (List ℕ)) (h : List
   pub written : Appends held held' (replies h)
 
 -- what a run keeps that took these bytes
-pub record Stopped (s : Status) (taken : List ℕ) (held held' : Option (List ℕ)) (h : List Entry) : Type 0 where
+pub record Stopped (s : Status) (taken : List ℕ) (held held' : Option (List ℕ))
+    (h : List Entry) : Type 0 where
   pub written : BytesWritten s held held' h
   pub legal : OneLegalHistory s h
   pub read : CallsSo s taken h
@@ -44,7 +51,8 @@ pub record Stopped (s : Status) (taken : List ℕ) (held held' : Option (List �
 
 -- a run stops within a piece where a line is at fault or the sink fails
 abbrev pub StoppedWithin : Status → List ℕ → Option (List ℕ) → Option (List ℕ) → List Entry → Type 0
-StoppedWithin (status.BadFrame at) taken held held' h = Stopped (status.BadFrame at) taken held held' h
+StoppedWithin (status.BadFrame at) taken held held' h =
+    Stopped (status.BadFrame at) taken held held' h
 StoppedWithin status.WriteFault taken held held' h = Stopped status.WriteFault taken held held' h
 StoppedWithin _ taken held held' h = ⊥
 
@@ -55,6 +63,7 @@ EndsWith (status.Truncated at) ending = ending ≡ Short at
 EndsWith _ ending = ⊥
 
 -- the words were taken, so the run isn't one at Usage
-abbrev pub ServesInput : Status → Option (List ℕ) → Option (List ℕ) → Option (List ℕ) → Option (List ℕ) → List Entry → Type 0
+abbrev pub ServesInput : Status → Option (List ℕ) → Option (List ℕ) → Option (List ℕ)
+    → Option (List ℕ) → List Entry → Type 0
 ServesInput status.Usage left left' held held' h = ⊥
 ServesInput s left left' held held' h = IsRun s left left' held held' h

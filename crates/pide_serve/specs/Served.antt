@@ -17,8 +17,11 @@ calls (entry.Ended ∷ h) = calls h
 
 -- a run that had written just the replies of the one history has written just those of the other
 abbrev pub WritesOn : Option (List ℕ) → Option (List ℕ) → List Entry → List Entry → Type 0
-WritesOn held held' h h' = (first : Option (List ℕ)) → Appends first held (replies h) → Appends first held' (replies h')
+WritesOn held held' h h' =
+    (first : Option (List ℕ)) → Appends first held (replies h) → Appends first held' (replies h')
 
 -- or a front of those
 abbrev pub WritesFront : Option (List ℕ) → Option (List ℕ) → List Entry → List Entry → Type 0
-WritesFront held held' h h' = (first : Option (List ℕ)) → Appends first held (replies h) → AppendsFront first held' (replies h')
+WritesFront held held' h h' =
+    (first : Option (List ℕ)) → Appends first held (replies h)
+    → AppendsFront first held' (replies h')

@@ -8,7 +8,10 @@ use Rattle.pide_serve.specs.declared.input.Step.{Step}
 use Rattle.pide_serve.specs.declared.input.Step.TheVariants as step
 
 -- after these bytes one more, and at most so many, are taken and served; or the run ends
-abbrev pub StepSo : Step → Option (List ℕ) → Option (List ℕ) → List ℕ → ℕ → Option (List ℕ) → Option (List ℕ) → List Entry → Framing → Type 0
+abbrev pub StepSo : Step → Option (List ℕ) → Option (List ℕ) → List ℕ → ℕ → Option (List ℕ)
+    → Option (List ℕ) → List Entry → Framing → Type 0
 StepSo (step.Served n) first left taken most held held' h frames =
-    (more : List ℕ) × (length more ≡ n) × (0 < n) × (n ≤ most) × Consumes first left (taken ++ more) × Serving (taken ++ more) held held' h frames
-StepSo (step.Ends s) first left taken most held held' h frames = ServesInput s first left held held' h
+    (more : List ℕ) × (length more ≡ n) × (0 < n) × (n ≤ most) × Consumes first left (taken ++ more)
+    × Serving (taken ++ more) held held' h frames
+StepSo (step.Ends s) first left taken most held held' h frames =
+    ServesInput s first left held held' h

@@ -1,9 +1,9 @@
 //! Serving an input piece by piece, to its end.
-ghost use Rattle.std.specs.Prelude.{◌≡◌, ◌+◌, ◌<◌, ◌≤◌, ◌^◌, ℕ, List, [], Option, None, IfOk, OnErr, Ok, length, vec_len, false};
+ghost use Rattle.std.specs.Prelude.{◌≡◌, ◌+◌, ◌<◌, ◌≤◌, ℕ, List, [], Option, None, IfOk, OnErr, Ok, length, vec_len, false};
 ghost use Rattle.std.specs.Io.KnownBytes.{Consumes};
 ghost use Rattle.pide_base.specs.Faults.{Rose};
 ghost use Rattle.session_core.specs.Legal.{has_ended};
-ghost use Rattle.pide_serve.specs.Headline.{IsRun};
+ghost use Rattle.pide_serve.specs.Headline.{IsRun, too_many};
 ghost use Rattle.pide_serve.specs.Runs.{ServesInput, Serving};
 ghost use Rattle.pide_serve.specs.Steps.{StepSo};
 
@@ -47,14 +47,22 @@ fn serve_pull<S: Source, K: Sink>(
     requires going { has_ended session.old.0 ≡ false }
     requires fine { frames.old.fault ≡ None }
     requires some { 0 < length buffer.old }
-    ensures ok { IfOk result (λ step. (first held : Option (List ℕ)) (taken : List ℕ) → Consumes first (S.left source.old) taken
-        → length taken + length buffer.old ≤ 2 ^ 40 → Serving taken held (K.contents session.old.1) session.old.0 frames.old
-        → StepSo step first (S.left source.new) taken (length buffer.old) held (K.contents session.new.1) session.new.0 frames.new) }
-    ensures err { OnErr result ((first held : Option (List ℕ)) (taken : List ℕ) → Consumes first (S.left source.old) taken
-        → length taken + length buffer.old ≤ 2 ^ 40 → Serving taken held (K.contents session.old.1) session.old.0 frames.old
-        → IsRun Status.NoMemory first (S.left source.new) held (K.contents session.new.1) session.new.0) }
-    ensures read_fault { result ≡ Ok (Step.Ends Status.ReadFault) → Rose (S.faults source.old) (S.faults source.new) }
-    ensures write_fault { result ≡ Ok (Step.Ends Status.WriteFault) → Rose (K.faults session.old.1) (K.faults session.new.1) }
+    ensures ok { IfOk result (λ step. (first held : Option (List ℕ)) (taken : List ℕ)
+        → Consumes first (S.left source.old) taken
+        → length taken + length buffer.old ≤ too_many
+        → Serving taken held (K.contents session.old.1) session.old.0 frames.old
+        → StepSo step first (S.left source.new) taken (length buffer.old) held
+        (K.contents session.new.1) session.new.0 frames.new) }
+    ensures err { OnErr result ((first held : Option (List ℕ)) (taken : List ℕ)
+        → Consumes first (S.left source.old) taken
+        → length taken + length buffer.old ≤ too_many
+        → Serving taken held (K.contents session.old.1) session.old.0 frames.old
+        → IsRun Status.NoMemory first (S.left source.new) held (K.contents session.new.1)
+        session.new.0) }
+    ensures read_fault { result ≡ Ok (Step.Ends Status.ReadFault)
+        → Rose (S.faults source.old) (S.faults source.new) }
+    ensures write_fault { result ≡ Ok (Step.Ends Status.WriteFault)
+        → Rose (K.faults session.old.1) (K.faults session.new.1) }
     ensures pulls { S.faults source.old ≤ S.faults source.new }
     ensures pushes { K.faults session.old.1 ≤ K.faults session.new.1 }
 {
@@ -87,8 +95,10 @@ pub(crate) fn serve_input<S: Source, K: Sink>(
         (K.contents session.old.1) (K.contents session.new.1) session.new.0) }
     ensures err { OnErr result (IsRun Status.NoMemory (S.left source.old) (S.left source.new)
         (K.contents session.old.1) (K.contents session.new.1) session.new.0) }
-    ensures read_fault { result ≡ Ok Status.ReadFault → Rose (S.faults source.old) (S.faults source.new) }
-    ensures write_fault { result ≡ Ok Status.WriteFault → Rose (K.faults session.old.1) (K.faults session.new.1) }
+    ensures read_fault { result ≡ Ok Status.ReadFault
+        → Rose (S.faults source.old) (S.faults source.new) }
+    ensures write_fault { result ≡ Ok Status.WriteFault
+        → Rose (K.faults session.old.1) (K.faults session.new.1) }
 {
     let mut buffer = buffer(alloc, PIECE)?;
     let mut frames = Frames::new(alloc);

@@ -1,4 +1,5 @@
-//! The program's one call: the words of the command line, a source and a sink in; a status and the history out.
+//! The program's one call: the words of the command line, a source and a sink in; a status and the
+//! history out.
 //!
 //! It is this project's own. It must not know the real streams, nor how a document is kept.
 #![tactic(auto)]
@@ -12,6 +13,3 @@ mod words;
 
 pub use outcome::Outcome;
 pub use program::pide;
-
-#[cfg(test)]
-mod tests;

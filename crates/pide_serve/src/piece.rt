@@ -25,7 +25,8 @@ fn place_of(fault: FrameFault) -> u64
 
 /// Takes a piece, and answers the fault of the stream so far.
 fn feed(frames: &mut Frames, piece: &[u8]) -> Result<Option<FrameFault>, AllocError>
-    ensures ok { IfOk result (λ fault. Continues frames.old piece.now frames.new × (frames.new.fault ≡ fault)) }
+    ensures ok { IfOk result (λ fault. Continues frames.old piece.now frames.new
+        × (frames.new.fault ≡ fault)) }
     ensures err { OnErr result (frames.new ≡ frames.old) }
 {
     match frames.feed(piece) {
@@ -47,15 +48,18 @@ pub(crate) fn serve_piece<K: Sink>(
     ensures on { result ≡ Ok None → (held : Option (List ℕ)) (taken : List ℕ)
         → Serving taken held (K.contents session.old.1) session.old.0 frames.old
         → Serving (taken ++ piece.now) held (K.contents session.new.1) session.new.0 frames.new }
-    ensures stopped { (status : Status) → result ≡ Ok (Some status) → (held : Option (List ℕ)) (taken : List ℕ)
+    ensures stopped { (status : Status) → result ≡ Ok (Some status)
+        → (held : Option (List ℕ)) (taken : List ℕ)
         → Serving taken held (K.contents session.old.1) session.old.0 frames.old
         → StoppedWithin status (taken ++ piece.now) held (K.contents session.new.1) session.new.0 }
     ensures err { OnErr result ((held : Option (List ℕ)) (taken : List ℕ)
         → Serving taken held (K.contents session.old.1) session.old.0 frames.old
-        → Stopped Status.NoMemory (taken ++ piece.now) held (K.contents session.new.1) session.new.0) }
+        → Stopped Status.NoMemory (taken ++ piece.now) held (K.contents session.new.1)
+        session.new.0) }
     ensures no_read { result ≢ Ok (Some Status.ReadFault) }
     ensures steady { K.faults session.old.1 ≤ K.faults session.new.1 }
-    ensures cause { result ≡ Ok (Some Status.WriteFault) → Rose (K.faults session.old.1) (K.faults session.new.1) }
+    ensures cause { result ≡ Ok (Some Status.WriteFault)
+        → Rose (K.faults session.old.1) (K.faults session.new.1) }
 {
     let fault = feed(frames, piece)?;
     match serve_whole(alloc, session, frames)? {

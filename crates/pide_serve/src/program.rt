@@ -12,27 +12,36 @@ use pide_base::{Sink, Source, Status};
 use session_core::Session;
 use std::alloc::Global;
 
-/// Does what the words ask: serves the messages of the source, each when it is whole, and writes the replies.
+/// Does what the words ask: serves the messages of the source, each when it is whole, and writes
+/// the replies.
 ///
 /// `words` are those of the command line after the program's name.
 #[tactic(auto, using(crate::proofs::Laws::shows_all, crate::proofs::Laws::covers_all))]
 pub fn pide<S: Source, K: Sink>(alloc: Global, words: &[&str], source: S, sink: K) -> Outcome<S, K>
-    ensures bytes_written { BytesWritten result.status (K.contents sink) (K.contents result.sink) (reverse result.history.items) }
+    ensures bytes_written { BytesWritten result.status (K.contents sink) (K.contents result.sink)
+        (reverse result.history.items) }
     ensures one_legal_history { OneLegalHistory result.status (reverse result.history.items) }
-    ensures messages_read { MessagesRead result.status (S.left source) (S.left result.source) (reverse result.history.items) }
+    ensures messages_read { MessagesRead result.status (S.left source) (S.left result.source)
+        (reverse result.history.items) }
     ensures shows_and_lists { EachCall ShowsSo (reverse result.history.items) }
     ensures covers { EachCall CoversSo (reverse result.history.items) }
     ensures alone { MadeAlone result.status (reverse result.history.items) }
 
-    ensures usage { (result.status ≡ Status.Usage) ↔ (is_serve (map (λ w. w.now) words.now) ≡ false) }
-    ensures read_fault { result.status ≡ Status.ReadFault → Rose (S.faults source) (S.faults result.source) }
-    ensures write_fault { result.status ≡ Status.WriteFault → Rose (K.faults sink) (K.faults result.sink) }
-    ensures bad_frame { (at : ℕ) → result.status ≡ Status.BadFrame at → BadFrameSo at (S.left source) (S.left result.source) }
-    ensures truncated { (at : ℕ) → result.status ≡ Status.Truncated at → TruncatedSo at (S.left source) (S.left result.source) }
+    ensures usage { (result.status ≡ Status.Usage)
+        ↔ (is_serve (map (λ w. w.now) words.now) ≡ false) }
+    ensures read_fault { result.status ≡ Status.ReadFault
+        → Rose (S.faults source) (S.faults result.source) }
+    ensures write_fault { result.status ≡ Status.WriteFault
+        → Rose (K.faults sink) (K.faults result.sink) }
+    ensures bad_frame { (at : ℕ) → result.status ≡ Status.BadFrame at
+        → BadFrameSo at (S.left source) (S.left result.source) }
+    ensures truncated { (at : ℕ) → result.status ≡ Status.Truncated at
+        → TruncatedSo at (S.left source) (S.left result.source) }
     ensures long_input { LongSo result.status (S.left source) (S.left result.source) }
     ensures done { result.status ≡ Status.Done → DoneSo (S.left source) (S.left result.source) }
-    ensures complete { CompleteSo (is_serve (map (λ w. w.now) words.now)) (S.left source) (S.faults source) (S.faults result.source)
-        (K.faults sink) (K.faults result.sink) result.status }
+    ensures complete { CompleteSo (is_serve (map (λ w. w.now) words.now)) (S.left source)
+        (S.faults source) (S.faults result.source) (K.faults sink) (K.faults result.sink)
+        result.status }
     ensures never { (at : ℕ) → result.status ≢ Status.BadText at }
 {
     if is_serve(words) {
@@ -48,7 +57,8 @@ fn unserved<S: Source, K: Sink>(alloc: Global, status: Status, source: S, sink: 
     ensures status { result.status ≡ status }
     ensures source { result.source ≡ source }
     ensures sink { result.sink ≡ sink }
-    ensures run { IsRun result.status (S.left source) (S.left result.source) (K.contents sink) (K.contents result.sink) (reverse result.history.items) }
+    ensures run { IsRun result.status (S.left source) (S.left result.source) (K.contents sink)
+        (K.contents result.sink) (reverse result.history.items) }
 {
     Outcome {
         status,
@@ -60,10 +70,13 @@ fn unserved<S: Source, K: Sink>(alloc: Global, status: Status, source: S, sink: 
 
 /// Serves the messages of the source.
 fn serve<S: Source, K: Sink>(alloc: Global, source: S, sink: K) -> Outcome<S, K>
-    ensures run { IsRun result.status (S.left source) (S.left result.source) (K.contents sink) (K.contents result.sink) (reverse result.history.items) }
+    ensures run { IsRun result.status (S.left source) (S.left result.source) (K.contents sink)
+        (K.contents result.sink) (reverse result.history.items) }
     ensures not_usage { result.status ≢ Status.Usage }
-    ensures read_fault { result.status ≡ Status.ReadFault → Rose (S.faults source) (S.faults result.source) }
-    ensures write_fault { result.status ≡ Status.WriteFault → Rose (K.faults sink) (K.faults result.sink) }
+    ensures read_fault { result.status ≡ Status.ReadFault
+        → Rose (S.faults source) (S.faults result.source) }
+    ensures write_fault { result.status ≡ Status.WriteFault
+        → Rose (K.faults sink) (K.faults result.sink) }
 {
     let mut source = source;
     match Session::new(alloc, sink) {

@@ -28,10 +28,14 @@ fn serve_message<K: Sink>(
 ) -> Result<Served, AllocError>
     requires { has_ended session.old.0 ≡ false }
     ensures all { result ≡ Ok Served.All
-        → GoesOn (K.contents session.old.1) (K.contents session.new.1) session.old.0 session.new.0 (message ∷ []) }
+        → GoesOn (K.contents session.old.1) (K.contents session.new.1)
+        session.old.0 session.new.0 (message ∷ []) }
     ensures fault { result ≡ Ok Served.WriteFault
-        → Stops (K.contents session.old.1) (K.contents session.new.1) session.old.0 session.new.0 (message ∷ []) × Rose (K.faults session.old.1) (K.faults session.new.1) }
-    ensures err { OnErr result (Stops (K.contents session.old.1) (K.contents session.new.1) session.old.0 session.new.0 (message ∷ [])) }
+        → Stops (K.contents session.old.1) (K.contents session.new.1)
+        session.old.0 session.new.0 (message ∷ [])
+        × Rose (K.faults session.old.1) (K.faults session.new.1) }
+    ensures err { OnErr result (Stops (K.contents session.old.1) (K.contents session.new.1)
+        session.old.0 session.new.0 (message ∷ [])) }
     ensures legal { IsLegal 0 session.old.0 → IsLegal 0 session.new.0 }
     ensures steady { K.faults session.old.1 ≤ K.faults session.new.1 }
 {
@@ -58,11 +62,15 @@ pub(crate) fn serve_whole<K: Sink>(
 ) -> Result<Served, AllocError>
     requires { has_ended session.old.0 ≡ false }
     ensures all { result ≡ Ok Served.All
-        → GoesOn (K.contents session.old.1) (K.contents session.new.1) session.old.0 session.new.0 frames.old.waiting }
+        → GoesOn (K.contents session.old.1) (K.contents session.new.1)
+        session.old.0 session.new.0 frames.old.waiting }
     ensures none { result ≡ Ok Served.All → frames.new ≡ record frames.old { waiting = [] } }
     ensures fault { result ≡ Ok Served.WriteFault
-        → Stops (K.contents session.old.1) (K.contents session.new.1) session.old.0 session.new.0 frames.old.waiting × Rose (K.faults session.old.1) (K.faults session.new.1) }
-    ensures err { OnErr result (Stops (K.contents session.old.1) (K.contents session.new.1) session.old.0 session.new.0 frames.old.waiting) }
+        → Stops (K.contents session.old.1) (K.contents session.new.1)
+        session.old.0 session.new.0 frames.old.waiting
+        × Rose (K.faults session.old.1) (K.faults session.new.1) }
+    ensures err { OnErr result (Stops (K.contents session.old.1) (K.contents session.new.1)
+        session.old.0 session.new.0 frames.old.waiting) }
     ensures legal { IsLegal 0 session.old.0 → IsLegal 0 session.new.0 }
     ensures steady { K.faults session.old.1 ≤ K.faults session.new.1 }
 {

@@ -1,7 +1,6 @@
 mod Answered
 mod Candidates
 mod Digits
-mod ExampleHistory
 mod FirstVersions
 mod Inserted
 mod Reporting

@@ -3,7 +3,8 @@ use Rattle.std.proofs.Common.{◌≡◌, ◌≤◌, ◌&&◌, ℕ, Bool, true, f
 use Rattle.std.proofs.lemmas.Grind.{common_steps}
 use Rattle.std.specs.Prelude.{nat_le, bytes_eq}
 use Rattle.std.specs.Cmp.Lexicographic.{pointwise}
-use Rattle.pide_base.specs.Identifier.{is_identifier, is_node_name}
+use Rattle.pide_base.specs.NodeName.{is_node_name}
+use Rattle.text_words.specs.Identifier.{is_identifier}
 use Rattle.session_core.specs.declared.editor_message.EditorMessage.{EditorMessage}
 use Rattle.session_core.specs.declared.editor_message.EditorMessage.TheVariants as asks
 use Rattle.session_core.specs.declared.first_text.FirstText.{FirstText}

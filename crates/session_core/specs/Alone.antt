@@ -6,9 +6,9 @@ use Rattle.session_core.specs.declared.version.Version.{Version}
 use Rattle.session_core.specs.Legal.{awaited}
 use Rattle.session_core.specs.Parts.{is_settled}
 
--- each claim is followed at once by its finish; such pairs stand only directly before a settle that is not
--- refused, and its version isn't settled before each of them. The version is the one that is waited for just
--- after this history (this project's own)
+-- each claim is followed at once by its finish; such pairs stand only directly before a settle
+-- that is not refused, and its version isn't settled before each of them. The version is the one
+-- that is waited for just after this history (this project's own)
 abbrev pub IsAlone : Option Version → List Entry → Type 0
 IsAlone waited [] = ⊤
 IsAlone waited (entry.Call message ∷ h) = IsAlone (awaited h message) h

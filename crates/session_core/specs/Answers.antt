@@ -27,7 +27,10 @@ BringsShort (Some (asks.Snapshot id name)) = ⊤
 -- the answer is the reply to the message; or the message waits
 abbrev pub AnswersSo : List Version → (Part → Bool) → Option EditorMessage → Answer → Type 0
 AnswersSo vs finished m (answer.Reply bytes) =
-    (bytes.items ≡ reply_among finished vs m) × (versions_after vs m ≡ vs) × AnswersInTime finished (awaited_among vs m)
+    (bytes.items ≡ reply_among finished vs m) × (versions_after vs m ≡ vs)
+    × AnswersInTime finished (awaited_among vs m)
 AnswersSo vs finished m (answer.Opens v bytes) =
-    (bytes.items ≡ reply_among finished vs m) × (vs ≡ []) × (versions_after vs m ≡ v ∷ []) × (awaited_among vs m ≡ None) × IsFirst v
-AnswersSo vs finished m answer.Waits = (v : Version) × (awaited_among vs m ≡ Some v) × (are_all_finished finished v ≡ false)
+    (bytes.items ≡ reply_among finished vs m) × (vs ≡ []) × (versions_after vs m ≡ v ∷ [])
+    × (awaited_among vs m ≡ None) × IsFirst v
+AnswersSo vs finished m answer.Waits =
+    (v : Version) × (awaited_among vs m ≡ Some v) × (are_all_finished finished v ≡ false)

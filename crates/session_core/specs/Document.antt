@@ -10,17 +10,22 @@ use Rattle.session_core.specs.declared.version.Assigned.{Assigned}
 use Rattle.session_core.specs.declared.version.Version.{Version}
 use Rattle.session_core.specs.Commands.{commands_of}
 use Rattle.session_core.specs.Reading.{asked}
+use Rattle.session_core.specs.Refusals.{bad_shape, unknown_version, unknown_node, over_limit}
 
--- the commands from this id and this place on, each with the execution of the same number; one space parts them
+-- the commands from this id and this place on, each with the execution of the same number; one
+-- space parts them
 abbrev pub assigned_from : ℕ → ℕ → List Command → List Assigned
 assigned_from id start [] = []
 assigned_from id start (c ∷ cs) =
-    record { command = id; execution = id; start = start; content = c } ∷ assigned_from (id + 1) (start + length c.source + 1) cs
+    record { command = id; execution = id; start = start; content = c }
+    ∷ assigned_from (id + 1) (start + length c.source + 1) cs
 
 -- the first version: every command is new and wanted, and ids begin at 1
 abbrev pub first_version : ℕ → FirstText → Version
-first_version id text = record { id = id; node = text.node; commands = assigned_from 1 0 (commands_of text) }
+first_version id text =
+    record { id = id; node = text.node; commands = assigned_from 1 0 (commands_of text) }
 
+-- the version of this number
 abbrev pub version_among : List Version → ℕ → Option Version
 version_among versions id = find (λ v. v.id == id) versions
 
@@ -33,19 +38,20 @@ all_assigned (v ∷ vs) = v.commands ++ all_assigned vs
 abbrev pub home : List Version → ℕ → Option Assigned
 home versions execution = find (λ a. a.execution == execution) (all_assigned versions)
 
--- 7 where there is no such version
+-- refused where there is no such version
 abbrev pub if_live : Option Version → (Version → Option ℕ) → Option ℕ
-if_live None other = Some 7
+if_live None other = Some unknown_version
 if_live (Some v) other = other v
 
--- the number with which a message is refused, if it is: 5 another shape, 7 no live version, 10 no such node, 15 a limit
+-- the number with which a message is refused, if it is
 abbrev pub refusal_among : List Version → Option EditorMessage → Option ℕ
-refusal_among versions None = Some 5
+refusal_among versions None = Some bad_shape
 refusal_among [] (Some (asks.Update id text)) = None
-refusal_among (v ∷ vs) (Some (asks.Update id text)) = Some 15
+refusal_among (v ∷ vs) (Some (asks.Update id text)) = Some over_limit
 refusal_among versions (Some (asks.Settle id)) = if_live (version_among versions id) (λ v. None)
 refusal_among versions (Some (asks.Snapshot id name)) =
-    if_live (version_among versions id) (λ v. if bytes_eq v.node name then None else Some 10)
+    if_live (version_among versions id)
+    (λ v. if bytes_eq v.node name then None else Some unknown_node)
 
 -- the live versions after a message, the newest first
 abbrev pub versions_after : List Version → Option EditorMessage → List Version
@@ -61,8 +67,10 @@ versions (entry.Finished who part ∷ h) = versions h
 versions (entry.Dropped who part ∷ h) = versions h
 versions (entry.Ended ∷ h) = versions h
 
+-- the live version of this number after a history
 abbrev pub version_of : List Entry → ℕ → Option Version
 version_of h id = version_among (versions h) id
 
+-- the number with which a message after this history is refused, if it is
 abbrev pub refusal : List Entry → List (List ℕ) → Option ℕ
 refusal h message = refusal_among (versions h) (asked message)

@@ -10,7 +10,8 @@ use Rattle.session_core.specs.Legal.{IsLegal, has_ended}
 use Rattle.session_core.specs.Parts.{held_by, is_finished, is_held}
 use Rattle.session_core.specs.Progress.{is_done}
 
--- the history is legal; the live version, how many parts are finished and whether the session ended are those of the history
+-- the history is legal; the live version, how many parts are finished and whether the session
+-- ended are those of the history
 pub record IsKept (h : List Entry) (live : Option Version) (done : ℕ) (ended : Bool) : Type 0 where
   pub legal : IsLegal 0 h
   pub ended_so : has_ended h ≡ ended

@@ -10,6 +10,7 @@ use Rattle.session_core.specs.declared.version.Version.{Version}
 use Rattle.session_core.specs.Document.{version_among, versions}
 use Rattle.session_core.specs.Parts.{are_all_finished, held_by, first_ready, is_finished, is_gone}
 
+-- the history has its end
 abbrev pub has_ended : List Entry → Bool
 has_ended [] = false
 has_ended (entry.Call message ∷ h) = has_ended h
@@ -25,6 +26,7 @@ awaited_among vs (Some (asks.Update id text)) = None
 awaited_among vs (Some (asks.Settle id)) = version_among vs id
 awaited_among vs (Some (asks.Snapshot id name)) = None
 
+-- the version that a message after this history waits for
 abbrev pub awaited : List Entry → List (List ℕ) → Option Version
 awaited h message = awaited_among (versions h) (asked message)
 
@@ -33,14 +35,17 @@ abbrev pub AnswersInTime : (Part → Bool) → Option Version → Type 0
 AnswersInTime finished None = ⊤
 AnswersInTime finished (Some v) = are_all_finished finished v ≡ true
 
--- the entry may stand after this history, with workers up to this number (this project's own; after Wenzel's
--- Execution and Document modules)
+-- the entry may stand after this history, with workers up to this number (this project's own;
+-- after Wenzel's Execution and Document modules)
 abbrev pub MayFollow : ℕ → List Entry → Entry → Type 0
-MayFollow workers h (entry.Call message) = (has_ended h ≡ false) × AnswersInTime (is_finished h) (awaited h message)
+MayFollow workers h (entry.Call message) =
+    (has_ended h ≡ false) × AnswersInTime (is_finished h) (awaited h message)
 MayFollow workers h (entry.Claimed who part) =
     (has_ended h ≡ false) × (who ≤ workers) × (held_by h who ≡ None) × (first_ready h ≡ Some part)
-MayFollow workers h (entry.Finished who part) = (held_by h who ≡ Some part) × (is_gone h part.exec ≡ false)
-MayFollow workers h (entry.Dropped who part) = (held_by h who ≡ Some part) × (is_gone h part.exec ≡ true)
+MayFollow workers h (entry.Finished who part) =
+    (held_by h who ≡ Some part) × (is_gone h part.exec ≡ false)
+MayFollow workers h (entry.Dropped who part) =
+    (held_by h who ≡ Some part) × (is_gone h part.exec ≡ true)
 MayFollow workers h entry.Ended = has_ended h ≡ false
 
 -- each entry may stand after those before it

@@ -2,13 +2,13 @@ pub mod Alone
 pub mod Answers
 pub mod Commands
 pub mod Document
-pub mod Example
 pub mod FirstText
 pub mod Kept
 pub mod Legal
 pub mod Parts
 pub mod Progress
 pub mod Reading
+pub mod Refusals
 pub mod Replies
 pub mod Report
 pub mod Shown

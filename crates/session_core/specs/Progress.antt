@@ -23,9 +23,12 @@ CanMove by r = (r.start + by < 2 ^ 64) × (r.stop + by < 2 ^ 64)
 
 -- the command's reports can stand at its place
 abbrev pub HasRoom : Assigned → Type 0
-HasRoom a = AllByRecursion (CanMove a.start) a.content.eval × AllByRecursion (CanMove a.start) (fork_reports a.content.fork)
+HasRoom a =
+    AllByRecursion (CanMove a.start) a.content.eval
+    × AllByRecursion (CanMove a.start) (fork_reports a.content.fork)
 
 -- what is shown of these commands, put in order from the last command on
 abbrev pub ordered_among : (Part → Bool) → List Assigned → List Report
 ordered_among finished [] = []
-ordered_among finished (a ∷ rest) = insert_reports (shown_of finished a) (ordered_among finished rest)
+ordered_among finished (a ∷ rest) =
+    insert_reports (shown_of finished a) (ordered_among finished rest)

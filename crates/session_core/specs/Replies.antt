@@ -30,31 +30,42 @@ assignment_row a = pair (decimal a.command) (list (decimal a.execution ∷ []))
 
 -- each node with its commands
 abbrev pub assign : Version → List (List ℕ)
-assign v = codes "assign" ∷ decimal v.id ∷ list (pair v.node (list (map assignment_row v.commands)) ∷ []) ∷ []
+assign v =
+    codes "assign" ∷ decimal v.id ∷ list (pair v.node (list (map assignment_row v.commands)) ∷ [])
+    ∷ []
 
+-- a version is settled, and nothing else is told
 abbrev pub settled : Version → List (List ℕ)
 settled v = codes "settled" ∷ decimal v.id ∷ list [] ∷ []
 
 -- the reports, the pending executions, and 0: not outdated
 abbrev pub markup_of : Version → List Report → List ℕ → List (List ℕ)
 markup_of v reports executions =
-    codes "markup" ∷ decimal v.id ∷ v.node ∷ reports_body reports ∷ list (map decimal executions) ∷ codes "0" ∷ []
+    codes "markup" ∷ decimal v.id ∷ v.node ∷ reports_body reports ∷ list (map decimal executions)
+    ∷ codes "0" ∷ []
 
+-- what is shown of a version where these parts are finished
 abbrev pub markup : (Part → Bool) → Version → List (List ℕ)
-markup finished v = markup_of v (in_report_order (shown_among finished v.commands)) (pending_among finished v.commands)
+markup finished v =
+    markup_of v (in_report_order (shown_among finished v.commands))
+    (pending_among finished v.commands)
 
+-- what is written of a version, if there is one
 abbrev pub spelled_of : Option Version → (Version → List (List ℕ)) → List ℕ
 spelled_of None chunks = []
 spelled_of (Some v) chunks = plain_spelling (chunks v)
 
--- the reply to a message that is not refused: these versions are those after it, these parts are finished
+-- the reply to a message that is not refused: these versions are those after it, these parts are
+-- finished
 abbrev pub answer : (Part → Bool) → List Version → Option EditorMessage → List ℕ
 answer finished vs None = []
 answer finished [] (Some (asks.Update id text)) = []
 answer finished (v ∷ vs) (Some (asks.Update id text)) = plain_spelling (assign v)
 answer finished vs (Some (asks.Settle id)) = spelled_of (version_among vs id) settled
-answer finished vs (Some (asks.Snapshot id name)) = spelled_of (version_among vs id) (markup finished)
+answer finished vs (Some (asks.Snapshot id name)) =
+    spelled_of (version_among vs id) (markup finished)
 
+-- the refusal, if there is one, or else the reply
 abbrev pub told : Option ℕ → List ℕ → List ℕ
 told (Some number) other = plain_spelling (refused number)
 told None other = other
@@ -67,6 +78,7 @@ reply_among finished vs m = told (refusal_among vs m) (answer finished (versions
 abbrev pub reply_to : List Entry → List (List ℕ) → List ℕ
 reply_to h message = reply_among (is_finished h) (versions h) (asked message)
 
+-- a kind's name, as it is written
 abbrev pub part_name : PartKind → List ℕ
 part_name kind.Eval = codes "eval"
 part_name kind.Fork = codes "fork"
@@ -82,6 +94,7 @@ part_reports kind.Print c = []
 abbrev pub report_of : Part → List Report → List (List ℕ)
 report_of p reports = codes "report" ∷ decimal p.exec ∷ part_name p.kind ∷ reports_body reports ∷ []
 
+-- what a part reports that stands at this command, if there is one
 abbrev pub report_at : Part → Option Assigned → List (List ℕ)
 report_at p None = []
 report_at p (Some a) = report_of p (part_reports p.kind a.content)
@@ -90,6 +103,7 @@ report_at p (Some a) = report_of p (part_reports p.kind a.content)
 abbrev pub report : List Entry → Part → List (List ℕ)
 report h p = report_at p (home (versions h) p.exec)
 
+-- a part that is given back unfinished
 abbrev pub dropped : Part → List (List ℕ)
 dropped p = codes "dropped" ∷ decimal p.exec ∷ part_name p.kind ∷ []
 

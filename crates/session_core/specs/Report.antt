@@ -23,16 +23,19 @@ kind_name kind.Ref = codes "ref"
 abbrev pub moved : ℕ → Report → Report
 moved by report = record report { start = report.start + by; stop = report.stop + by }
 
+-- texts are ordered by their bytes
 abbrev pub bytes_cmp : List ℕ → List ℕ → Ordering
 bytes_cmp = slice_cmp nat_cmp
 
+-- properties are ordered by their keys, and then by their values
 abbrev pub property_cmp : List ℕ × List ℕ → List ℕ × List ℕ → Ordering
 property_cmp a b = ordering_then (bytes_cmp a.0 b.0) (bytes_cmp a.1 b.1)
 
 -- start rising, stop falling, then kind, properties and text by bytes (this project's own)
 abbrev pub report_cmp : Report → Report → Ordering
 report_cmp a b =
-    ordering_then (nat_cmp a.start b.start) (ordering_then (nat_cmp b.stop a.stop) (ordering_then (bytes_cmp (kind_name a.kind) (kind_name b.kind))
+    ordering_then (nat_cmp a.start b.start) (ordering_then (nat_cmp b.stop a.stop)
+    (ordering_then (bytes_cmp (kind_name a.kind) (kind_name b.kind))
     (ordering_then (slice_cmp property_cmp a.properties b.properties) (bytes_cmp a.text b.text))))
 
 -- how many reports in order go before this one
@@ -43,6 +46,7 @@ place_of report others = prefix_len (λ other. is_gt (report_cmp report other)) 
 abbrev pub insert_report : Report → List Report → List Report
 insert_report report others = insert others (place_of report others) report
 
+-- reports put among others that are in order
 abbrev pub insert_reports : List Report → List Report → List Report
 insert_reports [] others = others
 insert_reports (report ∷ reports) others = insert_report report (insert_reports reports others)
@@ -51,11 +55,14 @@ insert_reports (report ∷ reports) others = insert_report report (insert_report
 abbrev pub in_report_order : List Report → List Report
 in_report_order reports = insert_reports reports []
 
--- an element named by the kind, with the range before the properties as attributes, and the text as body
+-- an element named by the kind, with the range before the properties as attributes, and the text
+-- as body
 unfoldable pub report_body : Report → List ℕ
 report_body r =
-    element (kind_name r.kind) ((codes "offset", decimal r.start) ∷ (codes "end_offset", decimal r.stop) ∷ r.properties) r.text
+    element (kind_name r.kind) ((codes "offset", decimal r.start)
+    ∷ (codes "end_offset", decimal r.stop) ∷ r.properties) r.text
 
+-- reports as one body
 abbrev pub reports_body : List Report → List ℕ
 reports_body [] = []
 reports_body (report ∷ reports) = report_body report ++ reports_body reports

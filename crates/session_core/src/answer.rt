@@ -14,6 +14,7 @@ ghost use Rattle.byte_message.specs.Stream.{plain_spelling};
 use crate::commands::first_version;
 use crate::editor_message::EditorMessage;
 use crate::first_text::FirstText;
+use crate::refusal::{BAD_SHAPE, OVER_LIMIT, UNKNOWN_NODE, UNKNOWN_VERSION};
 use crate::replies::{assign, markup, refused, settled};
 use crate::shown::{pending_among, shown_among};
 use crate::version::Version;
@@ -46,7 +47,8 @@ fn live(version: &Option<Version>, id: VersionId) -> Option<&Version>
 fn markup_bytes(alloc: Global, version: &Version, done: u64) -> Result<Vec<u8>, AllocError>
     requires few { done ≤ 5 }
     requires first { IsFirst version.now }
-    ensures { IfOk result (λ bytes. bytes.items ≡ plain_spelling (markup (is_done done) version.now)) }
+    ensures { IfOk result (λ bytes. bytes.items
+        ≡ plain_spelling (markup (is_done done) version.now)) }
 {
     let commands = version.commands.as_slice();
     let reports = shown_among(alloc, done, commands)?;
@@ -62,10 +64,12 @@ fn update(
     text: &FirstText,
 ) -> Result<Answer, AllocError>
     requires { IsShort text.now }
-    ensures { (finished : Part → Bool) → IfOk result (AnswersSo (option_to_list version.now) finished (Some (Update id text.now))) }
+    ensures { (finished : Part → Bool)
+        → IfOk result (AnswersSo (option_to_list version.now) finished
+        (Some (Update id text.now))) }
 {
     match version {
-        Some(_) => Ok(Answer::Reply(refused(alloc, 15)?)),
+        Some(_) => Ok(Answer::Reply(refused(alloc, OVER_LIMIT)?)),
         None => {
             let version = first_version(alloc, id, text)?;
             let bytes = assign(alloc, &version)?;
@@ -83,10 +87,11 @@ fn settle(
 ) -> Result<Answer, AllocError>
     requires few { done ≤ 5 }
     requires first { IfSome version.now IsFirst }
-    ensures { IfOk result (AnswersSo (option_to_list version.now) (is_done done) (Some (Settle id))) }
+    ensures { IfOk result (AnswersSo (option_to_list version.now) (is_done done)
+        (Some (Settle id))) }
 {
     let Some(version) = live(version, id) else {
-        return Ok(Answer::Reply(refused(alloc, 7)?));
+        return Ok(Answer::Reply(refused(alloc, UNKNOWN_VERSION)?));
     };
     if done < 5 {
         return Ok(Answer::Waits);
@@ -104,13 +109,14 @@ fn snapshot(
 ) -> Result<Answer, AllocError>
     requires few { done ≤ 5 }
     requires first { IfSome version.now IsFirst }
-    ensures { IfOk result (AnswersSo (option_to_list version.now) (is_done done) (Some (Snapshot id node.now))) }
+    ensures { IfOk result (AnswersSo (option_to_list version.now) (is_done done)
+        (Some (Snapshot id node.now))) }
 {
     let Some(version) = live(version, id) else {
-        return Ok(Answer::Reply(refused(alloc, 7)?));
+        return Ok(Answer::Reply(refused(alloc, UNKNOWN_VERSION)?));
     };
     if version.node.as_slice() != node.as_slice() {
-        return Ok(Answer::Reply(refused(alloc, 10)?));
+        return Ok(Answer::Reply(refused(alloc, UNKNOWN_NODE)?));
     }
     Ok(Answer::Reply(markup_bytes(alloc, version, done)?))
 }
@@ -128,7 +134,7 @@ pub(crate) fn answer_to(
     ensures { IfOk result (AnswersSo (option_to_list version.now) (is_done done) asked.now) }
 {
     match asked {
-        None => Ok(Answer::Reply(refused(alloc, 5)?)),
+        None => Ok(Answer::Reply(refused(alloc, BAD_SHAPE)?)),
         Some(EditorMessage::Update { version: id, text }) => update(alloc, version, *id, text),
         Some(EditorMessage::Settle { version: id }) => settle(alloc, version, done, *id),
         Some(EditorMessage::Snapshot { version: id, node }) => snapshot(

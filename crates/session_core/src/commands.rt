@@ -31,7 +31,13 @@ fn named_report(
     name: &[u8],
 ) -> Result<Report, AllocError>
     ensures { IfOk result (λ report. report
-        ≡ record { start = start; stop = stop; kind = kind; properties = (codes "name", name.now) ∷ []; text = [] }) }
+        ≡ record {
+          start = start;
+          stop = stop;
+          kind = kind;
+          properties = (codes "name", name.now) ∷ [];
+          text = [];
+        }) }
 {
     let name = property(alloc, "name", name)?;
     Ok(Report {
@@ -113,7 +119,8 @@ fn lemma_command(alloc: Global, text: &FirstText) -> Result<Command, AllocError>
 
 /// The whole command is proved.
 fn proved_report(alloc: Global, stop: usize) -> Report
-    ensures { result ≡ record { start = 0; stop = stop; kind = ReportKind.Proved; properties = []; text = [] } }
+    ensures { result
+        ≡ record { start = 0; stop = stop; kind = ReportKind.Proved; properties = []; text = [] } }
 {
     Report {
         start: 0,
@@ -161,7 +168,8 @@ fn end_command(alloc: Global) -> Result<Command, AllocError>
 /// A command with the execution of the same number.
 fn assigned(number: u64, start: usize, content: Command) -> Assigned
     requires { IsId number }
-    ensures { result ≡ record { command = number; execution = number; start = start; content = content } }
+    ensures { result
+        ≡ record { command = number; execution = number; start = start; content = content } }
 {
     Assigned {
         command: CommandId::numbered(number),

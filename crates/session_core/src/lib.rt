@@ -15,6 +15,7 @@ mod first_text;
 mod order;
 mod progress;
 mod reading;
+mod refusal;
 mod replies;
 mod report;
 mod session;
@@ -32,6 +33,3 @@ pub use first_text::FirstText;
 pub use report::{Report, ReportKind};
 pub use session::{Session, Taken, Worked};
 pub use version::{Assigned, Version};
-
-#[cfg(test)]
-mod tests;

@@ -107,7 +107,8 @@ fn settle(version: &[u8]) -> Option<EditorMessage>
 
 /// An update with the text that the body may hold.
 fn update(alloc: Global, version: &[u8], body: &[u8]) -> Result<Option<EditorMessage>, AllocError>
-    ensures { IfOk result (λ found. found ≡ fitting (Some (Update (number_of version.now) (text_within body.now)))) }
+    ensures { IfOk result (λ found. found
+        ≡ fitting (Some (Update (number_of version.now) (text_within body.now)))) }
 {
     let Some(version) = version_of(version) else {
         return Ok(None);
@@ -121,7 +122,8 @@ fn update(alloc: Global, version: &[u8], body: &[u8]) -> Result<Option<EditorMes
 
 /// A snapshot of the node.
 fn snapshot(alloc: Global, version: &[u8], node: &[u8]) -> Result<Option<EditorMessage>, AllocError>
-    ensures { IfOk result (λ found. found ≡ fitting (Some (Snapshot (number_of version.now) node.now))) }
+    ensures { IfOk result (λ found. found
+        ≡ fitting (Some (Snapshot (number_of version.now) node.now))) }
 {
     let Some(version) = version_of(version) else {
         return Ok(None);

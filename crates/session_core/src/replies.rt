@@ -137,7 +137,8 @@ fn assignment_row(alloc: Global, assigned: &Assigned) -> Result<Vec<u8>, AllocEr
 }
 
 fn put_assignment(alloc: Global, out: &mut Vec<u8>, commands: &[Assigned]) -> Result<(), AllocError>
-    ensures { OnOk result (out.new.items ≡ out.old.items ++ list (map assignment_row commands.now)) }
+    ensures { OnOk result (out.new.items ≡ out.old.items
+        ++ list (map assignment_row commands.now)) }
 {
     match commands {
         [] => Ok(()),
@@ -199,7 +200,8 @@ pub(crate) fn markup(
     reports: &[Report],
     pending: &[ExecId],
 ) -> Result<Vec<u8>, AllocError>
-    ensures { IfOk result (λ bytes. bytes.items ≡ plain_spelling (markup_of version.now reports.now pending.now)) }
+    ensures { IfOk result (λ bytes. bytes.items
+        ≡ plain_spelling (markup_of version.now reports.now pending.now)) }
 {
     let mut executions = Vec::new(alloc);
     put_numbers(alloc, &mut executions, pending)?;
@@ -259,7 +261,8 @@ pub(crate) fn part_report(
     part: &Part,
 ) -> Result<Vec<u8>, AllocError>
     ensures { IfOk result (λ bytes. bytes.items
-        ≡ plain_spelling (report_at part.now (find (λ a. a.execution == part.now.exec) version.now.commands))) }
+        ≡ plain_spelling (report_at part.now
+        (find (λ a. a.execution == part.now.exec) version.now.commands))) }
 {
     match home(version.commands.as_slice(), part.exec) {
         Some(assigned) => report(alloc, *part, part_reports(part.kind, &assigned.content)),

@@ -129,13 +129,15 @@ fn record(history: &mut Vec<Entry>, entry: Entry)
 }
 
 impl<K: Sink> Session<K> {
-    /// Answers a message, unless it waits for a version that isn't settled. Where there is no memory,
-    /// nothing has changed.
+    /// Answers a message, unless it waits for a version that isn't settled. Where there is no
+    /// memory, nothing has changed.
     pub fn take(&mut self, alloc: Global, message: Message) -> Result<Taken, AllocError>
         requires { has_ended self.old.0 ≡ false }
-        ensures ok { IfOk result (TakenSo self.old.0 self.new.0 (K.contents self.old.1) (K.contents self.new.1) message) }
+        ensures ok { IfOk result (TakenSo self.old.0 self.new.0 (K.contents self.old.1)
+            (K.contents self.new.1) message) }
         ensures err { OnErr result (self.new ≡ self.old) }
-        ensures fault { result ≡ Ok Taken.WriteFault → Rose (K.faults self.old.1) (K.faults self.new.1) }
+        ensures fault { result ≡ Ok Taken.WriteFault
+            → Rose (K.faults self.old.1) (K.faults self.new.1) }
         ensures steady { K.faults self.old.1 ≤ K.faults self.new.1 }
         ensures legal { IsLegal 0 self.new.0 }
     {
@@ -159,10 +161,12 @@ impl<K: Sink> Session<K> {
 
     /// Writes a reply.
     fn write_reply(&mut self, bytes: &[u8]) -> Taken
-        ensures written { WrittenSo result (K.contents self.old.1) (K.contents self.new.1) bytes.now }
+        ensures written { WrittenSo result (K.contents self.old.1) (K.contents self.new.1)
+            bytes.now }
         ensures history { self.new.0 ≡ self.old.0 }
         ensures legal { IsLegal 0 self.new.0 }
-        ensures fault { result ≡ Taken.WriteFault → Rose (K.faults self.old.1) (K.faults self.new.1) }
+        ensures fault { result ≡ Taken.WriteFault
+            → Rose (K.faults self.old.1) (K.faults self.new.1) }
         ensures steady { K.faults self.old.1 ≤ K.faults self.new.1 }
     {
         if push_whole(&mut self.sink, bytes) {
@@ -176,9 +180,11 @@ impl<K: Sink> Session<K> {
     /// nothing has changed.
     pub fn work(&mut self, alloc: Global) -> Result<Worked, AllocError>
         requires { has_ended self.old.0 ≡ false }
-        ensures ok { IfOk result (WorkedSo self.old.0 self.new.0 (K.contents self.old.1) (K.contents self.new.1)) }
+        ensures ok { IfOk result (WorkedSo self.old.0 self.new.0 (K.contents self.old.1)
+            (K.contents self.new.1)) }
         ensures err { OnErr result (self.new ≡ self.old) }
-        ensures fault { result ≡ Ok Worked.WriteFault → Rose (K.faults self.old.1) (K.faults self.new.1) }
+        ensures fault { result ≡ Ok Worked.WriteFault
+            → Rose (K.faults self.old.1) (K.faults self.new.1) }
         ensures steady { K.faults self.old.1 ≤ K.faults self.new.1 }
         ensures legal { IsLegal 0 self.new.0 }
     {
@@ -200,10 +206,12 @@ impl<K: Sink> Session<K> {
 
     /// Writes a report.
     fn write_report(&mut self, bytes: &[u8]) -> Worked
-        ensures written { ReportedSo result (K.contents self.old.1) (K.contents self.new.1) bytes.now }
+        ensures written { ReportedSo result (K.contents self.old.1) (K.contents self.new.1)
+            bytes.now }
         ensures history { self.new.0 ≡ self.old.0 }
         ensures legal { IsLegal 0 self.new.0 }
-        ensures fault { result ≡ Worked.WriteFault → Rose (K.faults self.old.1) (K.faults self.new.1) }
+        ensures fault { result ≡ Worked.WriteFault
+            → Rose (K.faults self.old.1) (K.faults self.new.1) }
         ensures steady { K.faults self.old.1 ≤ K.faults self.new.1 }
     {
         if push_whole(&mut self.sink, bytes) {

@@ -50,7 +50,8 @@ fn insert_moved(
     by: usize,
 ) -> Result<(), AllocError>
     requires { AllByRecursion (CanMove by) reports.now }
-    ensures { OnOk result (out.new.items ≡ insert_reports (map (moved by) reports.now) out.old.items) }
+    ensures { OnOk result (out.new.items
+        ≡ insert_reports (map (moved by) reports.now) out.old.items) }
 {
     match reports {
         [] => Ok(()),
@@ -79,7 +80,8 @@ fn fork(exec: ExecId) -> Part
     }
 }
 
-/// Puts the fork's reports, where it is finished, at the command's place among others that are in order.
+/// Puts the fork's reports, where it is finished, at the command's place among others that are in
+/// order.
 fn insert_fork(
     alloc: Global,
     out: &mut Vec<Report>,
@@ -88,7 +90,8 @@ fn insert_fork(
 ) -> Result<(), AllocError>
     requires few { done ≤ 5 }
     requires room { HasRoom assigned.now }
-    ensures { OnOk result (out.new.items ≡ insert_reports (fork_shown (is_done done) assigned.now) out.old.items) }
+    ensures { OnOk result (out.new.items
+        ≡ insert_reports (fork_shown (is_done done) assigned.now) out.old.items) }
 {
     if !is_done(done, &fork(assigned.execution)) {
         return Ok(());
@@ -99,7 +102,8 @@ fn insert_fork(
     }
 }
 
-/// Puts the evaluation's reports, where it is finished, at the command's place among others that are in order.
+/// Puts the evaluation's reports, where it is finished, at the command's place among others that
+/// are in order.
 fn insert_eval(
     alloc: Global,
     out: &mut Vec<Report>,
@@ -108,7 +112,8 @@ fn insert_eval(
 ) -> Result<(), AllocError>
     requires few { done ≤ 5 }
     requires room { HasRoom assigned.now }
-    ensures { OnOk result (out.new.items ≡ insert_reports (eval_shown (is_done done) assigned.now) out.old.items) }
+    ensures { OnOk result (out.new.items
+        ≡ insert_reports (eval_shown (is_done done) assigned.now) out.old.items) }
 {
     if !is_done(done, &evaluation(assigned.execution)) {
         return Ok(());
@@ -126,7 +131,8 @@ fn insert_shown(
 ) -> Result<(), AllocError>
     requires few { done ≤ 5 }
     requires room { HasRoom assigned.now }
-    ensures { OnOk result (out.new.items ≡ insert_reports (shown_of (is_done done) assigned.now) out.old.items) }
+    ensures { OnOk result (out.new.items
+        ≡ insert_reports (shown_of (is_done done) assigned.now) out.old.items) }
 {
     insert_fork(alloc, out, done, assigned)?;
     insert_eval(alloc, out, done, assigned)
@@ -157,7 +163,8 @@ pub(crate) fn shown_among(
 ) -> Result<Vec<Report>, AllocError>
     requires few { done ≤ 5 }
     requires room { AllByRecursion HasRoom commands.now }
-    ensures { IfOk result (λ reports. reports.items ≡ in_report_order (shown_among (is_done done) commands.now)) }
+    ensures { IfOk result (λ reports. reports.items
+        ≡ in_report_order (shown_among (is_done done) commands.now)) }
 {
     ordered_among(alloc, done, commands)
 }
@@ -178,7 +185,8 @@ pub(crate) fn pending_among(
     commands: &[Assigned],
 ) -> Result<Vec<ExecId>, AllocError>
     requires { done ≤ 5 }
-    ensures { IfOk result (λ executions. executions.items ≡ pending_among (is_done done) commands.now) }
+    ensures { IfOk result (λ executions. executions.items
+        ≡ pending_among (is_done done) commands.now) }
 {
     let mut pending = Vec::new(alloc);
     'commands: for assigned in commands {

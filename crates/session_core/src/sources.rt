@@ -30,7 +30,8 @@ pub(crate) fn theory_source(alloc: Global, text: &FirstText) -> Result<Vec<u8>, 
 /// The command that states the lemma.
 pub(crate) fn lemma_source(alloc: Global, text: &FirstText) -> Result<Vec<u8>, AllocError>
     ensures value { IfOk result (λ bytes. bytes.items ≡ lemma_source text.now) }
-    ensures len { IfOk result (λ bytes. vec_len bytes ≡ 15 + length text.now.lemma + 2 * length text.now.atom) }
+    ensures len { IfOk result (λ bytes. vec_len bytes
+        ≡ 15 + length text.now.lemma + 2 * length text.now.atom) }
 {
     let mut bytes = Vec::from_slice(alloc, b"lemma ")?;
     bytes.extend_from_slice(text.lemma.as_slice())?;

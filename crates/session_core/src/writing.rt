@@ -1,10 +1,10 @@
 //! Writing numbers, elements and messages as bytes. Each call appends to what is there.
-ghost use Rattle.std.specs.Prelude.{◌≡◌, [], ◌∷◌, ◌++◌, OnOk, IfOk, length, map};
+ghost use Rattle.std.specs.Prelude.{◌≡◌, [], ◌∷◌, ◌++◌, OnOk, IfOk};
 ghost use Rattle.std.specs.Fmt.{decimal};
-ghost use Rattle.std.specs.List.{concat, join_with_byte};
 ghost use Rattle.byte_message.specs.Stream.{plain_spelling};
 ghost use Rattle.session_core.specs.Yxml.{attribute, node, pair, list};
 
+use byte_message::append_message;
 use itoa::Buffer;
 use sqlite_items::Items;
 use std::alloc::{AllocError, Global};
@@ -87,39 +87,9 @@ pub(crate) fn list_of_one(alloc: Global, item: &[u8]) -> Result<Vec<u8>, AllocEr
     Ok(body)
 }
 
-/// The lengths of the chunks in decimal, joined by commas.
-fn put_lengths(out: &mut Vec<u8>, chunks: &[Items<u8>]) -> Result<(), AllocError>
-    ensures { OnOk result (out.new.items ≡ out.old.items ++ join_with_byte 44 (map (λ chunk. decimal (length chunk)) chunks.now)) }
-{
-    match chunks {
-        [] => Ok(()),
-        [only] => put_decimal(out, only.len() as u64),
-        [first, rest @ ..] => {
-            put_decimal(out, first.len() as u64)?;
-            out.push(b',')?;
-            put_lengths(out, rest)
-        }
-    }
-}
-
-/// The chunks with nothing between them.
-fn put_chunks(out: &mut Vec<u8>, chunks: &[Items<u8>]) -> Result<(), AllocError>
-    ensures { OnOk result (out.new.items ≡ out.old.items ++ concat chunks.now) }
-{
-    match chunks {
-        [] => Ok(()),
-        [first, rest @ ..] => {
-            out.extend_from_slice(first.as_slice())?;
-            put_chunks(out, rest)
-        }
-    }
-}
-
 /// A message: its header line, and its chunks.
 pub(crate) fn put_spelling(out: &mut Vec<u8>, chunks: &[Items<u8>]) -> Result<(), AllocError>
     ensures { OnOk result (out.new.items ≡ out.old.items ++ plain_spelling chunks.now) }
 {
-    put_lengths(out, chunks)?;
-    out.push(b'\n')?;
-    put_chunks(out, chunks)
+    append_message(out, chunks)
 }

@@ -1,5 +1,5 @@
 -- Nothing else hinders a run whose bytes end between messages.
-use Rattle.pide_serve.proofs.Ends.{completes}
+use Rattle.pide_serve.proofs.Completes.{completes}
 use Rattle.pide_serve.proofs.program.pide.Goals as goal
 
 pub returns-then-is_serve-clause-complete : goal.returns-then-is_serve-clause-complete

@@ -2,7 +2,8 @@
 use Rattle.std.proofs.Common.{arith, rules, subst}
 use Rattle.session_core.specs.Steps.{TakenSo, WorkedSo}
 use Rattle.pide_serve.proofs.Refused.{on_err}
-use Rattle.pide_serve.proofs.Waiting.{kept-waiting, never-nothing, replied-front, stopped, waiting-more, worked-front}
+use Rattle.pide_serve.proofs.Waited.{kept-waiting, never-nothing, replied-front, stopped, worked-front}
+use Rattle.pide_serve.proofs.Waiting.{waiting-more}
 use Rattle.pide_serve.proofs.serving.serve_message.Goals as goal
 
 pub returns-in-WriteFault-clause-fault : goal.returns-in-WriteFault-clause-fault

@@ -1,0 +1,223 @@
+//! The program over memory: each input with its status, its bytes and its history (`pide_serve`).
+ghost use Rattle.std.specs.Prelude.{◌<◌};
+
+use crate::example::{MORE, REFUSALS, SENT, WRITTEN};
+use pide_base::Status;
+use pide_io::{MemSink, MemSource};
+use pide_serve::pide;
+use std::alloc::{AllocError, Global};
+use std::test::Fail;
+
+/// Runs of the program, one for each of the pieces.
+#[derive(Clone, Copy)]
+struct Row {
+    /// What the row shows.
+    shows: &'static str,
+    words: &'static [&'static str],
+    /// How many bytes of the worked example come in, and what comes after them.
+    front: usize,
+    after: &'static [u8],
+    /// How many bytes a pull gives at most.
+    pieces: &'static [usize],
+    /// Which pull and which push fail, counted from 1; 0 for none.
+    failing_pull: u64,
+    failing_push: u64,
+    status: Status,
+    /// How many bytes of the worked example's replies are written, and what is written after them.
+    replies: usize,
+    then: &'static [u8],
+    /// How many entries the history has, where it is settled.
+    entries: Option<usize>,
+}
+
+impl Row {
+    fn input(&self, alloc: Global) -> Result<Vec<u8>, AllocError> {
+        spliced(alloc, SENT, self.front, self.after)
+    }
+
+    fn output(&self, alloc: Global) -> Result<Vec<u8>, AllocError> {
+        spliced(alloc, WRITTEN, self.replies, self.then)
+    }
+
+    /// Whether a run with this piece is as the row says.
+    fn holds(&self, alloc: Global, piece: usize) -> Result<bool, Fail>
+        requires { 0 < piece }
+    {
+        let fails = Vec::from_slice(alloc, &[self.failing_pull])?;
+        let source = MemSource::new(self.input(alloc)?, piece, fails);
+        let fails = Vec::from_slice(alloc, &[self.failing_push])?;
+        let sink = MemSink::new(alloc, 4096, fails).ok().ok_or("a sink")?;
+        let outcome = pide(alloc, self.words, source, sink);
+        let output = self.output(alloc)?;
+        Ok(
+            outcome.status == self.status
+                && outcome.sink.contents() == output.as_slice()
+                && self
+                    .entries
+                    .is_none_or(|count| count == outcome.history.len()),
+        )
+    }
+}
+
+/// The first bytes, so many at most, and what comes after them.
+fn spliced(alloc: Global, all: &[u8], count: usize, after: &[u8]) -> Result<Vec<u8>, AllocError> {
+    let mut bytes = Vec::from_slice(alloc, &all[..count.min(all.len())])?;
+    bytes.extend_from_slice(after)?;
+    Ok(bytes)
+}
+
+/// More than the worked example has, which is then taken whole.
+const WHOLE: usize = 4096;
+
+/// The worked example, which is served whole.
+const SERVED: Row = Row {
+    shows: "the worked example gives its replies however it is cut",
+    words: &["serve", "--workers", "0"],
+    front: WHOLE,
+    after: b"",
+    pieces: &[1, 7, 50, 65536],
+    failing_pull: 0,
+    failing_push: 0,
+    status: Status::Done,
+    replies: WHOLE,
+    then: b"",
+    entries: Some(14),
+};
+
+/// Another input, of which nothing is answered.
+const UNANSWERED: Row = Row {
+    shows: "no input is done with nothing written",
+    words: &["serve"],
+    front: 0,
+    replies: 0,
+    entries: Some(1),
+    ..SERVED
+};
+
+/// The worked example's first message with other bytes after it: its reply is written, and the
+/// history has its call and the end.
+const FIRST: Row = Row {
+    shows: "a first message is served",
+    words: &["serve"],
+    front: 158,
+    replies: 157,
+    entries: Some(2),
+    ..SERVED
+};
+
+/// Words that are no command.
+const UNSERVED: Row = Row {
+    shows: "no words are refused with nothing written",
+    words: &[],
+    status: Status::Usage,
+    replies: 0,
+    entries: Some(0),
+    ..SERVED
+};
+
+const ROWS: &[Row] = &[
+    SERVED,
+    UNANSWERED,
+    FIRST,
+    Row {
+        shows: "a line that is no list of numbers is a bad frame",
+        after: b"3,x\n",
+        status: Status::BadFrame { at: 0 },
+        ..UNANSWERED
+    },
+    Row {
+        shows: "a chunk that is a byte too long is a bad frame",
+        after: b"16777217\n",
+        status: Status::BadFrame { at: 0 },
+        ..UNANSWERED
+    },
+    Row {
+        shows: "a CR and leading zeros are read",
+        after: b"014,01\r\nSession.settle1",
+        then: b"7,1\nrefused7",
+        entries: Some(2),
+        ..UNANSWERED
+    },
+    Row {
+        shows: "an input may break off after a line",
+        after: b"16777216\n",
+        status: Status::Truncated { at: 0 },
+        ..UNANSWERED
+    },
+    Row {
+        shows: "whole messages are served before one that breaks off within a chunk",
+        after: b"14,1\nSession.set",
+        status: Status::Truncated { at: 158 },
+        ..FIRST
+    },
+    Row {
+        shows: "whole messages are served before one that breaks off within its line",
+        after: b"14,1",
+        status: Status::Truncated { at: 158 },
+        ..FIRST
+    },
+    Row {
+        shows: "whole messages are served before a bad line",
+        after: b"3,x\nabc",
+        status: Status::BadFrame { at: 158 },
+        ..FIRST
+    },
+    Row {
+        shows: "whole messages are served before a pull that fails",
+        pieces: &[50],
+        failing_pull: 5,
+        status: Status::ReadFault,
+        replies: 658,
+        entries: Some(13),
+        ..SERVED
+    },
+    Row {
+        shows: "other messages are refused and the session goes on",
+        after: MORE,
+        pieces: &[100],
+        then: REFUSALS,
+        entries: Some(18),
+        ..SERVED
+    },
+    Row {
+        shows: "a push that fails ends the run with a front of the replies",
+        pieces: &[1000],
+        failing_push: 3,
+        status: Status::WriteFault,
+        replies: 265,
+        entries: None,
+        ..SERVED
+    },
+    UNSERVED,
+    Row {
+        shows: "a word that is no command is refused",
+        words: &["check"],
+        ..UNSERVED
+    },
+    Row {
+        shows: "an option without its value is refused",
+        words: &["serve", "--workers"],
+        ..UNSERVED
+    },
+    Row {
+        shows: "a number of workers that is not served yet is refused",
+        words: &["serve", "--workers", "1"],
+        ..UNSERVED
+    },
+    Row {
+        shows: "an option that is no command is refused",
+        words: &["--help"],
+        ..UNSERVED
+    },
+];
+
+#[test]
+fn runs_end_as_their_rows_say(rt: HostRuntime) -> Result<(), Fail> {
+    for row in ROWS {
+        for piece in row.pieces {
+            let piece = (*piece).max(1);
+            assert!(rt; row.holds(rt.alloc(), piece)?, "{}", row.shows);
+        }
+    }
+    Ok(())
+}
