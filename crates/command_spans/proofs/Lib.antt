@@ -2,3 +2,11 @@ mod SpanLemmas
 mod SpanLaws
 mod RunLemmas
 mod CuttingLemmas
+mod PlaceLemmas
+mod RestartLemmas
+mod MeetingLemmas
+mod ChangeLemmas
+mod KeepLemmas
+mod EdgeLemmas
+mod RelexLemmas
+mod KeptLaws

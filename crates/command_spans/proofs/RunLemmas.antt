@@ -1,19 +1,13 @@
 -- The first span of tokens, by the function.
-use Rattle.std.proofs.Common.{◌≡◌, ◌⊎◌, ℕ, zero, suc, ◌+◌, ◌-◌, ◌<◌, ◌≤◌, Bool, true, false, cond, Some, List, [], ◌∷◌, length, get_or, drop, sym, refl, ap, ◌∙◌, subst, inl, inr, ⊎_elim, arith, length-drop}
-use Rattle.std.specs.Prelude.{if◌then◌else◌, slice_get}
+use Rattle.std.proofs.Common.{◌≡◌, ◌⊎◌, ℕ, zero, suc, ◌-◌, ◌<◌, ◌≤◌, Bool, true, false, List, [], ◌∷◌, length, get_or, sym, refl, subst, inl, inr, ⊎_elim, arith}
+use Rattle.std.specs.Prelude.{if◌then◌else◌}
 use Rattle.std.specs.List.{AllWithin}
-use Rattle.std.proofs.lemmas.Bool.{both_ways, cond-true, cond-false}
-use Rattle.outer_tokens.specs.Kinds.{is_proper, is_command}
-use Rattle.outer_tokens.specs.Headings.{AreTokens}
-use Rattle.outer_tokens.specs.Lexing.{tokens_of}
+use Rattle.std.proofs.lemmas.Bool.{both_ways}
 use Rattle.outer_tokens.specs.declared.token.Token.{Token}
-use Rattle.outer_tokens.proofs.KnownLexing.{are-tokens, same-lexed}
-use Rattle.command_spans.specs.Spans.{Is, proper_token, command_token, RunsTo, IsSpan, Covers, AreSpansOf, AreSpans}
-use Rattle.command_spans.specs.Cutting.{one_more, run_size, improper_size, rest_size, kind_from, first_span, spans_from, spans_of, spans_in}
+use Rattle.command_spans.specs.Spans.{Is, proper_token, command_token, RunsTo, IsSpan}
+use Rattle.command_spans.specs.Cutting.{one_more, run_size, improper_size}
 use Rattle.command_spans.specs.declared.span.SpanKind.TheVariants.{Command, Malformed, Ignored}
-use Rattle.command_spans.specs.declared.span.Span.{Span}
-use Rattle.command_spans.proofs.SpanLemmas.{span-within, got}
-use Rattle.command_spans.proofs.SpanLaws.{command-proper, one-cut}
+use Rattle.command_spans.proofs.SpanLaws.{command-proper}
 
 -- the first n of these tokens belong to the run that they go on with
 record Follows (ts : List Token) (n : ℕ) : Type 0 where

@@ -1,5 +1,5 @@
 -- The spans of tokens and of a text as a function (this project's own).
-use Rattle.std.specs.Prelude.{ℕ, zero, suc, ◌+◌, if◌then◌else◌, List, [], ◌∷◌}
+use Rattle.std.specs.Prelude.{ℕ, zero, suc, if◌then◌else◌, List, [], ◌∷◌}
 use Rattle.std.specs.List.{slice_index_or}
 use Rattle.outer_tokens.specs.Lexing.{tokens_of}
 use Rattle.outer_tokens.specs.declared.token.Token.{Token}

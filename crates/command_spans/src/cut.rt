@@ -64,7 +64,7 @@ fn first_span(tokens: &[Token]) -> (SpanKind, usize)
 }
 
 /// The spans of the tokens, one after the other.
-fn spans_of(alloc: Global, tokens: &[Token]) -> Result<Vec<Span>, AllocError>
+pub(crate) fn spans_of(alloc: Global, tokens: &[Token]) -> Result<Vec<Span>, AllocError>
     ensures { IfOk result (λ v. AreSpansOf tokens.now v.items) }
 {
     let mut spans = Vec::new(alloc);

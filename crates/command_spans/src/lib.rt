@@ -2,10 +2,16 @@
 //! Isabelle's command spans). It knows the tokens of a text, and of commands nothing but that they are.
 #![tactic(auto)]
 
+mod change;
 mod cut;
+mod edited;
 mod law;
+mod names;
 mod span;
+mod text_spans;
 
 pub use cut::spans;
-pub use law::one_list;
+pub use edited::{Reparsed, reparse};
+pub use law::{kept_tokens, one_list};
 pub use span::{Span, SpanKind};
+pub use text_spans::Spans;

@@ -1,6 +1,6 @@
 -- Each text has one header or none.
-use Rattle.std.proofs.Common.{◌≡◌, ◌⊎◌, ℕ, Option, None, Some, List, [], ◌∷◌, ◌++◌, length, take, drop, map, sym, refl, ap, ◌∙◌, subst, inl, inr, append_assoc}
-use Rattle.std.specs.Prelude.{codes}
+use Rattle.std.proofs.Common.{◌≡◌, ◌⊎◌, ℕ, Option, None, Some, List, [], ◌∷◌, ◌++◌, take, drop, map, sym, refl, ap, ◌∙◌, subst, inl, inr, append_assoc}
+use Rattle.std.specs.Prelude.{codes, MatchOption}
 use Rattle.outer_tokens.specs.Words.{is_in_force}
 use Rattle.outer_tokens.specs.Headings.{Heading, Word, flat_pairs, import_words, pair_words, words, words_of, IsHeading, IsHeadingEnd, proper}
 use Rattle.outer_tokens.specs.Stages.{end_from}
@@ -12,7 +12,9 @@ use Rattle.outer_tokens.specs.declared.token.Token.{Token}
 use Rattle.outer_tokens.proofs.KnownHeadings.{heading-end, one-size}
 use Rattle.outer_tokens.proofs.KnownLexing.{all-tokens, same-tokens}
 use Rattle.doc_headers.specs.Headers.{header_of, AreBaseTokens, HasHeader, HasNoHeader}
+use Rattle.doc_headers.specs.Reading.{header_in}
 use Rattle.doc_headers.specs.declared.parts.Header.{Header}
+use Rattle.doc_headers.proofs.StopLemmas.{in-tells}
 
 -- the kind and the scalars of the first word
 abbrev kind_first : List Word → Kind
@@ -98,3 +100,17 @@ pub header-either : (text : List ℕ) → HasNoHeader text ⊎ ((h : Header) × 
 header-either text =
     let ts : List Token = tokens_under (λ _. is_in_force []) text in
     by-end text ts (all-tokens (λ _. is_in_force []) text) (end_from text Start ts) (heading-end text ts)
+
+told-just : (text : List ℕ) (h : Header) (o : Option Header) → MatchOption o (HasNoHeader text) (HasHeader text) → (HasHeader text h → o ≡ Some h) × (o ≡ Some h → HasHeader text h)
+told-just text h None none = (λ has. absurd (header-apart text h has none), λ e. absurd (cc (e)))
+told-just text h (Some k) has = (λ is. ap Some (one-header text k h has is), λ e. let same : k ≡ h = cc (e) in subst (HasHeader text) same has)
+
+told-none : (text : List ℕ) (o : Option Header) → MatchOption o (HasNoHeader text) (HasHeader text) → (HasNoHeader text → o ≡ None) × (o ≡ None → HasNoHeader text)
+told-none text None none = (λ is. refl, λ e. none)
+told-none text (Some k) has = (λ none. absurd (header-apart text k has none), λ e. absurd (cc (e)))
+
+pub header-just : (text : List ℕ) (h : Header) → (HasHeader text h → header_in text ≡ Some h) × (header_in text ≡ Some h → HasHeader text h)
+header-just text h = told-just text h (header_in text) (in-tells text)
+
+pub header-none : (text : List ℕ) → (HasNoHeader text → header_in text ≡ None) × (header_in text ≡ None → HasNoHeader text)
+header-none text = told-none text (header_in text) (in-tells text)

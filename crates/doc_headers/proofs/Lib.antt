@@ -1,3 +1,4 @@
 mod HeaderLaws
 mod TakenLemmas
 mod ReadLemmas
+mod StopLemmas

@@ -1,23 +1,23 @@
 -- What the reading of a header knows at each token.
-use Rattle.std.proofs.Common.{◌≡◌, ℕ, ◌+◌, ◌<◌, ◌≤◌, Bool, true, false, Option, None, Some, List, [], ◌∷◌, ◌++◌, length, take, drop, map, sym, refl, ap, ◌∙◌, subst, arith, append_assoc, length-append}
+use Rattle.std.proofs.Common.{◌≡◌, ℕ, ◌≤◌, Bool, true, false, None, Some, List, [], ◌∷◌, ◌++◌, length, take, drop, sym, refl, ap, ◌∙◌, subst, arith, append_assoc, length-append}
 use Rattle.std.specs.Prelude.{if◌then◌else◌}
 use Rattle.std.proofs.lemmas.Bool.{cond-true, cond-false}
-use Rattle.std.proofs.lemmas.List.{take_at, append-nil, map-append}
+use Rattle.std.proofs.lemmas.List.{take_at, append-nil}
 use Rattle.outer_tokens.specs.Kinds.{is_proper}
 use Rattle.outer_tokens.specs.Words.{is_in_force}
 use Rattle.outer_tokens.specs.Tokens.{text_of, IsTokenAt, AreTokensBetween}
-use Rattle.outer_tokens.specs.Headings.{words, words_of, IsHeading, IsHeadingEnd, proper}
+use Rattle.outer_tokens.specs.Headings.{words, IsHeadingEnd, proper}
 use Rattle.outer_tokens.specs.Stages.{after_word, after_token, is_ended, end_from}
 use Rattle.outer_tokens.specs.Lexing.{tokens_from}
 use Rattle.outer_tokens.specs.declared.stage.Stage.{Stage}
-use Rattle.outer_tokens.specs.declared.stage.Stage.TheVariants.{Start, Theory, Name, Imports, Import, Keywords, PairName, Equals, Pair, Ended, Absent}
+use Rattle.outer_tokens.specs.declared.stage.Stage.TheVariants.{Start, Ended, Absent}
 use Rattle.outer_tokens.specs.declared.token.Token.{Token}
 use Rattle.outer_tokens.proofs.KnownParts.{Parts, collect, Sofar}
 use Rattle.outer_tokens.proofs.KnownStages.{further}
 use Rattle.outer_tokens.proofs.KnownProper.{proper-push, proper-skip, proper-both}
 use Rattle.outer_tokens.proofs.KnownHeadings.{words-push, nothing-read, heading-end}
 use Rattle.outer_tokens.proofs.KnownLexing.{tokens-push, tokens-append, rest-tokens}
-use Rattle.doc_headers.specs.Headers.{pair_of, header_of, AreBaseTokens, HasHeader, HasNoHeader}
+use Rattle.doc_headers.specs.Headers.{AreBaseTokens, HasHeader, HasNoHeader}
 use Rattle.doc_headers.specs.Reading.{nothing, taken_at, advanced}
 use Rattle.doc_headers.specs.declared.read.Reading.{Reading}
 use Rattle.doc_headers.proofs.TakenLemmas.{told, taken-told}
@@ -118,7 +118,11 @@ module _ (text : List ℕ) (place : ℕ) (r : Reading) (t : Token) (read : IsRea
         ap (λ (x : Reading). x.header) n.1.says,
       )
 
-absent-ends : (text : List ℕ) (ts : List Token) → end_from text Absent ts ≡ None
+pub ended-one : (s : Stage) → is_ended s ≡ true → s ≡ Ended
+ended-one Ended e = refl
+ended-one _ e = absurd (cc (e))
+
+pub absent-ends : (text : List ℕ) (ts : List Token) → end_from text Absent ts ≡ None
 absent-ends text [] = refl
 absent-ends text (t ∷ ts) = go (is_proper t.kind) refl (absent-ends text ts) where
   go : (b : Bool) → is_proper t.kind ≡ b → end_from text Absent ts ≡ None → end_from text Absent (t ∷ ts) ≡ None

@@ -1,12 +1,15 @@
 -- What has been read of a header, token by token (this project's own).
-use Rattle.std.specs.Prelude.{ℕ, if◌then◌else◌, List, [], ◌∷◌, ◌++◌}
+use Rattle.std.specs.Prelude.{ℕ, if◌then◌else◌, List, [], ◌∷◌, ◌++◌, Option, None, Some}
 use Rattle.outer_tokens.specs.Kinds.{is_proper}
 use Rattle.outer_tokens.specs.Tokens.{text_of}
-use Rattle.outer_tokens.specs.Stages.{after_token}
+use Rattle.outer_tokens.specs.Words.{is_in_force}
+use Rattle.outer_tokens.specs.Stages.{after_token, is_ended}
+use Rattle.outer_tokens.specs.Lexing.{tokens_under}
 use Rattle.outer_tokens.specs.declared.stage.Stage.TheVariants.{Start, Name, Import, PairName, Pair}
 use Rattle.outer_tokens.specs.declared.stage.Stage.{Stage}
 use Rattle.outer_tokens.specs.declared.token.Token.{Token}
 use Rattle.doc_headers.specs.Headers.{pair_of}
+use Rattle.doc_headers.specs.declared.parts.Header.{Header}
 use Rattle.doc_headers.specs.declared.read.Reading.{Reading}
 
 -- nothing has been read
@@ -37,3 +40,14 @@ abbrev pub advanced : List ℕ → Token → Reading → Reading
 advanced text t r = if is_proper t.kind
     then taken_in (text_of text t) (record r { stage = after_token text r.stage t })
     else record r { stage = after_token text r.stage t }
+
+-- the header that is told by what has been read and these tokens more, if it ends with one of them
+abbrev pub header_from : List ℕ → Reading → List Token → Option Header
+header_from text r [] = None
+header_from text r (t ∷ ts) = if is_ended (advanced text t r).stage
+    then Some (advanced text t r).header else header_from text (advanced text t r) ts
+
+-- the header of the text, as a function: `HasHeader` holds of just its value, `HasNoHeader` where it
+-- has none
+abbrev pub header_in : List ℕ → Option Header
+header_in text = header_from text nothing (tokens_under (λ _. is_in_force []) text)

@@ -8,4 +8,4 @@ mod read;
 
 pub use law::one_header;
 pub use parts::{Header, KeywordPair};
-pub use read::header;
+pub use read::{header, header_stop};

@@ -2,6 +2,7 @@
 
 ghost use Rattle.std.specs.Prelude.{◌≡◌, IfOk, MatchOption};
 ghost use Rattle.outer_tokens.specs.Tokens.{text_of};
+ghost use Rattle.outer_tokens.specs.Lexing.{header_end};
 ghost use Rattle.doc_headers.specs.Headers.{HasHeader, HasNoHeader};
 ghost use Rattle.doc_headers.specs.Reading.{nothing, taken_in, advanced};
 
@@ -81,4 +82,22 @@ pub fn header(alloc: Global, text: &[char]) -> Result<Option<Header>, AllocError
         }
     }
     Ok(None)
+}
+
+/// Where the header of the text ends, in scalars: after its `begin`. `None` comes exactly where there is
+/// no header. No more of the text is read than for the header.
+pub fn header_stop(text: &[char]) -> Option<usize>
+    ensures { result ≡ header_end text.now }
+{
+    let mut stage = Stage::Start;
+    let mut place = 0;
+    while let Some(token) = next_token(text, &[], place) {
+        stage = after_token(text, stage, token);
+        match stage {
+            Stage::Ended => return Some(token.range.stop),
+            Stage::Absent => return None,
+            _ => place = token.range.stop,
+        }
+    }
+    None
 }

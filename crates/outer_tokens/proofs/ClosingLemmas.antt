@@ -1,14 +1,12 @@
 -- What closes a bracket ends with its closing.
-use Rattle.std.proofs.Common.{◌≡◌, ℕ, zero, suc, ◌+◌, ◌-◌, ◌<◌, ◌≤◌, Bool, true, false, cond, nat_eq, eqb, List, [], ◌∷◌, ◌++◌, length, take, drop, sym, refl, ap, ◌∙◌, subst, arith, length-take-le, length-drop, append_assoc}
+use Rattle.std.proofs.Common.{◌≡◌, ℕ, ◌<◌, true, false, eqb, List, [], ◌∷◌, ◌++◌, length, take, drop, sym, refl, ap, ◌∙◌, arith, append_assoc}
 use Rattle.std.proofs.lemmas.Bool.{and_parts, both_ways, eqb-true}
-use Rattle.std.proofs.lemmas.List.{take-take, drop-take, drop-drop, take-append-drop, append-nil}
-use Rattle.text_words.specs.Longest.{IsLongest, HasNoFront}
-use Rattle.outer_tokens.specs.Brackets.{opening, closing, begins, piece, Reads, opened, closed, after, Closes, ClosesText}
+use Rattle.std.proofs.lemmas.List.{take-append-drop, append-nil}
+use Rattle.outer_tokens.specs.Brackets.{opening, closing, begins, piece, Reads, after, Closes}
 use Rattle.outer_tokens.specs.declared.bracket.Bracket.{Bracket}
 use Rattle.outer_tokens.specs.declared.bracket.Bracket.TheVariants.{Comment, String, Cartouche}
 use Rattle.outer_tokens.specs.declared.bracket.Mark.{Mark}
 use Rattle.outer_tokens.specs.declared.bracket.Mark.TheVariants.{Open, Close, Other}
-use lib.Pointwise.{pointwise}
 use Rattle.outer_tokens.proofs.BracketLemmas.{close-case, close-fits, closes-rest}
 
 pub equal-front : (front s : List ℕ) → begins front s ≡ true → take (length front) s ≡ front

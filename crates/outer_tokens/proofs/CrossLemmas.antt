@@ -1,33 +1,21 @@
 -- A symbol that goes over a place: what it begins with, and what stands before the place.
-use Rattle.std.proofs.Common.{◌≡◌, ℕ, zero, suc, ◌+◌, ◌-◌, ◌<◌, ◌≤◌, ◌||◌, ◌==◌, Bool, true, false, List, [], ◌∷◌, ◌++◌, length, get_or, take, drop, sym, refl, ap, ◌∙◌, subst, inl, inr, ⊎_elim, arith, length-take-le, length-drop, length-append, get_or-take, get_or-drop, append_assoc}
+use Rattle.std.proofs.Common.{◌≡◌, ℕ, zero, suc, ◌+◌, ◌-◌, ◌<◌, ◌≤◌, ◌||◌, ◌==◌, Bool, true, false, List, [], ◌∷◌, ◌++◌, length, get_or, take, drop, sym, refl, ap, ◌∙◌, inl, inr, ⊎_elim, arith, length-take-le, length-append, get_or-take, get_or-drop}
 use Rattle.std.specs.Prelude.{All}
-use Rattle.std.proofs.lemmas.Bool.{both_ways, or_cases, or_left, or_right, eqb-true, cases_lt}
-use Rattle.std.proofs.lemmas.List.{get_or_at, get_or_append_left, take_all}
+use Rattle.std.proofs.lemmas.Bool.{both_ways, or_cases, or_left, or_right, eqb-true}
+use Rattle.std.proofs.lemmas.List.{get_or_append_left}
 use Rattle.std.proofs.lemmas.List.Elements.{All-nil, All-cons, All-append, All-head, All-tail, All-weaker}
 use Rattle.text_words.specs.Identifier.{is_identifier_part, IsIdentifier}
 use Rattle.symbols.specs.Names.{IsClosedName, IsMarkedName, IsNamedSymbol}
-use Rattle.symbols.specs.Symbols.{IsSymbolAt, IsInside}
+use Rattle.symbols.specs.Symbols.{IsSymbolAt}
 use Rattle.text_words.proofs.KnownIdentifiers.{identifier-parts}
-use Rattle.outer_tokens.specs.Brackets.{opening, closing}
 use Rattle.text_words.specs.Blanks.{is_blank}
 use Rattle.outer_tokens.specs.Forms.{dotted}
-use Rattle.outer_tokens.specs.Rows.{IsFirstRow}
-use Rattle.outer_tokens.specs.Tokens.{IsToken, AreTokensBetween}
-use Rattle.outer_tokens.specs.Headings.{names_at, AreTokens}
-use Rattle.outer_tokens.specs.declared.bracket.Bracket.{Bracket}
-use Rattle.outer_tokens.specs.declared.bracket.Bracket.TheVariants.{Comment, String, Cartouche}
-use Rattle.outer_tokens.specs.declared.row.Row.{Row}
-use Rattle.outer_tokens.specs.declared.row.Row.TheVariants.{Space, Enclosed, Error, Symbol, LongIdent, Word, Sym}
-use Rattle.outer_tokens.specs.declared.token.Token.{Token}
-use Rattle.outer_tokens.proofs.ClosingLemmas.{closes-end}
-use Rattle.outer_tokens.proofs.EnclosedLemmas.{opens-whole}
-use Rattle.outer_tokens.proofs.TokenLemmas.{row-some}
 
 -- a scalar that a named symbol has before its last one
 abbrev pub is_inner : ℕ → Bool
 is_inner c = (c == 92 || c == 60) || (c == 94 || is_identifier_part c)
 
-part-inner : (c : ℕ) → is_identifier_part c ≡ true → is_inner c ≡ true
+pub part-inner : (c : ℕ) → is_identifier_part c ≡ true → is_inner c ≡ true
 part-inner c part = or_right (c == 92 || c == 60) (c == 94 || is_identifier_part c) (or_right (c == 94) (is_identifier_part c) part)
 
 closed-inner : (s : List ℕ) → IsClosedName s → (j : ℕ) → j + 1 < length s → is_inner (get_or s j 0) ≡ true
@@ -40,7 +28,7 @@ marked-inner s (inl closed) j before = closed-inner s closed j before
 marked-inner s (inr (closed, is, e)) zero before = ap is_inner (ap (λ r. get_or r 0 0) e)
 marked-inner s (inr (closed, is, e)) (suc j) before = ap is_inner (ap (λ r. get_or r (suc j) 0) e) ∙ closed-inner closed is j (omega (arith, ap length e))
 
-named-inner : (s : List ℕ) → IsNamedSymbol s → (j : ℕ) → j + 1 < length s → is_inner (get_or s j 0) ≡ true
+pub named-inner : (s : List ℕ) → IsNamedSymbol s → (j : ℕ) → j + 1 < length s → is_inner (get_or s j 0) ≡ true
 named-inner s (marked, is, e) zero before = ap is_inner (ap (λ r. get_or r 0 0) e)
 named-inner s (marked, is, e) (suc zero) before = ap is_inner (ap (λ r. get_or r 1 0) e)
 named-inner s (marked, is, e) (suc (suc j)) before = ap is_inner (ap (λ r. get_or r (suc (suc j)) 0) e) ∙ marked-inner marked is j (omega (arith, ap length e))

@@ -1,8 +1,8 @@
 -- Reading word by word finds just the header that the proper tokens begin with.
-use Rattle.std.proofs.Common.{◌≡◌, ℕ, zero, suc, ◌+◌, ◌-◌, ◌<◌, ◌≤◌, Bool, true, false, cond, Option, None, Some, List, [], ◌∷◌, ◌++◌, length, take, drop, sym, refl, ap, ◌∙◌, subst, ⊎_elim, arith, append_assoc, length-append, length-take-le, length-drop}
+use Rattle.std.proofs.Common.{◌≡◌, ℕ, zero, suc, ◌+◌, ◌-◌, ◌<◌, ◌≤◌, Bool, true, false, Option, None, Some, List, [], ◌∷◌, ◌++◌, length, take, drop, sym, refl, ap, ◌∙◌, subst, ⊎_elim, arith, append_assoc, length-append, length-take-le, length-drop}
 use Rattle.std.specs.Prelude.{if◌then◌else◌, slice_get}
 use Rattle.std.proofs.lemmas.Bool.{both_ways, cases_lt, cond-true, cond-false}
-use Rattle.std.proofs.lemmas.List.{take_at, append-nil, map-append, length-map, take-map, take-take, take-append-drop}
+use Rattle.std.proofs.lemmas.List.{take_at, map-append, length-map, take-map, take-take, take-append-drop}
 use Rattle.outer_tokens.specs.Kinds.{is_proper}
 use Rattle.outer_tokens.specs.Tokens.{text_of}
 use Rattle.outer_tokens.specs.Headings.{Heading, Word, words, words_of, IsHeading, proper, EndsHeading, IsHeadingEnd}

@@ -1,14 +1,7 @@
 -- What has been read of a header at each stage.
-use Rattle.std.proofs.Common.{◌≡◌, ℕ, ◌<◌, ◌&&◌, Bool, true, false, List, [], ◌∷◌, ◌++◌, length, sym, refl, ap, ◌∙◌, arith, append_assoc, length-append}
-use Rattle.std.specs.Prelude.{codes, if◌then◌else◌}
-use Rattle.std.proofs.lemmas.Bool.{and_parts}
-use Rattle.std.proofs.lemmas.Grind.{flat_map-append}
-use Rattle.std.proofs.lemmas.List.{append-nil, map-append}
-use Rattle.outer_tokens.specs.Kinds.{is_command, is_keyword, is_name, is_sym, is_string}
-use Rattle.outer_tokens.specs.Words.{same}
+use Rattle.std.proofs.Common.{◌≡◌, ℕ, ◌<◌, List, [], ◌∷◌, ◌++◌, length}
+use Rattle.std.specs.Prelude.{codes}
 use Rattle.outer_tokens.specs.Headings.{Heading, Word, flat_pairs, import_words, pair_words, words_of}
-use Rattle.outer_tokens.specs.Stages.{is_this_keyword, after_imports, after_word, is_ended}
-use Rattle.outer_tokens.specs.declared.kind.Kind.{Kind}
 use Rattle.outer_tokens.specs.declared.kind.Kind.TheVariants as kind
 use Rattle.outer_tokens.specs.declared.stage.Stage.{Stage}
 use Rattle.outer_tokens.specs.declared.stage.Stage.TheVariants.{Start, Theory, Name, Imports, Import, Keywords, PairName, Equals, Pair, Ended, Absent}

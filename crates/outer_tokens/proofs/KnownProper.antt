@@ -1,14 +1,9 @@
 -- The proper ones of tokens put together.
-use Rattle.std.proofs.Common.{◌≡◌, ℕ, zero, suc, ◌+◌, ◌-◌, ◌<◌, ◌≤◌, Bool, true, false, cond, Option, None, Some, List, [], ◌∷◌, ◌++◌, length, take, drop, sym, refl, ap, ◌∙◌, subst, ⊎_elim, arith, append_assoc, length-append, length-take-le, length-drop}
-use Rattle.std.specs.Prelude.{if◌then◌else◌, slice_get}
-use Rattle.std.proofs.lemmas.Bool.{both_ways, cases_lt, cond-true, cond-false}
-use Rattle.std.proofs.lemmas.List.{take_at, append-nil, map-append, length-map, take-map, take-take, take-append-drop}
+use Rattle.std.proofs.Common.{◌≡◌, Bool, true, false, cond, List, [], ◌∷◌, ◌++◌, sym, refl, ap, ◌∙◌}
+use Rattle.std.proofs.lemmas.Bool.{cond-true, cond-false}
+use Rattle.std.proofs.lemmas.List.{append-nil}
 use Rattle.outer_tokens.specs.Kinds.{is_proper}
-use Rattle.outer_tokens.specs.Tokens.{text_of}
-use Rattle.outer_tokens.specs.Headings.{Heading, Word, words, words_of, IsHeading, proper, EndsHeading, IsHeadingEnd}
-use Rattle.outer_tokens.specs.Stages.{after_word, after_token, is_ended, end_from}
-use Rattle.outer_tokens.specs.declared.stage.Stage.{Stage}
-use Rattle.outer_tokens.specs.declared.stage.Stage.TheVariants.{Start, Ended}
+use Rattle.outer_tokens.specs.Headings.{proper}
 use Rattle.outer_tokens.specs.declared.token.Token.{Token}
 
 pub proper-cons : (t : Token) (ts : List Token) → proper (t ∷ ts) ≡ cond (is_proper t.kind) (t ∷ proper ts) (proper ts)

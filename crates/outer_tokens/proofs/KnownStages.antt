@@ -6,7 +6,7 @@ use Rattle.std.proofs.lemmas.Grind.{flat_map-append}
 use Rattle.std.proofs.lemmas.List.{append-nil, map-append}
 use Rattle.outer_tokens.specs.Kinds.{is_command, is_keyword, is_name, is_sym, is_string}
 use Rattle.outer_tokens.specs.Words.{same}
-use Rattle.outer_tokens.specs.Headings.{Heading, Word, flat_pairs, import_words, pair_words, words_of}
+use Rattle.outer_tokens.specs.Headings.{Word, flat_pairs, import_words, pair_words}
 use Rattle.outer_tokens.specs.Stages.{is_this_keyword, after_imports, after_word, is_ended}
 use Rattle.outer_tokens.specs.declared.kind.Kind.{Kind}
 use Rattle.outer_tokens.specs.declared.kind.Kind.TheVariants as kind

@@ -1,14 +1,11 @@
 -- What is left of a bracket's inside at a piece, and where its closing is found.
-use Rattle.std.proofs.Common.{◌≡◌, ℕ, zero, suc, ◌+◌, ◌-◌, ◌<◌, ◌≤◌, Bool, true, false, cond, nat_eq, eqb, List, [], ◌∷◌, ◌++◌, length, take, drop, sym, refl, ap, ◌∙◌, subst, arith, length-take-le, length-drop, append_assoc}
-use Rattle.std.proofs.lemmas.Bool.{and_parts, both_ways, eqb-true}
-use Rattle.std.proofs.lemmas.List.{take-take, drop-take, drop-drop, take-append-drop, append-nil}
+use Rattle.std.proofs.Common.{◌≡◌, ℕ, ◌+◌, ◌-◌, ◌<◌, ◌≤◌, List, [], ◌∷◌, length, take, drop, sym, refl, ap, subst, arith, length-take-le, length-drop}
+use Rattle.std.proofs.lemmas.List.{drop-drop}
 use Rattle.text_words.specs.Longest.{IsLongest, HasNoFront}
-use Rattle.outer_tokens.specs.Brackets.{opening, closing, begins, piece, Reads, opened, closed, after, Closes, ClosesText}
+use Rattle.outer_tokens.specs.Brackets.{piece, after, ClosesText}
 use Rattle.outer_tokens.specs.declared.bracket.Bracket.{Bracket}
-use Rattle.outer_tokens.specs.declared.bracket.Bracket.TheVariants.{Comment, String, Cartouche}
 use Rattle.outer_tokens.specs.declared.bracket.Mark.{Mark}
 use Rattle.outer_tokens.specs.declared.bracket.Mark.TheVariants.{Open, Close, Other}
-use lib.Pointwise.{pointwise}
 use Rattle.outer_tokens.proofs.BracketLemmas.{closing-some, close-fits, room, down, up}
 
 -- the loop has come to `at` with so many open brackets: what is left closes them just where the whole closes one

@@ -19,5 +19,8 @@ pub mod KnownHeadings
 mod TokenLaws
 pub mod KnownLexing
 mod CrossLemmas
+mod OpeningLemmas
+mod FrontLemmas
+pub mod KnownKept
 mod SymbolLaw
 mod ContentLemmas

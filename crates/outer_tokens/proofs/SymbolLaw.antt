@@ -1,13 +1,11 @@
 -- No token ends within a symbol: by its row, its last scalar or its first symbol tells.
-use Rattle.std.proofs.Common.{◌≡◌, ℕ, zero, suc, ◌+◌, ◌-◌, ◌<◌, ◌≤◌, ◌||◌, ◌==◌, Bool, true, false, List, [], ◌∷◌, ◌++◌, length, get_or, take, drop, sym, refl, ap, ◌∙◌, subst, inl, inr, ⊎_elim, arith, length-take-le, length-drop, length-append, get_or-take, get_or-drop, append_assoc}
+use Rattle.std.proofs.Common.{◌≡◌, ℕ, ◌+◌, ◌-◌, ◌<◌, ◌≤◌, Bool, true, false, List, [], ◌∷◌, ◌++◌, length, get_or, take, drop, sym, refl, ap, ◌∙◌, subst, ⊎_elim, arith, length-take-le, length-drop, length-append, get_or-take, get_or-drop, append_assoc}
 use Rattle.std.specs.Prelude.{All}
-use Rattle.std.proofs.lemmas.Bool.{both_ways, or_cases, or_left, or_right, eqb-true, cases_lt}
-use Rattle.std.proofs.lemmas.List.{get_or_at, get_or_append_left, take_all}
-use Rattle.std.proofs.lemmas.List.Elements.{All-nil, All-cons, All-append, All-head, All-tail, All-weaker}
-use Rattle.text_words.specs.Identifier.{is_identifier_part, IsIdentifier}
-use Rattle.symbols.specs.Names.{IsClosedName, IsMarkedName, IsNamedSymbol}
-use Rattle.symbols.specs.Symbols.{IsSymbolAt, IsInside}
-use Rattle.text_words.proofs.KnownIdentifiers.{identifier-parts}
+use Rattle.std.proofs.lemmas.Bool.{both_ways, cases_lt}
+use Rattle.std.proofs.lemmas.List.{get_or_at, take_all}
+use Rattle.std.proofs.lemmas.List.Elements.{All-nil, All-cons, All-append}
+use Rattle.symbols.specs.Names.{IsNamedSymbol}
+use Rattle.symbols.specs.Symbols.{IsInside}
 use Rattle.outer_tokens.specs.Brackets.{opening, closing}
 use Rattle.text_words.specs.Blanks.{is_blank}
 use Rattle.outer_tokens.specs.Forms.{dotted}

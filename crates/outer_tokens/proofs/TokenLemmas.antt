@@ -1,10 +1,10 @@
 -- A token more, and that a row's form has a scalar.
-use Rattle.std.proofs.Common.{◌≡◌, ℕ, ◌+◌, ◌-◌, ◌<◌, Bool, List, [], ◌∷◌, ◌++◌, length, take, drop, sym, refl, ap, ◌∙◌, subst, arith, length-take-le, length-append}
+use Rattle.std.proofs.Common.{◌≡◌, ℕ, ◌+◌, ◌-◌, ◌<◌, Bool, List, length, take, drop, ap, subst, arith, length-take-le, length-append}
 use Rattle.outer_tokens.specs.Brackets.{opening}
 use Rattle.outer_tokens.specs.Forms.{dotted}
 use Rattle.outer_tokens.specs.Rows.{HasForm, IsFirstRow}
 use Rattle.outer_tokens.specs.Words.{kind_of}
-use Rattle.outer_tokens.specs.Tokens.{IsToken, AreTokensBetween, text_of}
+use Rattle.outer_tokens.specs.Tokens.{IsToken, text_of}
 use Rattle.outer_tokens.specs.declared.bracket.Bracket.{Bracket}
 use Rattle.outer_tokens.specs.declared.bracket.Bracket.TheVariants.{Comment, String, Cartouche}
 use Rattle.outer_tokens.specs.declared.row.Row.{Row}

@@ -4,6 +4,7 @@ pub mod Forms
 pub mod Rows
 pub mod Words
 pub mod Tokens
+pub mod Renaming
 pub mod Headings
 pub mod Stages
 pub mod Lexing

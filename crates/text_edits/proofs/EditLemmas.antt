@@ -1,9 +1,10 @@
 -- A text with another one in it and the text shorter it, each as cuts of the other.
-use Rattle.std.proofs.Common.{◌≡◌, ℕ, ◌+◌, ◌≤◌, List, ◌++◌, length, take, drop, refl, sym, ap, ◌∙◌, arith, length-take, take-append-drop}
+use Rattle.std.proofs.Common.{◌≡◌, Result, Err, ℕ, ◌+◌, ◌≤◌, List, ◌++◌, length, take, drop, refl, sym, ap, subst, ◌∙◌, arith, length-take, take-append-drop}
 use Rattle.std.proofs.Math.Seq.{take-append_seam, drop-append_seam, drop-append-add}
 use Rattle.std.proofs.lemmas.Grind.{common_steps}
 use Rattle.text_edits.specs.declared.edit.Edit.{Edit}
 use Rattle.text_edits.specs.declared.edit.Edit.TheVariants.{Insert, Remove}
+use Rattle.text_edits.specs.declared.fault.EditFault.{EditFault}
 use Rattle.text_edits.specs.Edits.{PutsIn, Applies}
 
 pub longer_is : (start : ℕ) (x shorter longer : List ℕ) → PutsIn start x shorter longer
@@ -30,3 +31,13 @@ taken_out start count x text within n h =
     let whole : text ≡ take start text ++ x ++ drop (start + count) text =
     grind (arith, common_steps, take-append-drop start text, take-append-drop count (drop start text)) in
     (take start text, drop (start + count) text, omega (arith, length-take start text), refl, whole)
+
+-- the same, told by where it stops
+pub taken_upto : (start stop : ℕ) (x text : List ℕ) → stop ≡ start + length x → stop ≤ length text
+    → take (length x) (drop start text) ≡ x → PutsIn start x (take start text ++ drop stop text) text
+taken_upto start stop x text size within h =
+    subst (λ k. PutsIn start x (take start text ++ drop k text) text) (sym size) (taken_out start (length x) x text (omega arith) refl h)
+
+-- a fault handed on is the same fault
+pub same-fault : {A B : Type 0} (x y : EditFault) → ◌≡◌ {A = Result A EditFault} (Err x) (Err y) → ◌≡◌ {A = Result B EditFault} (Err x) (Err y)
+same-fault x y e = let same : x ≡ y = cc (e) in ap Err same

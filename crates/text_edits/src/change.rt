@@ -1,5 +1,5 @@
 //! Making an edit.
-ghost use Rattle.std.specs.Prelude.{◌≡◌, ◌≢◌, ℕ, ◌↔◌, length, Err, OnOk, OnErr, MatchOption};
+ghost use Rattle.std.specs.Prelude.{◌≡◌, ◌≢◌, ℕ, ◌↔◌, ◌+◌, ◌≤◌, length, take, drop, Err, OnOk, OnErr, IfOk, MatchOption};
 ghost use Rattle.text_edits.specs.declared.edit.Edit.{Edit};
 ghost use Rattle.text_edits.specs.declared.fault.EditFault.{EditFault};
 ghost use Rattle.text_edits.specs.Edits.{Applies, PutsIn, IsInsert};
@@ -39,15 +39,16 @@ fn insert(text: &mut Text, start: usize, inserted: &Text) -> Result<(), EditFaul
     Ok(())
 }
 
-/// Takes the scalars out at the place, where the text has them.
-fn remove(text: &mut Text, start: usize, removed: &Text) -> Result<(), EditFault>
-    ensures applied { OnOk result (PutsIn start removed.now text.new text.old) }
+/// Where what is removed at the place ends, where the text has it.
+pub fn removed_stop(text: &Text, start: usize, removed: &Text) -> Result<usize, EditFault>
+    ensures stands { IfOk result (λ stop. (stop ≡ start + length removed.now)
+        × (stop ≤ length text.now)
+        × (take (length removed.now) (drop start text.now) ≡ removed.now)) }
     ensures out_of_range { (at len : ℕ) → (result ≡ Err (EditFault.OutOfRange at len))
-        ↔ IsOutOfRange (Edit.Remove start removed.now) text.old at len }
+        ↔ IsOutOfRange (Edit.Remove start removed.now) text.now at len }
     ensures differs { (at : ℕ) → (result ≡ Err (EditFault.Differs at))
-        ↔ DiffersAt (Edit.Remove start removed.now) text.old at }
+        ↔ DiffersAt (Edit.Remove start removed.now) text.now at }
     ensures no_memory { result ≢ Err EditFault.NoMemory }
-    ensures unchanged { OnErr result (text.new ≡ text.old) }
 {
     let len = text.len();
     let count = removed.len();
@@ -58,8 +59,26 @@ fn remove(text: &mut Text, start: usize, removed: &Text) -> Result<(), EditFault
     if let Some(k) = first_difference(standing, removed.as_slice()) {
         return Err(EditFault::Differs { at: start + k });
     }
-    text.remove(start, count);
-    Ok(())
+    Ok(start + count)
+}
+
+/// Takes the scalars out at the place, where the text has them.
+fn remove(text: &mut Text, start: usize, removed: &Text) -> Result<(), EditFault>
+    ensures applied { OnOk result (PutsIn start removed.now text.new text.old) }
+    ensures out_of_range { (at len : ℕ) → (result ≡ Err (EditFault.OutOfRange at len))
+        ↔ IsOutOfRange (Edit.Remove start removed.now) text.old at len }
+    ensures differs { (at : ℕ) → (result ≡ Err (EditFault.Differs at))
+        ↔ DiffersAt (Edit.Remove start removed.now) text.old at }
+    ensures no_memory { result ≢ Err EditFault.NoMemory }
+    ensures unchanged { OnErr result (text.new ≡ text.old) }
+{
+    match removed_stop(text, start, removed) {
+        Ok(stop) => {
+            text.remove(start, stop - start);
+            Ok(())
+        }
+        Err(fault) => Err(fault),
+    }
 }
 
 /// Makes the edit in the text. `OutOfRange` is tried first, then `Differs`, then memory, which a

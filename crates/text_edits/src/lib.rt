@@ -11,6 +11,7 @@ mod change;
 mod edit;
 mod fault;
 mod laws;
+mod new_text;
 mod offsets;
 mod text;
 
@@ -21,5 +22,6 @@ pub use laws::{
     a_kept_scalar_is_moved, one_result, places_stay_in_order, places_stay_within,
     revert_undoes_convert,
 };
+pub use new_text::changed;
 pub use offsets::{convert, convert_list, convert_range, convert_range_list, revert, revert_list};
 pub use text::Text;

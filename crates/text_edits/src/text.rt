@@ -74,6 +74,28 @@ impl Text {
         self.scalars.is_empty()
     }
 
+    /// The text where what stands between the places is replaced by these scalars.
+    pub(crate) fn replaced(
+        &self,
+        alloc: Global,
+        start: usize,
+        stop: usize,
+        put: &[char],
+    ) -> Result<Text, AllocError>
+        requires order { start ≤ stop }
+        requires within { stop ≤ length self.now }
+        ensures { IfOk result
+            (λ text. text ≡ take start self.now ++ put.now ++ drop stop self.now) }
+    {
+        let old = self.as_slice();
+        let kept = old.len() - (stop - start);
+        let mut scalars = Vec::with_capacity(alloc, kept.saturating_add(put.len()))?;
+        scalars.extend_from_slice(&old[..start])?;
+        scalars.extend_from_slice(put)?;
+        scalars.extend_from_slice(&old[stop..])?;
+        Ok(Text { scalars })
+    }
+
     /// Puts a text in at a place. Where memory runs out nothing has changed.
     pub(crate) fn insert(&mut self, start: usize, inserted: &[char]) -> Result<(), AllocError>
         requires { start ≤ length self.old }

@@ -3,9 +3,9 @@ use pide_base::Range;
 use std::alloc::{AllocError, Global};
 use std::test::Fail;
 use text_edits::{
-    Edit, EditFault, Text, a_kept_scalar_is_moved, apply, convert, convert_list, convert_range,
-    convert_range_list, one_result, places_stay_in_order, places_stay_within, revert, revert_list,
-    revert_undoes_convert,
+    Edit, EditFault, Text, a_kept_scalar_is_moved, apply, changed, convert, convert_list,
+    convert_range, convert_range_list, one_result, places_stay_in_order, places_stay_within,
+    revert, revert_list, revert_undoes_convert,
 };
 
 /// An edit as a row writes it: the place, and the text there.
@@ -92,7 +92,11 @@ fn edits_so(alloc: Global, row: Row, edit: &Edit) -> Result<bool, AllocError> {
     let mut text = Text::from_str(alloc, row.before)?;
     let answer = apply(&mut text, edit);
     let after = Text::from_str(alloc, row.after)?;
-    Ok(answer == row.answer && text.as_slice() == after.as_slice())
+    let beside = match changed(alloc, &Text::from_str(alloc, row.before)?, edit) {
+        Ok(made) => row.answer == Ok(()) && made.as_slice() == after.as_slice(),
+        Err(fault) => row.answer == Err(fault),
+    };
+    Ok(answer == row.answer && text.as_slice() == after.as_slice() && beside)
 }
 
 #[test]

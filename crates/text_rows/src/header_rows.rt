@@ -1,4 +1,4 @@
-use doc_headers::{header, one_header};
+use doc_headers::{header, header_stop, one_header};
 use sqlite_items::Items;
 use std::alloc::Global;
 use std::test::Fail;
@@ -70,6 +70,23 @@ fn finds_no_header(rt: HostRuntime) -> Result<(), Fail> {
     ];
     for text in rows {
         assert_eq!(rt; told(rt.alloc(), text)?.as_str(), "none", "of {text}");
+    }
+    Ok(())
+}
+
+#[test]
+fn tells_where_headers_end(rt: HostRuntime) -> Result<(), Fail> {
+    let rows = [
+        ("theory A begin end", Some(14)),
+        ("(*x*) theory A imports B begin", Some(30)),
+        ("theory A begin", Some(14)),
+        ("theory A \"begin\"", None),
+        ("theory A", None),
+        ("", None),
+    ];
+    for (text, want) in rows {
+        let scalars: Vec<char> = text.chars().collect(rt.alloc())?;
+        assert_eq!(rt; header_stop(&scalars), want, "of {text}");
     }
     Ok(())
 }

@@ -10,6 +10,8 @@ mod edits;
 #[cfg(test)]
 mod header_rows;
 #[cfg(test)]
+mod reparse_rows;
+#[cfg(test)]
 mod span_rows;
 #[cfg(test)]
 mod symbol_rows;

@@ -1,6 +1,6 @@
 use outer_tokens::{
-    Kind, Stage, Token, after_token, content, is_proper, lex, lex_under, next_token, one_list,
-    scalars, symbol_law,
+    Kind, Stage, Token, after_token, content, given, is_proper, lex, lex_under, next_token,
+    one_list, renamed, scalars, symbol_law,
 };
 use pide_base::Range;
 use sqlite_items::Items;
@@ -235,4 +235,21 @@ fn replaces_escapes(rt: HostRuntime) -> Result<(), Fail> {
 fn laws_of_tokens_are_called() {
     one_list();
     symbol_law();
+}
+
+#[test]
+fn a_word_goes_by_the_names(rt: HostRuntime) -> Result<(), Fail> {
+    let text = scalars_of(rt.alloc(), "claim lemma \"claim\"")?;
+    let names = one_name(rt.alloc(), "claim")?;
+    let plain = lex_under(rt.alloc(), &text, &[])?;
+    let under = lex_under(rt.alloc(), &text, &names)?;
+    assert_eq!(rt; plain.first().map(|t| t.kind), Some(Kind::Ident));
+    assert_eq!(rt; under.first().map(|t| t.kind), Some(Kind::Command));
+    for (one, other) in plain.iter().zip(&under) {
+        assert_eq!(rt; renamed(&text, &names, *one), *other);
+        assert_eq!(rt; renamed(&text, &[], *other), *one);
+    }
+    assert_eq!(rt; given(Stage::Ended, &names).len(), 1);
+    assert_eq!(rt; given(Stage::Name, &names).len(), 0);
+    Ok(())
 }

@@ -1,7 +1,6 @@
-use Rattle.std.proofs.Common.{◌≡◌, ◌≤◌, ◌∙◌, ℕ, List, [], length, sym, refl, ap, subst, arith, false, length-drop}
+use Rattle.std.proofs.Common.{◌≡◌, ◌≤◌, ◌∙◌, length, sym, ap, subst, arith, false, length-drop}
 use Rattle.outer_tokens.specs.Stages.{is_ended}
-use Rattle.outer_tokens.specs.declared.stage.Stage.TheVariants.{Ended, Absent}
-use Rattle.outer_tokens.specs.declared.token.Token.{Token}
+use Rattle.outer_tokens.specs.declared.stage.Stage.TheVariants.{Absent}
 use Rattle.doc_headers.specs.Headers.{HasHeader}
 use Rattle.doc_headers.specs.Reading.{advanced}
 use Rattle.doc_headers.specs.declared.read.Reading.{Reading}

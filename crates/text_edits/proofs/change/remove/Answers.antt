@@ -1,8 +1,17 @@
-use Rattle.std.proofs.Common.{rules, ◌≡◌, take, drop, arith}
-use Rattle.text_edits.proofs.EditLemmas.{taken_out}
+use Rattle.std.proofs.Common.{◌≡◌, ◌+◌, ◌-◌, arith}
+use Rattle.text_edits.proofs.EditLemmas.{taken_upto, same-fault}
 use Rattle.text_edits.proofs.change.remove.Goals as goal
 
-pub returns-clause-applied : goal.returns-clause-applied
-returns-clause-applied c =
-    let stands : take c.len-count.result (drop c.args.start c.args.text.now) ≡ c.args.removed.now = search rules in
-    rw c.remove.ensures (taken_out c.args.start c.len-count.result c.args.removed.now c.args.text.now (omega arith) c.len-count.ensures stands)
+pub returns-in-Ok-clause-applied : goal.returns-in-Ok-clause-applied
+returns-in-Ok-clause-applied c =
+    let stands = c.in-Ok.ensures.stands in
+    let upto : c.args.start + (c.in-Ok.stop - c.args.start) ≡ c.in-Ok.stop = omega (arith, stands.0) in
+    rw (c.remove.ensures, upto) (taken_upto c.args.start c.in-Ok.stop c.args.removed.now c.args.text.now stands.0 stands.1 stands.2)
+
+pub returns-in-Err-clause-out_of_range : goal.returns-in-Err-clause-out_of_range
+returns-in-Err-clause-out_of_range c at len =
+    let h = c.in-Err.ensures.out_of_range at len in (λ e. h.0 (same-fault _ _ e), λ is. same-fault _ _ (h.1 is))
+
+pub returns-in-Err-clause-differs : goal.returns-in-Err-clause-differs
+returns-in-Err-clause-differs c at =
+    let h = c.in-Err.ensures.differs at in (λ e. h.0 (same-fault _ _ e), λ is. same-fault _ _ (h.1 is))
