@@ -4,3 +4,4 @@ mod Places
 pub mod KnownFound
 mod United
 mod Range
+mod PlaceOf

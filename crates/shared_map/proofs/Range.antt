@@ -71,3 +71,11 @@ stepped xs from to x less within is =
     ∙ ap (take (suc (to - (from + 1))))
     (drop-cons xs from x inside ∙ ap (λ y. y ∷ drop (suc from) xs) (get_or_from_slice_get xs from x x (sym is)))
     ∙ ap (λ n. x ∷ take (to - (from + 1)) (drop n xs)) (sym (add-one from))
+
+-- the rest of a list from a place within it, from its first item on
+pub dropped : {X : Type 0} (xs : List X) (from len : ℕ) (x : X) → from < len → len ≡ length xs → Some x ≡ slice_get xs from
+    → drop from xs ≡ x ∷ drop (from + 1) xs
+dropped xs from len x less is item =
+    let inside : from < length xs = omega arith in
+    drop-cons xs from x inside ∙ ap (λ y. y ∷ drop (suc from) xs) (get_or_from_slice_get xs from x x (sym item))
+    ∙ ap (λ n. x ∷ drop n xs) (sym (add-one from))

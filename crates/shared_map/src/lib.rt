@@ -1,5 +1,6 @@
-//! A persistent ordered map: a copy takes constant time and shares everything with its source, and a
-//! change shares all but one path with the map before it, so old versions stay.
+//! A persistent ordered map, and a persistent list that grows at its front: a copy takes constant time
+//! and shares everything with its source, and a change shares all but one path with what was before
+//! it, so old versions stay.
 //!
 //! Contracts see a map as the list of its pairs, sorted by key. Beneath it lies a list without order
 //! in a weight-balanced tree (Adams 1993; its two numbers after Hirai and Yamamoto 2011), joined as in
@@ -11,10 +12,14 @@ mod balance;
 mod change;
 mod cut;
 mod entries;
+mod items;
+mod list;
 mod map;
 mod search;
 mod tree;
 
 pub use cut::{Cut, Exactly};
 pub use entries::Entries;
+pub use items::ListItems;
+pub use list::SharedList;
 pub use map::{InsertError, SharedMap};

@@ -1,4 +1,4 @@
-ghost use Rattle.std.specs.Prelude.{◌≡◌, [], ◌==◌, length, ◌↔◌, IsSome, Some, None, is_some, option_map, IfOk, OnOk, OnErr, IsTrue, find, if◌then◌else◌};
+ghost use Rattle.std.specs.Prelude.{◌≡◌, [], ◌==◌, length, ◌↔◌, IsSome, Some, None, is_some, option_map, IfOk, OnOk, OnErr, IsTrue, find, position, slice_get, if◌then◌else◌};
 ghost use Rattle.std.specs.Option.{option_copied, option_or};
 ghost use Rattle.std.specs.Ordering.{is_eq};
 ghost use Rattle.shared_map.specs.Pairs.{IsSorted, found};
@@ -13,6 +13,7 @@ use crate::entries::Entries;
 use crate::search::{count_before, count_behind, first_in};
 use crate::tree::Tree;
 use std::alloc::{AllocError, Global};
+use std::cmp::Ordering;
 use std::marker::Model;
 use std::sync::Arc;
 
@@ -90,6 +91,30 @@ impl<K: Ord + Drop, V: Drop> SharedMap<K, V> {
         match first_in(&self.pairs, &Exactly(key)) {
             None => None,
             Some(pair) => Some(&pair.1),
+        }
+    }
+
+    /// The pair at this place in the order of the keys, from 0.
+    pub fn at(&self, place: usize) -> Option<(&K, &V)>
+        ensures { option_map lent result ≡ slice_get self.now place }
+    {
+        match self.pairs.get(place) {
+            None => None,
+            Some(pair) => Some((&pair.0, &pair.1)),
+        }
+    }
+
+    /// The place of the first pair within the cut, from 0.
+    pub fn place_in<C: Cut<K>>(&self, cut: &C) -> Option<usize>
+        ensures { result ≡ position (λ pair. is_eq (C.place cut.now pair.0)) self.now }
+    {
+        let place = count_before(&self.pairs, cut);
+        match self.pairs.get(place) {
+            None => None,
+            Some(pair) => match cut.place(&pair.0) {
+                Ordering::Equal => Some(place),
+                Ordering::Less | Ordering::Greater => None,
+            },
         }
     }
 
