@@ -45,7 +45,7 @@ module _ (names : List (List ℕ)) (x : List ℕ) (body : Statement) where
   has_primed = search_primes (room names body + 1) 0 (λ fewer less. absurd (omega arith)) (omega arith)
 
 -- a print by itself, under any names
-abbrev HasPrint : Formula → Type 0
+abbrev pub HasPrint : Formula → Type 0
 HasPrint f = (names : List (List ℕ)) → (text : List ℕ) × Prints 10 names f text
 
 placed : (p : ℕ) (names : List (List ℕ)) (f : Formula) → HasPrint f → (text : List ℕ) × Prints p names f text
@@ -84,5 +84,8 @@ layer_prints (Formula-F.Implies a b) = subst HasPrint (sym (rolls-Implies a.0 b.
 layer_prints (Formula-F.All x a) = subst HasPrint (sym (rolls-All x a.0)) (quantifier_prints Quantifier.All x a.0 a.1)
 layer_prints (Formula-F.Exists x a) = subst HasPrint (sym (rolls-Exists x a.0)) (quantifier_prints Quantifier.Exists x a.0 a.1)
 
+pub has_print_under : (a : Formula) → HasPrint a
+has_print_under = ind-Formula HasPrint (λ x y is. subst (λ z. HasPrint (roll-Formula z)) is (layer_prints y))
+
 pub has_print : (a : Formula) → (text : List ℕ) × Prints 10 [] a text
-has_print a = ind-Formula HasPrint (λ x y is. subst (λ z. HasPrint (roll-Formula z)) is (layer_prints y)) a []
+has_print a = has_print_under a []

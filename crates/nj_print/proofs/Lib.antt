@@ -24,3 +24,4 @@ pub mod KnownSpellable
 mod GrowsLemmas
 pub mod KnownInstances
 pub mod KnownReadable
+pub mod KnownPrints

@@ -14,4 +14,4 @@ pub use law::{
     fewest_parentheses, instances_are_spellable, one_print, parts_are_readable, print_is_parsed,
     prints_are_read, reads_back, term_reads_back,
 };
-pub use printer::{print, print_term};
+pub use printer::{BodyPrint, print, print_body, print_term};

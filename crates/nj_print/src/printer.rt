@@ -1,7 +1,9 @@
-ghost use Rattle.std.specs.Prelude.{◌≡◌, [], OnOk, IfOk, string_bytes};
+ghost use Rattle.std.specs.Prelude.{◌≡◌, [], ◌∷◌, OnOk, IfOk, string_bytes};
+ghost use Rattle.nj_formula.specs.Meaning.{meaning};
 ghost use Rattle.nj_formula.specs.declared.formula.Formula.TheVariants.{Atom};
 ghost use Rattle.nj_print.specs.ArgumentText.{argument_text};
 ghost use Rattle.nj_print.specs.Prints.{Prints, PrintsBody};
+ghost use Rattle.nj_print.specs.Primed.{IsPrimed};
 
 use crate::arguments::{write_argument, write_arguments};
 use crate::names::primed;
@@ -132,4 +134,33 @@ pub fn print_term(alloc: Global, term: &Argument) -> Result<String, AllocError>
     let mut text = String::new(alloc);
     write_argument(&mut text, &VecDeque::new(alloc), term)?;
     Ok(text)
+}
+
+/// The name that a quantifier binds and its body, as they are printed.
+#[derive(Debug, Drop)]
+pub struct BodyPrint {
+    pub name: Name,
+    pub body: String,
+}
+
+/// What the print of a quantifier shows after its word: its name, with `'` after it where it would
+/// capture a name of the body, and the body. An error says that there was no memory.
+pub fn print_body(alloc: Global, name: &Name, body: &Formula) -> Result<BodyPrint, AllocError>
+    ensures name { IfOk result (λ print. IsPrimed [] name.now (meaning body.now) print.name) }
+    ensures body { IfOk result (λ print.
+        Prints 10 (print.name ∷ []) body.now (string_bytes print.body)) }
+{
+    let mut names = VecDeque::new(alloc);
+    let printed = primed(alloc, name, &names, body)?;
+    names.push_front(printed.copy(alloc)?)?;
+    let mut printer = Printer {
+        alloc,
+        text: String::new(alloc),
+        names,
+    };
+    printer.formula(body, QUANTIFIER)?;
+    Ok(BodyPrint {
+        name: printed,
+        body: printer.text,
+    })
 }

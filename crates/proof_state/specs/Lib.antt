@@ -1,0 +1,12 @@
+pub mod Subgoals
+pub mod Same
+pub mod Blocks
+pub mod Fits
+pub mod Fresh
+pub mod Steps
+pub mod Answers
+pub mod Locals
+pub mod Describes
+pub mod Follows
+pub mod Worth
+pub mod Runs

@@ -1,0 +1,66 @@
+//! What becomes of the levels when a goal is closed.
+
+ghost use Rattle.std.specs.Prelude.{◌≡◌, IfOk};
+ghost use Rattle.proof_state.specs.Blocks.{achieved};
+ghost use Rattle.proof_state.specs.Steps.{closed};
+
+use crate::block::Block;
+use crate::frame::{Frame, Purpose};
+use crate::levels::Levels;
+use crate::local_fact::{LocalFact, Origin};
+use crate::subgoal::without;
+use nj_formula::{Formula, Name};
+use shared_map::SharedList;
+use std::alloc::{AllocError, Global};
+
+pub(crate) fn copy_name(alloc: Global, name: &Option<Name>) -> Result<Option<Name>, AllocError>
+    ensures { IfOk result (λ copy. copy ≡ name.now) }
+{
+    match name {
+        Some(name) => Ok(Some(name.copy(alloc)?)),
+        None => Ok(None),
+    }
+}
+
+/// The levels after the goal is closed: all is done, or the block around it has the goal.
+pub(crate) fn closed(
+    alloc: Global,
+    goal: &Formula,
+    around: &SharedList<Frame>,
+) -> Result<Levels, AllocError>
+    ensures { IfOk result (λ levels. levels ≡ closed goal.now around.now) }
+{
+    match around.get(0) {
+        None => Ok(Levels::Closed),
+        Some(frame) => Ok(Levels::State {
+            block: achieved(alloc, &frame.purpose, goal, &frame.block)?,
+            around: around.rest(alloc)?,
+        }),
+    }
+}
+
+/// The block once the goal inside it is shown.
+fn achieved(
+    alloc: Global,
+    purpose: &Purpose,
+    goal: &Formula,
+    block: &Block,
+) -> Result<Block, AllocError>
+    ensures { IfOk result (λ block'. block' ≡ achieved purpose.now goal.now block.now) }
+{
+    match purpose {
+        Purpose::Have(name) => {
+            let fact = LocalFact {
+                origin: Origin::Proved,
+                name: copy_name(alloc, name)?,
+                formula: goal.copy(alloc)?,
+            };
+            block.with_fact(alloc, fact)
+        }
+        Purpose::Show(place) => {
+            let mut left = block.copy(alloc)?;
+            left.pending = without(alloc, block.pending.as_slice(), *place)?;
+            Ok(left)
+        }
+    }
+}

@@ -1,0 +1,162 @@
+//! The levels after each command.
+
+ghost use Rattle.std.specs.Prelude.{◌≡◌, ◌∷◌, IfOk};
+ghost use Rattle.proof_state.specs.Steps.{step, proof, fix, assume, have, show, next, qed, by};
+ghost use Rattle.proof_state.specs.Answers.{Gives};
+
+use crate::block::Block;
+use crate::closing::closed;
+use crate::fault::ProofFault;
+use crate::fits::fitting;
+use crate::frame::{Frame, Purpose};
+use crate::fresh::is_taken;
+use crate::levels::Levels;
+use crate::local_fact::{LocalFact, Origin};
+use nj_formula::{Formula, Name};
+use shared_map::SharedList;
+use std::alloc::{AllocError, Global};
+use theory_ctx::Ctx;
+
+impl Levels {
+    pub(crate) fn after_proof(&self, alloc: Global, dash: bool) -> Result<Levels, ProofFault>
+        ensures { Gives (step (proof dash) self.now) result }
+    {
+        let Levels::Prove { goal, around } = self else {
+            return Err(ProofFault::NotAllowed);
+        };
+        Ok(Levels::State {
+            block: Block::opened(alloc, goal, dash)?,
+            around: around.copy()?,
+        })
+    }
+
+    pub(crate) fn after_fix(
+        &self,
+        alloc: Global,
+        name: &str,
+        ctx: &Ctx,
+    ) -> Result<Levels, ProofFault>
+        ensures { Gives (step (fix ctx.now name.now) self.now) result }
+    {
+        let Levels::State { block, around } = self else {
+            return Err(ProofFault::NotAllowed);
+        };
+        let taken = is_taken(ctx, name, block, around);
+        let name = Name::new(alloc, name)?;
+        if taken {
+            return Err(ProofFault::NotFresh { name });
+        }
+        Ok(Levels::State {
+            block: block.with_variable(alloc, name)?,
+            around: around.copy()?,
+        })
+    }
+
+    pub(crate) fn after_assume(
+        &self,
+        alloc: Global,
+        name: Option<Name>,
+        formula: Formula,
+    ) -> Result<Levels, ProofFault>
+        ensures { Gives (step (assume name formula) self.now) result }
+    {
+        let Levels::State { block, around } = self else {
+            return Err(ProofFault::NotAllowed);
+        };
+        let fact = LocalFact {
+            origin: Origin::Assumed,
+            name,
+            formula,
+        };
+        Ok(Levels::State {
+            block: block.with_fact(alloc, fact)?,
+            around: around.copy()?,
+        })
+    }
+
+    pub(crate) fn after_have(
+        &self,
+        alloc: Global,
+        name: Option<Name>,
+        formula: Formula,
+    ) -> Result<Levels, ProofFault>
+        ensures { Gives (step (have name formula) self.now) result }
+    {
+        let Levels::State { block, around } = self else {
+            return Err(ProofFault::NotAllowed);
+        };
+        let around = inside(alloc, block, Purpose::Have(name), around)?;
+        Ok(Levels::Prove {
+            goal: formula,
+            around,
+        })
+    }
+
+    pub(crate) fn after_show(&self, alloc: Global, formula: Formula) -> Result<Levels, ProofFault>
+        ensures { Gives (step (show formula) self.now) result }
+    {
+        let Levels::State { block, around } = self else {
+            return Err(ProofFault::NotAllowed);
+        };
+        let Some(place) = fitting(alloc, block, &formula)? else {
+            return Err(ProofFault::NoSuchSubgoal);
+        };
+        let around = inside(alloc, block, Purpose::Show(place), around)?;
+        Ok(Levels::Prove {
+            goal: formula,
+            around,
+        })
+    }
+
+    pub(crate) fn after_next(&self, alloc: Global) -> Result<Levels, ProofFault>
+        ensures { Gives (step next self.now) result }
+    {
+        let Levels::State { block, around } = self else {
+            return Err(ProofFault::NotAllowed);
+        };
+        Ok(Levels::State {
+            block: block.cleared(alloc)?,
+            around: around.copy()?,
+        })
+    }
+
+    pub(crate) fn after_qed(&self, alloc: Global) -> Result<Levels, ProofFault>
+        ensures { Gives (step qed self.now) result }
+    {
+        let Levels::State { block, around } = self else {
+            return Err(ProofFault::NotAllowed);
+        };
+        if block.pending.len() != 0 {
+            return Err(ProofFault::SubgoalsRemain);
+        }
+        let levels = closed(alloc, &block.goal, around)?;
+        Ok(levels)
+    }
+
+    pub(crate) fn after_by(&self, alloc: Global) -> Result<Levels, ProofFault>
+        ensures { Gives (step by self.now) result }
+    {
+        let Levels::Prove { goal, around } = self else {
+            return Err(ProofFault::NotAllowed);
+        };
+        let levels = closed(alloc, goal, around)?;
+        Ok(levels)
+    }
+}
+
+/// What stands around a goal that is opened in the block.
+fn inside(
+    alloc: Global,
+    block: &Block,
+    purpose: Purpose,
+    around: &SharedList<Frame>,
+) -> Result<SharedList<Frame>, AllocError>
+    ensures { IfOk result (λ frames. frames
+        ≡ record { block = block.now; purpose = purpose } ∷ around.now) }
+{
+    let frame = Frame {
+        block: block.copy(alloc)?,
+        purpose,
+    };
+    around.with_first(alloc, frame)
+}
