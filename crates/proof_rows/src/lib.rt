@@ -5,3 +5,7 @@
 
 #[cfg(test)]
 mod contexts;
+#[cfg(test)]
+mod proof_scripts;
+#[cfg(test)]
+mod terms;

@@ -1,0 +1,7 @@
+mod StepLemmas
+mod QuotedLemmas
+mod CompleteLemmas
+mod SoundLemmas
+mod JudgedLemmas
+mod AnsweredLemmas
+mod GivenLemmas

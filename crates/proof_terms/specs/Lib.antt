@@ -1,0 +1,8 @@
+pub mod Marks
+pub mod RuleNames
+pub mod Slots
+pub mod Grammar
+pub mod Faults
+pub mod Reading
+pub mod Answers
+pub mod Texts

@@ -1,0 +1,118 @@
+//! Proof terms read from tokens.
+
+ghost use Rattle.std.specs.Prelude.{◌≡◌};
+ghost use Rattle.proof_terms.specs.Marks.{marks};
+ghost use Rattle.proof_terms.specs.Reading.{Gives, read_term, read_rule, read_inside};
+ghost use Rattle.proof_terms.specs.Answers.{Told};
+
+use crate::fault::{TermError, TermFault};
+use crate::reader::{Reader, Start, malformed};
+use crate::term::Term;
+use nj_formula::Shared;
+use nj_kernel::Rule;
+use outer_tokens::Token;
+use std::alloc::Global;
+
+/// How many rules may be nested.
+const DEEPEST: usize = 200;
+
+/// The proof term that the proper tokens of the source are, all of them. The faults are told in this
+/// order, from the left: a token with which no term goes on (`Malformed`, as where the tokens end too
+/// early or go on behind the term), a quoted text that is no formula or no term (`BadFormula`,
+/// `FormulaTooDeep`), and the name of a rule that stands in 200 others (`ProofTooDeep`). It looks no
+/// further than the fault.
+pub fn read(alloc: Global, source: &[char], tokens: &[Token]) -> Result<Term, TermError>
+    ensures { Told (marks source.now tokens.now) result }
+{
+    let mut reader = Reader {
+        alloc,
+        source,
+        rest: tokens,
+        letters: String::new(alloc),
+    };
+    let term = reader.term(DEEPEST)?;
+    if reader.rest.is_empty() {
+        Ok(term)
+    } else {
+        Err(malformed())
+    }
+}
+
+impl<'a> Reader<'a> {
+    /// A term in which at most so many rules are nested.
+    #[cycle(term)]
+    fn term(&mut self, left: usize) -> Result<Term, TermError>
+        ensures { Gives result (marks self.new.source.now self.new.rest.now)
+            (read_term left (marks self.old.source.now self.old.rest.now)) }
+    {
+        match self.start()? {
+            Start::Fact(cite) => Ok(Term::Fact(cite)),
+            Start::Rule(rule) => {
+                if left == 0 {
+                    return Err(TermError::Fault(TermFault::ProofTooDeep));
+                }
+                self.ruled(rule, left - 1)
+            }
+        }
+    }
+
+    /// A rule behind its name.
+    #[cycle(term)]
+    fn ruled(&mut self, rule: Rule, left: usize) -> Result<Term, TermError>
+        ensures { Gives result (marks self.new.source.now self.new.rest.now)
+            (read_rule (read_term left) rule (marks self.old.source.now self.old.rest.now)) }
+    {
+        let term = self.inside(rule, left)?;
+        self.close()?;
+        Ok(term)
+    }
+
+    /// A term in a rule.
+    #[cycle(term)]
+    fn part(&mut self, left: usize) -> Result<Shared<Term>, TermError>
+        ensures { Gives result (marks self.new.source.now self.new.rest.now)
+            (read_term left (marks self.old.source.now self.old.rest.now)) }
+    {
+        let term = self.term(left)?;
+        Ok(Shared::new(self.alloc, term)?)
+    }
+
+    /// What stands in a rule behind its name.
+    #[cycle(term)]
+    fn inside(&mut self, rule: Rule, left: usize) -> Result<Term, TermError>
+        ensures { Gives result (marks self.new.source.now self.new.rest.now)
+            (read_inside (read_term left) rule (marks self.old.source.now self.old.rest.now)) }
+    {
+        match rule {
+            Rule::ConjI => Ok(Term::ConjI(self.part(left)?, self.part(left)?)),
+            Rule::ConjE1 => Ok(Term::ConjE1(self.formula()?, self.part(left)?)),
+            Rule::ConjE2 => Ok(Term::ConjE2(self.formula()?, self.part(left)?)),
+            Rule::DisjI1 => Ok(Term::DisjI1(self.part(left)?)),
+            Rule::DisjI2 => Ok(Term::DisjI2(self.part(left)?)),
+            Rule::DisjE => Ok(Term::DisjE(
+                self.formula()?,
+                self.formula()?,
+                self.part(left)?,
+                self.name()?,
+                self.part(left)?,
+                self.name()?,
+                self.part(left)?,
+            )),
+            Rule::ImpI => Ok(Term::ImpI(self.name()?, self.part(left)?)),
+            Rule::ImpE => Ok(Term::ImpE(self.formula()?, self.part(left)?, self.part(left)?)),
+            Rule::NotI => Ok(Term::NotI(self.name()?, self.part(left)?)),
+            Rule::NotE => Ok(Term::NotE(self.formula()?, self.part(left)?, self.part(left)?)),
+            Rule::FalseE => Ok(Term::FalseE(self.part(left)?)),
+            Rule::AllI => Ok(Term::AllI(self.name()?, self.part(left)?)),
+            Rule::AllE => Ok(Term::AllE(self.formula()?, self.object()?, self.part(left)?)),
+            Rule::ExI => Ok(Term::ExI(self.object()?, self.part(left)?)),
+            Rule::ExE => Ok(Term::ExE(
+                self.formula()?,
+                self.name()?,
+                self.name()?,
+                self.part(left)?,
+                self.part(left)?,
+            )),
+        }
+    }
+}
