@@ -1,0 +1,6 @@
+mod OrderLemmas
+mod InsertLemmas
+mod CrossLemmas
+mod SearchLemmas
+mod StandLemmas
+mod BoundLemmas

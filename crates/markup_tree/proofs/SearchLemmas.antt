@@ -1,0 +1,195 @@
+-- What searches find on either side of a report.
+use Rattle.std.proofs.Common.{◌≡◌, ◌<◌, ◌≤◌, ℕ, nat_lt, Bool, true, false, Option, Some, None, List, [], ◌∷◌, ◌++◌, cond, refl, sym, ◌∙◌, ap, subst, inl, ⊎_elim, arith}
+use Rattle.std.specs.Prelude.{find, option_map, ◌||◌}
+use Rattle.std.specs.Option.{option_or}
+use Rattle.std.specs.List.{AllByRecursion}
+use Rattle.std.proofs.lemmas.Bool.{false≢true}
+use Rattle.pide_base.specs.declared.range.Range.{Range}
+use Rattle.report_markup.specs.declared.report.Report.{Report}
+use Rattle.markup_tree.specs.Crossing.{crosses, first_crossing}
+use Rattle.markup_tree.specs.Innermost.{surrounds, innermost, ends_before, begins_behind, may_cross}
+use Rattle.markup_tree.specs.Standing.{StandsBefore, Stand}
+use Rattle.markup_tree.proofs.OrderLemmas.{Before, before_of}
+use Rattle.markup_tree.proofs.CrossLemmas.{both_true, and_true, below_true, true_below, below_false, BeginsWithin, crossed, cross}
+use Rattle.markup_tree.proofs.StandLemmas.{CrossesNone, crossed_none}
+
+module _ (range : Range) (x : Report) (right : List Report) where
+  abbrev First : List Report → Option Range
+  First left = first_crossing range (left ++ x ∷ right)
+
+  -- where one is found before the report, else the report, else behind it
+  pub first_split : (left : List Report)
+      → First left ≡ option_or (first_crossing range left) (cond (crosses range x.range) (Some x.range) (first_crossing range right))
+  first_split [] = by (crosses range x.range)
+    where
+      by : (b : Bool) → option_map (λ r. r.range) (cond b (Some x) (find (λ r. crosses range r.range) right)) ≡ cond b (Some x.range) (first_crossing range right)
+      by true = refl
+      by false = refl
+  first_split (y ∷ left) = by (crosses range y.range) (first_split left)
+    where
+      by : (b : Bool) → First left ≡ option_or (first_crossing range left) (cond (crosses range x.range) (Some x.range) (first_crossing range right))
+          → option_map (λ r. r.range) (cond b (Some y) (find (λ r. crosses range r.range) (left ++ x ∷ right)))
+          ≡ option_or (option_map (λ r. r.range) (cond b (Some y) (find (λ r. crosses range r.range) left))) (cond (crosses range x.range) (Some x.range) (first_crossing range right))
+      by true e = refl
+      by false e = e
+
+or_assoc : (a b c : Option Range) → option_or (option_or a b) c ≡ option_or a (option_or b c)
+or_assoc None b c = refl
+or_assoc (Some r) b c = refl
+
+module _ (place : ℕ) (x : Report) (right : List Report) where
+  -- where one is found behind the report, else the report, else before it
+  pub innermost_split : (left : List Report)
+      → innermost place (left ++ x ∷ right) ≡ option_or (innermost place right) (option_or (cond (surrounds place x.range) (Some x.range) None) (innermost place left))
+  innermost_split [] = ap (option_or (innermost place right)) (by (surrounds place x.range))
+    where
+      by : (b : Bool) → cond b (Some x.range) None ≡ option_or (cond b (Some x.range) None) None
+      by true = refl
+      by false = refl
+  innermost_split (y ∷ left) =
+      ap (λ o. option_or o (cond (surrounds place y.range) (Some y.range) None)) (innermost_split left)
+      ∙ (or_assoc (innermost place right) (option_or (cond (surrounds place x.range) (Some x.range) None) (innermost place left)) (cond (surrounds place y.range) (Some y.range) None)
+      ∙ ap (option_or (innermost place right)) (or_assoc (cond (surrounds place x.range) (Some x.range) None) (innermost place left) (cond (surrounds place y.range) (Some y.range) None)))
+
+module _ (tree left : List Report) (x held : Report) (right : List Report) (whole : tree ≡ left ++ x ∷ right) (is : held ≡ x) where
+  parts : tree ≡ left ++ held ∷ right
+  parts = whole ∙ ap (λ y. left ++ y ∷ right) (sym is)
+
+  module _ (range : Range) where
+    split_here : first_crossing range tree ≡ option_or (first_crossing range left) (cond (crosses range held.range) (Some held.range) (first_crossing range right))
+    split_here = ap (first_crossing range) parts ∙ first_split range held right left
+
+    pub first_before : (f : Range) → Some f ≡ first_crossing range left → Some f ≡ first_crossing range tree
+    first_before f e =
+        sym (split_here ∙ ap (λ o. option_or o (cond (crosses range held.range) (Some held.range) (first_crossing range right))) (sym e))
+
+    pub first_here : None ≡ first_crossing range left → crosses range held.range ≡ true → Some held.range ≡ first_crossing range tree
+    first_here e f =
+        sym (split_here
+        ∙ (ap (λ o. option_or o (cond (crosses range held.range) (Some held.range) (first_crossing range right))) (sym e)
+        ∙ ap (λ b. cond b (Some held.range) (first_crossing range right)) f))
+
+    pub first_behind : (o : Option Range) → None ≡ first_crossing range left → crosses range held.range ≡ false → o ≡ first_crossing range right → o ≡ first_crossing range tree
+    first_behind o e f g =
+        g ∙ sym (split_here
+        ∙ (ap (λ p. option_or p (cond (crosses range held.range) (Some held.range) (first_crossing range right))) (sym e)
+        ∙ ap (λ b. cond b (Some held.range) (first_crossing range right)) f))
+
+  module _ (place : ℕ) where
+    split_around : innermost place tree ≡ option_or (innermost place right) (option_or (cond (surrounds place held.range) (Some held.range) None) (innermost place left))
+    split_around = ap (innermost place) parts ∙ innermost_split place held right left
+
+    pub inner_behind : (f : Range) → Some f ≡ innermost place right → Some f ≡ innermost place tree
+    inner_behind f e =
+        sym (split_around ∙ ap (λ o. option_or o (option_or (cond (surrounds place held.range) (Some held.range) None) (innermost place left))) (sym e))
+
+    pub inner_here : None ≡ innermost place right → surrounds place held.range ≡ true → Some held.range ≡ innermost place tree
+    inner_here e f =
+        sym (split_around
+        ∙ (ap (λ o. option_or o (option_or (cond (surrounds place held.range) (Some held.range) None) (innermost place left))) (sym e)
+        ∙ ap (λ b. option_or (cond b (Some held.range) None) (innermost place left)) f))
+
+    pub inner_before : (o : Option Range) → None ≡ innermost place right → surrounds place held.range ≡ false → o ≡ innermost place left → o ≡ innermost place tree
+    inner_before o e f g =
+        g ∙ sym (split_around
+        ∙ (ap (λ p. option_or p (option_or (cond (surrounds place held.range) (Some held.range) None) (innermost place left))) (sym e)
+        ∙ ap (λ b. option_or (cond b (Some held.range) None) (innermost place left)) f))
+
+-- what is found is one of the reports, and surrounds the place
+found : (Q : Report → Type 0) (place : ℕ) (xs : List Report) (m : Range) → AllByRecursion Q xs → innermost place xs ≡ Some m
+    → (y : Report) × (y.range ≡ m) × (surrounds place m ≡ true) × Q y
+found Q place [] m all e = cc
+found Q place (x ∷ xs) m all e = by (innermost place xs) refl (found Q place xs m all.1) (surrounds place x.range) refl e
+  where
+    by : (o : Option Range) → innermost place xs ≡ o → (innermost place xs ≡ Some m → (y : Report) × (y.range ≡ m) × (surrounds place m ≡ true) × Q y)
+        → (b : Bool) → surrounds place x.range ≡ b → option_or o (cond b (Some x.range) None) ≡ Some m
+        → (y : Report) × (y.range ≡ m) × (surrounds place m ≡ true) × Q y
+    by (Some k) f rest b g h = rest (f ∙ h)
+    by None f rest true g h =
+        let same : x.range ≡ m = cc in (x, same, subst (λ s. surrounds place s ≡ true) same g, all.0)
+    by None f rest false g h = cc
+
+around : (place : ℕ) (r : Range) → surrounds place r ≡ true → (r.start < place) × (place < r.stop)
+around place r e =
+    let both = both_true (nat_lt r.start place) (nat_lt place r.stop) e in
+    (below_true r.start place both.0, below_true place r.stop both.1)
+
+round : (place : ℕ) (r : Range) → r.start < place → place < r.stop → surrounds place r ≡ true
+round place r a b = and_true (nat_lt r.start place) (nat_lt place r.stop) (true_below r.start place a) (true_below place r.stop b)
+
+neither : (a b : Bool) → (a || b) ≡ false → (a ≡ false) × (b ≡ false)
+neither true b e = cc
+neither false b e = (refl, e)
+
+module _ (range : Range) where
+  -- none of the two innermost ranges tells of a crossing
+  abbrev Quiet : List Report → Type 0
+  Quiet xs = (ends_before (innermost range.start xs) range.stop ≡ false) × (begins_behind (innermost range.stop xs) range.start ≡ false)
+
+  ends_later : (o : Option Range) (b : Option Range) → ends_before (option_or o b) range.stop ≡ false → ends_before o range.stop ≡ false
+  ends_later None b e = refl
+  ends_later (Some m) b e = e
+
+  begins_later : (o : Option Range) (b : Option Range) → begins_behind (option_or o b) range.start ≡ false → begins_behind o range.start ≡ false
+  begins_later None b e = refl
+  begins_later (Some m) b e = e
+
+  quiet_rest : (x : Report) (xs : List Report) → Quiet (x ∷ xs) → Quiet xs
+  quiet_rest x xs quiet = (
+    ends_later (innermost range.start xs) (cond (surrounds range.start x.range) (Some x.range) None) quiet.0,
+    begins_later (innermost range.stop xs) (cond (surrounds range.stop x.range) (Some x.range) None) quiet.1,
+  )
+
+  -- a report that ends within the range would be the innermost one at its start, or be crossed by that one
+  left_end : (x : Report) (xs : List Report) → AllByRecursion (StandsBefore x) xs → ends_before (innermost range.start (x ∷ xs)) range.stop ≡ false
+      → BeginsWithin x.range range → ⊥
+  left_end x xs all quiet c = by (innermost range.start xs) refl quiet
+    where
+      by : (o : Option Range) → innermost range.start xs ≡ o
+          → ends_before (option_or o (cond (surrounds range.start x.range) (Some x.range) None)) range.stop ≡ false → ⊥
+      by None e q =
+          let here : ends_before (Some x.range) range.stop ≡ false =
+          subst (λ b. ends_before (cond b (Some x.range) None) range.stop ≡ false) (round range.start x.range c.0 c.1) q in
+          let stop : range.stop ≤ x.range.stop = below_false x.range.stop range.stop here in
+          omega (arith, c, stop)
+      by (Some m) e q =
+          let y = found (StandsBefore x) range.start xs m all e in
+          let at = around range.start m y.2 in
+          let stop : range.stop ≤ m.stop = below_false m.stop range.stop q in
+          let before : Before x.range m = subst (Before x.range) y.1 (before_of x y.0 y.3.0) in
+          let apart : crosses x.range m ≡ false = subst (λ s. crosses x.range s ≡ false) y.1 y.3.1 in
+          ⊎_elim
+          (λ less. false≢true (sym apart ∙ cross x.range m (inl (less, omega (arith, at, c), omega (arith, stop, c)))))
+          (λ same. omega (arith, same, stop, c)) before
+
+  right_end : (x : Report) (xs : List Report) → AllByRecursion (StandsBefore x) xs → begins_behind (innermost range.stop (x ∷ xs)) range.start ≡ false
+      → BeginsWithin range x.range → ⊥
+  right_end x xs all quiet c = by (innermost range.stop xs) refl quiet
+    where
+      by : (o : Option Range) → innermost range.stop xs ≡ o
+          → begins_behind (option_or o (cond (surrounds range.stop x.range) (Some x.range) None)) range.start ≡ false → ⊥
+      by None e q =
+          let here : begins_behind (Some x.range) range.start ≡ false =
+          subst (λ b. begins_behind (cond b (Some x.range) None) range.start ≡ false) (round range.stop x.range c.1 c.2) q in
+          let start : x.range.start ≤ range.start = below_false range.start x.range.start here in
+          omega (arith, c, start)
+      by (Some m) e q =
+          let y = found (StandsBefore x) range.stop xs m all e in
+          let start : m.start ≤ range.start = below_false range.start m.start q in
+          let before : Before x.range m = subst (Before x.range) y.1 (before_of x y.0 y.3.0) in
+          ⊎_elim (λ less. omega (arith, less, start, c)) (λ same. omega (arith, same, start, c)) before
+
+  none_crosses : (xs : List Report) → Stand xs → Quiet xs → CrossesNone range xs
+  none_crosses [] stand quiet = tt
+  none_crosses (x ∷ xs) stand quiet =
+      (by (crosses range x.range) refl, none_crosses xs stand.1 (quiet_rest x xs quiet))
+    where
+      by : (b : Bool) → crosses range x.range ≡ b → b ≡ false
+      by false e = refl
+      by true e = absurd (⊎_elim (right_end x xs stand.0 quiet.1) (left_end x xs stand.0 quiet.0) (crossed range x.range e))
+
+  -- so no search is needed
+  pub no_crossing : (xs : List Report) → Stand xs → may_cross range xs ≡ false → first_crossing range xs ≡ None
+  no_crossing xs stand quiet =
+      crossed_none range xs
+      (none_crosses xs stand (neither (ends_before (innermost range.start xs) range.stop) (begins_behind (innermost range.stop xs) range.start) quiet))

@@ -1,0 +1,6 @@
+pub mod Bounds
+pub mod Items
+pub mod Crossing
+pub mod Innermost
+pub mod Standing
+pub mod Answers
