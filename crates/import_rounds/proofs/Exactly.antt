@@ -35,7 +35,7 @@ has_above (x ∷ xs) b y above h = go (eqb y x) refl (has_above xs (x + 1) y abo
     go true e rest = let same : y ≡ x = grind (arith, nat_tests) in omega (arith, above.0)
     go false e rest = let later : has xs y ≡ true = rw e at h in omega (arith, above.0, rest later)
 
-has_first : (x : ℕ) (xs : List ℕ) → has (x ∷ xs) x ≡ true
+pub has_first : (x : ℕ) (xs : List ℕ) → has (x ∷ xs) x ≡ true
 has_first x xs = rw (eq-eqb x x refl)
 
 has_tail : (x y : ℕ) (xs : List ℕ) → has xs y ≡ true → has (x ∷ xs) y ≡ true

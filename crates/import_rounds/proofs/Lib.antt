@@ -2,3 +2,4 @@ mod Has
 mod Exactly
 mod Steps
 mod RoundLemmas
+pub mod KnownRounds

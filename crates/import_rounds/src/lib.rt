@@ -7,7 +7,9 @@
 #![tactic(auto)]
 
 mod importers;
+mod laws;
 mod offer;
 mod rounds;
 
-pub use rounds::in_rounds;
+pub use laws::rounds_law;
+pub use rounds::{in_rounds, marks_of};

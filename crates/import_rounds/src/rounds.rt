@@ -21,6 +21,17 @@ pub fn in_rounds(alloc: Global, rows: &[Items<Option<usize>>]) -> Result<Vec<usi
     run(alloc, rows, &importers, &mut marks, &mut looked)
 }
 
+/// A mark for each of so many places: whether it is one of these.
+pub fn marks_of(alloc: Global, places: &[usize], count: usize) -> Result<Vec<bool>, AllocError>
+    requires { (p : ℕ) → has places.now p ≡ true → p < count }
+    ensures are { IfOk result (λ marks. AreMarks marks.items places.now) }
+    ensures len { IfOk result (λ marks. length marks.items ≡ count) }
+{
+    let mut marks = vec![in alloc; false; count]?;
+    mark(&mut marks, places);
+    Ok(marks)
+}
+
 /// All rounds, from the first on.
 fn run(
     alloc: Global,

@@ -1,0 +1,9 @@
+mod Lists
+mod PrefixLemmas
+mod NameLemmas
+mod WantedLemmas
+mod FoldLemmas
+mod OrderLaws
+mod WantedLaws
+mod PrefixLaws
+mod AliasLaws

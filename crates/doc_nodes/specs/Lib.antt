@@ -1,0 +1,12 @@
+pub mod Names
+pub mod Imports
+pub mod Graph
+pub mod Graphs
+pub mod Prefix
+pub mod Wanted
+pub mod Reach
+pub mod Aliases
+pub mod Lent
+pub mod Known
+pub mod Reached
+pub mod HandedDown

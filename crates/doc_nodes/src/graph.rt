@@ -1,0 +1,136 @@
+//! The imports of a version's nodes, by place.
+ghost use Rattle.std.specs.Prelude.{◌≡◌, ◌++◌, length, filter, not, map, IfOk, OnOk};
+ghost use Rattle.std.specs.List.{range_with_len};
+ghost use Rattle.import_rounds.specs.Looks.{marked, aims_at};
+ghost use Rattle.doc_nodes.specs.Imports.{place_of, aims_of, aims};
+ghost use Rattle.doc_nodes.specs.Graphs.{IsGraphOf};
+
+use crate::compared::compared;
+use crate::node::{Node, Nodes};
+use import_rounds::{in_rounds, marks_of};
+use pide_base::NodeName;
+use shared_map::Cut;
+use sqlite_items::Items;
+use std::alloc::{AllocError, Global};
+use std::cmp::Ordering;
+use std::marker::Model;
+
+/// The node of a name.
+#[derive(Clone, Copy)]
+struct Called<'a> {
+    name: &'a [char],
+}
+
+impl<'a> Cut<NodeName> for Called<'a> {
+    ghost use Rattle.std.specs.Cmp.Lexicographic.{nat_list_cmp_total};
+    ghost use Rattle.shared_map.specs.Cuts.{at_key};
+    ghost use Rattle.shared_map.specs.KeyCut.{is_cut-at_key};
+    ghost use Rattle.doc_nodes.specs.Names.{in_order};
+
+    ghost place = { λ cut. at_key in_order cut.name.now };
+
+    ghost rises = { λ cut. is_cut-at_key nat_list_cmp_total cut.name.now };
+
+    fn place(&self, node: &NodeName) -> Ordering {
+        compared(node.as_str().as_bytes(), self.name)
+    }
+}
+
+/// The imports of a version's nodes: each node's, by place; the places in the order of imports; and
+/// which are ordered.
+#[derive(Drop)]
+pub struct ImportGraph {
+    aims: Vec<Items<Option<usize>>>,
+    order: Vec<usize>,
+    marks: Vec<bool>,
+}
+
+impl Model for ImportGraph {
+    ghost use Rattle.doc_nodes.specs.Graph.{Graph};
+
+    ghost Value = { Graph };
+
+    ghost view = { λ graph. record {
+      aims = graph.aims.items;
+      order = graph.order.items;
+      marks = graph.marks.items;
+    } };
+}
+
+impl ImportGraph {
+    /// The imports of these nodes.
+    pub fn of(alloc: Global, nodes: &Nodes) -> Result<ImportGraph, AllocError>
+        ensures { IfOk result (λ graph. IsGraphOf nodes.now graph) }
+    {
+        let aims = all_aims(alloc, nodes)?;
+        let mut order = in_rounds(alloc, &aims)?;
+        let marks = marks_of(alloc, &order, aims.len())?;
+        add_others(&mut order, &marks)?;
+        Ok(ImportGraph { aims, order, marks })
+    }
+
+    /// The places of all nodes, in the order of imports.
+    pub fn order(&self) -> &[usize]
+        ensures { result.now ≡ self.now.order }
+    {
+        &self.order
+    }
+
+    /// Whether the node at the place is ordered.
+    pub fn is_ordered(&self, place: usize) -> bool
+        ensures { result ≡ marked self.now.marks place }
+    {
+        place < self.marks.len() && self.marks[place]
+    }
+
+    /// The places of a node's imports, in the header's order; None for one that is no node.
+    pub fn aims(&self, place: usize) -> &[Option<usize>]
+        ensures { result.now ≡ aims_at self.now.aims place }
+    {
+        match self.aims.get(place) {
+            Some(aims) => aims.as_slice(),
+            None => &[],
+        }
+    }
+}
+
+/// The place of the node of this name.
+pub(crate) fn place_of(nodes: &Nodes, name: &[char]) -> Option<usize>
+    ensures { result ≡ place_of nodes.now name.now }
+{
+    nodes.place_in(&Called { name })
+}
+
+fn aims_of(alloc: Global, nodes: &Nodes, node: &Node) -> Result<Items<Option<usize>>, AllocError>
+    ensures { IfOk result (λ aims. aims ≡ aims_of nodes.now node.now) }
+{
+    let mut aims = Vec::new(alloc);
+    'imports: for name in node.imports.get().as_slice() {
+        aims.push(place_of(nodes, name.as_slice()))?;
+    }
+    Ok(Items::from_vec(aims))
+}
+
+fn all_aims(alloc: Global, nodes: &Nodes) -> Result<Vec<Items<Option<usize>>>, AllocError>
+    ensures { IfOk result (λ rows. rows.items ≡ aims nodes.now) }
+{
+    let mut rows = Vec::new(alloc);
+    let mut rest = nodes.iter();
+    'nodes: while let Some((_, node)) = rest.next() {
+        rows.push(aims_of(alloc, nodes, node)?)?;
+    }
+    Ok(rows)
+}
+
+/// Adds the places that are not marked.
+fn add_others(order: &mut Vec<usize>, marks: &[bool]) -> Result<(), AllocError>
+    ensures { OnOk result (order.new.items ≡ order.old.items
+        ++ filter (λ p. not (marked marks.now p)) (range_with_len 0 (length marks.now))) }
+{
+    'places: for place in 0..marks.len() {
+        if !marks[place] {
+            order.push(place)?;
+        }
+    }
+    Ok(())
+}

@@ -1,0 +1,3 @@
+pub mod Lang
+pub mod Answers
+pub mod Laws
