@@ -1,0 +1,7 @@
+pub mod Deque
+pub mod Order
+pub mod Tasks
+pub mod Waiters
+pub mod Ready
+pub mod Changes
+pub mod Kept

@@ -1,0 +1,28 @@
+-- The tasks of a queue, by execution (this project's own).
+use Rattle.std.specs.Prelude.{◌≡◌, ℕ, ◌==◌, Bool, true, false, not, ◌&&◌, List, length, Option, Some, None, AllPairs}
+use Rattle.std.specs.List.{list_any, All, Contains}
+use Rattle.std.specs.Map.{lookup}
+use Rattle.std.specs.Option.{option_map_or}
+use Rattle.pide_base.specs.declared.part.Part.{Part}
+use Rattle.task_queue.specs.declared.task.Standing.{Standing}
+use Rattle.task_queue.specs.Order.{goes_before}
+
+-- what contracts see of a queue: how the present part of each execution stands, the ready parts in
+-- order, and the room for more tasks and more inputs
+pub record Queue : Type 0 where
+  pub tasks : List (ℕ × Standing)
+  pub ready : List Part
+  pub room : ℕ
+  pub links : ℕ
+
+-- how the present part of an execution stands: none where the queue has none
+abbrev pub standing : Queue → ℕ → Option Standing
+standing queue e = lookup (λ x. e == x) queue.tasks
+
+-- the execution is among these
+abbrev pub has : List ℕ → ℕ → Bool
+has execs e = list_any (λ x. e == x) execs
+
+-- nobody has taken the part, and all that it waited for is done
+abbrev pub is_ready : Standing → Bool
+is_ready s = not s.held && (length s.inputs == 0)
