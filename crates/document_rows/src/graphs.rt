@@ -1,5 +1,5 @@
 //! Graphs of imports. Nodes are places; an import that is no node is None.
-use import_rounds::in_rounds;
+use import_rounds::{in_rounds, marks_of};
 use sqlite_items::Items;
 use std::alloc::{AllocError, Global};
 use std::process::Abort;
@@ -87,4 +87,11 @@ fn what_has_a_bad_import_is_never_ordered(rt: HostRuntime) -> Result<(), Fail> {
     check(&rt, rt.alloc(), &CYCLE_AND_UNKNOWN)?;
     check(&rt, rt.alloc(), &ITSELF)?;
     check(&rt, rt.alloc(), &NO_NODE)
+}
+
+#[test]
+fn some_places_are_marked(rt: HostRuntime) -> Result<(), Fail> {
+    let marks = marks_of(rt.alloc(), &[2, 0], 4)?;
+    assert_eq!(rt; marks.as_slice(), [true, false, true, false].as_slice());
+    Ok(())
 }

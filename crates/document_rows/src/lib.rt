@@ -10,12 +10,28 @@ mod graphs;
 #[cfg(test)]
 mod histories;
 #[cfg(test)]
+mod imported;
+#[cfg(test)]
+mod in_force;
+#[cfg(test)]
+mod lengths;
+#[cfg(test)]
 mod live_versions;
 #[cfg(test)]
 mod maps;
 #[cfg(test)]
+mod queued;
+#[cfg(test)]
 mod reports;
+#[cfg(test)]
+mod scanned;
 #[cfg(test)]
 mod shown;
 #[cfg(test)]
 mod sketch;
+#[cfg(test)]
+mod trees;
+#[cfg(test)]
+mod wanted;
+#[cfg(test)]
+mod written;

@@ -100,6 +100,10 @@ fn a_range_has_its_first_and_last_key(rt: HostRuntime) -> Result<(), Fail> {
     assert!(rt; has_within(&map, &TENS, &[(10, 2), (15, 3), (19, 4)]));
     assert!(rt; has_within(&map, &THIRTIES, &[]));
     assert_eq!(rt; map.first_in(&TENS), Some((&10, &2)));
+    assert_eq!(rt; map.place_in(&TENS), Some(1));
+    assert_eq!(rt; map.place_in(&THIRTIES), None);
+    assert_eq!(rt; map.at(1), Some((&10, &2)));
+    assert_eq!(rt; map.at(5), None);
     Ok(())
 }
 
