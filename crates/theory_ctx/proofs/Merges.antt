@@ -1,5 +1,5 @@
 -- What merged contexts have, and that their order doesn't matter where they agree.
-use Rattle.std.proofs.Common.{◌≡◌, ℕ, List, [], ◌∷◌, ◌++◌, Option, Some, None, ◌⊎◌, inl, inr, refl, sym, ◌∙◌, ap}
+use Rattle.std.proofs.Common.{◌≡◌, ℕ, List, [], ◌∷◌, Option, Some, None, ◌⊎◌, inl, inr, refl, sym, ◌∙◌, ap}
 use Rattle.std.specs.Prelude.{find, fold}
 use Rattle.std.specs.Option.{option_or}
 use Rattle.std.proofs.lemmas.List.Folds.{find-append}
@@ -19,7 +19,7 @@ use Rattle.theory_ctx.proofs.Named.{fact_of_first}
 abbrev key_of : List ℕ → List ℕ → FactName
 key_of t n = record { name = n; theory = t }
 
-fact_of-united : (t n : List ℕ) (xs ys : List Fact) → IsSorted by_name xs
+pub fact_of-united : (t n : List ℕ) (xs ys : List Fact) → IsSorted by_name xs
     → fact_of t n (united by_name xs ys) ≡ option_or (fact_of t n xs) (fact_of t n ys)
 fact_of-united t n xs ys sorted =
     sym (fact_of_first t n (united by_name xs ys))

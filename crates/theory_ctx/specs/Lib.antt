@@ -7,3 +7,4 @@ pub mod Locals
 pub mod Merged
 pub mod Cited
 pub mod Agreement
+pub mod Ambiguity

@@ -13,6 +13,7 @@ mod inner_scope;
 mod laws;
 mod local;
 mod lookup;
+mod naming;
 mod scope;
 
 pub use ctx::{AddError, Ctx};
@@ -21,4 +22,5 @@ pub use inner_scope::InnerScope;
 pub use laws::{local_law, merge_law, order_law};
 pub use local::Local;
 pub use lookup::{LongName, Lookup};
+pub use naming::{add_law, ambiguous_law};
 pub use scope::Scope;
