@@ -30,6 +30,8 @@ mod shown;
 #[cfg(test)]
 mod sketch;
 #[cfg(test)]
+mod symbol_places;
+#[cfg(test)]
 mod trees;
 #[cfg(test)]
 mod wanted;

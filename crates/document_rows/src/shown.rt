@@ -89,7 +89,7 @@ fn taken(alloc: Global, rows: &[Row], changes: &[Change]) -> Result<(String, Str
     summary(alloc, &snapshot)
 }
 
-fn yxml(alloc: Global, sketches: &[Sketch]) -> Result<String, Fail> {
+pub(crate) fn yxml(alloc: Global, sketches: &[Sketch]) -> Result<String, Fail> {
     let mut out = String::new(alloc);
     write_reports(&mut out, reports(alloc, sketches)?.as_slice())?;
     Ok(out)

@@ -122,6 +122,14 @@ fn put_in_order<'a>(reports: Vec<Shown<'a>>) -> Result<Vec<Shown<'a>>, AllocErro
     Ok(reports)
 }
 
+/// The reports in report order, by the ranges where they are shown.
+pub fn in_report_order<'a>(reports: Vec<Shown<'a>>) -> Result<Vec<Shown<'a>>, AllocError>
+    ensures { IfOk result (λ ordered. map seen ordered.items
+        ≡ in_order (map seen reports.entry.items)) }
+{
+    put_in_order(reports)
+}
+
 /// What the finished parts report, as the edits leave it, in report order.
 pub(crate) fn gather<'a>(
     alloc: Global,

@@ -18,6 +18,7 @@ mod shown;
 mod take;
 
 pub use content::{Snapshot, write_shown};
+pub use gather::in_report_order;
 pub use laws::shown_stays_treelike;
 pub use movable::are_movable;
 pub use part::AssignedPart;

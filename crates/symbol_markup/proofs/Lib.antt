@@ -1,0 +1,2 @@
+mod SymbolCounts
+mod ToldSoFar
