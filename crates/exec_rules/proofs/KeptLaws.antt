@@ -1,0 +1,90 @@
+-- How many commands keep their evaluations, in the subject's words.
+use Rattle.std.proofs.Common.{◌≡◌, ℕ, zero, suc, ◌<◌, ◌≤◌, Bool, true, false, cond, List, [], ◌∷◌, length, refl, ap, ◌∙◌, arith}
+use Rattle.doc_nodes.specs.declared.node.Entry.{Entry}
+use Rattle.exec_rules.specs.declared.row.Row.{Row}
+use Rattle.exec_rules.specs.Kept.{Times, keeps, kept, KeepsAt}
+
+first_at : (t : Times) (e b : Entry) (r : Row) (es bs : List Entry) (rs : List Row) → keeps t e b r ≡ true
+    → KeepsAt t (e ∷ es) (b ∷ bs) (r ∷ rs) zero
+first_at t e b r es bs rs keeping =
+    record { command = e; old = b; row = r; stands = refl; stood = refl; had = refl; keeping = keeping }
+
+next_at : (t : Times) (e b : Entry) (r : Row) (es bs : List Entry) (rs : List Row) (i : ℕ) → KeepsAt t es bs rs i
+    → KeepsAt t (e ∷ es) (b ∷ bs) (r ∷ rs) (suc i)
+next_at t e b r es bs rs i at = record {
+  command = at.command;
+  old = at.old;
+  row = at.row;
+  stands = at.stands;
+  stood = at.stood;
+  had = at.had;
+  keeping = at.keeping;
+}
+
+rest_at : (t : Times) (e b : Entry) (r : Row) (es bs : List Entry) (rs : List Row) (i : ℕ)
+    → KeepsAt t (e ∷ es) (b ∷ bs) (r ∷ rs) (suc i) → KeepsAt t es bs rs i
+rest_at t e b r es bs rs i at = record {
+  command = at.command;
+  old = at.old;
+  row = at.row;
+  stands = at.stands;
+  stood = at.stood;
+  had = at.had;
+  keeping = at.keeping;
+}
+
+first_keeps : (t : Times) (e b : Entry) (r : Row) (es bs : List Entry) (rs : List Row)
+    → KeepsAt t (e ∷ es) (b ∷ bs) (r ∷ rs) zero → keeps t e b r ≡ true
+first_keeps t e b r es bs rs at =
+    let command : e ≡ at.command = cc in
+    let old : b ≡ at.old = cc in
+    let row : r ≡ at.row = cc in
+    ap (λ x. keeps t x b r) command ∙ ap (λ x. keeps t at.command x r) old
+    ∙ ap (λ x. keeps t at.command at.old x) row ∙ at.keeping
+
+all_by : (t : Times) (e b : Entry) (r : Row) (es bs : List Entry) (rs : List Row) (k : Bool) → keeps t e b r ≡ k
+    → ((j : ℕ) → j < kept t es bs rs → KeepsAt t es bs rs j) → (i : ℕ) → i < cond k (suc (kept t es bs rs)) 0
+    → KeepsAt t (e ∷ es) (b ∷ bs) (r ∷ rs) i
+all_by t e b r es bs rs false same rest i lt = absurd (omega arith)
+all_by t e b r es bs rs true same rest zero lt = first_at t e b r es bs rs same
+all_by t e b r es bs rs true same rest (suc i) lt = next_at t e b r es bs rs i (rest i (omega arith))
+
+pub kept_all : (t : Times) (es bs : List Entry) (rs : List Row) (i : ℕ) → i < kept t es bs rs → KeepsAt t es bs rs i
+kept_all t [] bs rs i lt = absurd (omega arith)
+kept_all t (e ∷ es) [] rs i lt = absurd (omega arith)
+kept_all t (e ∷ es) (b ∷ bs) [] i lt = absurd (omega arith)
+kept_all t (e ∷ es) (b ∷ bs) (r ∷ rs) i lt =
+    all_by t e b r es bs rs (keeps t e b r) refl (λ j less. kept_all t es bs rs j less) i lt
+
+one_more : (k : Bool) (n m : ℕ) → k ≡ true → n ≤ m → suc n ≤ cond k (suc m) 0
+one_more true n m same le = omega arith
+one_more false n m same le = absurd (cc)
+
+pub kept_greatest : (t : Times) (es bs : List Entry) (rs : List Row) (n : ℕ)
+    → ((i : ℕ) → i < n → KeepsAt t es bs rs i) → n ≤ kept t es bs rs
+kept_greatest t es bs rs zero all = omega arith
+kept_greatest t [] bs rs (suc n) all = let at = all zero (omega arith) in let none = at.stands in absurd (cc)
+kept_greatest t (e ∷ es) [] rs (suc n) all = let at = all zero (omega arith) in let none = at.stood in absurd (cc)
+kept_greatest t (e ∷ es) (b ∷ bs) [] (suc n) all = let at = all zero (omega arith) in let none = at.had in absurd (cc)
+kept_greatest t (e ∷ es) (b ∷ bs) (r ∷ rs) (suc n) all =
+    one_more (keeps t e b r) n (kept t es bs rs) (first_keeps t e b r es bs rs (all zero (omega arith)))
+    (kept_greatest t es bs rs n (λ i less. rest_at t e b r es bs rs i (all (suc i) (omega arith))))
+
+within_by : (k : Bool) (n m : ℕ) → n ≤ m → cond k (suc n) 0 ≤ suc m
+within_by true n m le = omega arith
+within_by false n m le = omega arith
+
+-- no more are kept than there are commands, or rows before
+pub kept_commands : (t : Times) (es bs : List Entry) (rs : List Row) → kept t es bs rs ≤ length es
+kept_commands t [] bs rs = omega arith
+kept_commands t (e ∷ es) [] rs = omega arith
+kept_commands t (e ∷ es) (b ∷ bs) [] = omega arith
+kept_commands t (e ∷ es) (b ∷ bs) (r ∷ rs) =
+    within_by (keeps t e b r) (kept t es bs rs) (length es) (kept_commands t es bs rs)
+
+pub kept_rows : (t : Times) (es bs : List Entry) (rs : List Row) → kept t es bs rs ≤ length rs
+kept_rows t [] bs rs = omega arith
+kept_rows t (e ∷ es) [] rs = omega arith
+kept_rows t (e ∷ es) (b ∷ bs) [] = omega arith
+kept_rows t (e ∷ es) (b ∷ bs) (r ∷ rs) =
+    within_by (keeps t e b r) (kept t es bs rs) (length rs) (kept_rows t es bs rs)

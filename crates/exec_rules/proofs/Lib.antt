@@ -1,0 +1,4 @@
+mod KeptLaws
+mod KeyLaws
+mod RowLaws
+mod NumberLaws

@@ -1,0 +1,85 @@
+-- How many numbers an update gives.
+use Rattle.std.proofs.Common.{◌≡◌, ℕ, suc, ◌+◌, ◌-◌, ◌≤◌, Bool, true, false, cond, List, [], ◌∷◌, ◌++◌, length, take, drop, Option, Some, None, refl, ◌∙◌, arith}
+use Rattle.std.proofs.lemmas.List.{length-append, length-map, length-take-le, length-drop}
+use Rattle.std.proofs.lemmas.Slice.Zip.{length-zip}
+use Rattle.std.specs.Prelude.{slice_get}
+use Rattle.std.specs.List.{zip}
+use Rattle.std.specs.Option.{option_map_or}
+use Rattle.doc_nodes.specs.declared.node.Entry.{Entry}
+use Rattle.doc_nodes.specs.declared.node.Node.{Node}
+use Rattle.doc_nodes.specs.Prefix.{wanted_prefix}
+use Rattle.doc_nodes.specs.Wanted.{wanted_at}
+use Rattle.exec_rules.specs.declared.home.Head.{Head}
+use Rattle.exec_rules.specs.declared.home.Input.TheVariants.{Next, Print}
+use Rattle.exec_rules.specs.declared.key.Key.{Key}
+use Rattle.exec_rules.specs.Keys.{key_of}
+use Rattle.exec_rules.specs.Kept.{BlobList}
+use Rattle.exec_rules.specs.Rows.{evaluations, live_prints, first_print, takes_print, behind_prints}
+use Rattle.exec_rules.specs.Homes.{home, taken_up, eval_homes, print_homes}
+use Rattle.exec_rules.specs.Assigning.{Update, Work, added, rows_in, kept_of, greater, head_at, given, assign_one, assign_all}
+use Rattle.exec_rules.proofs.RowLaws.{kept_of_rows, greater_least, evaluations_long, count_within}
+
+-- the next number behind the prints is told by their homes
+print_numbers : (node : Node) (blobs : BlobList) (es : List Entry) (vs : List ℕ) (live : List (Option ℕ)) (m : ℕ)
+    → behind_prints es vs live m ≡ m + length (print_homes node blobs es vs live)
+print_numbers node blobs [] vs live m = omega arith
+print_numbers node blobs (e ∷ es) [] live m = omega arith
+print_numbers node blobs (e ∷ es) (v ∷ vs) live m = go (takes_print e (first_print live))
+    (λ next. print_numbers node blobs es vs (drop 1 live) next)
+  where
+    go : (b : Bool) → ((next : ℕ) → behind_prints es vs (drop 1 live) next ≡ next + length (print_homes node blobs es vs (drop 1 live)))
+        → behind_prints es vs (drop 1 live) (cond b (suc m) m)
+        ≡ m + length (cond b (home node blobs e (Print v) ∷ []) [] ++ print_homes node blobs es vs (drop 1 live))
+    go true rest = rest (suc m) ∙ omega arith
+    go false rest = rest m
+
+-- as many evaluations as there are, where there are commands for them
+eval_count : (node : Node) (blobs : BlobList) (head : Head) (vs : List ℕ) → length vs ≤ length node.entries
+    → length (eval_homes node blobs head vs) ≡ length vs
+eval_count node blobs head vs le =
+    length-map (zip (take (length vs) node.entries) (taken_up head vs)) (λ pair. home node blobs pair.0 pair.1)
+    ∙ length-zip (take (length vs) node.entries) (taken_up head vs)
+    ∙ omega (arith, length-take-le (length vs) node.entries le, length-map vs (λ x. Next x))
+
+-- what a node is given
+given_numbers : (within : (es : List Entry) → wanted_prefix es ≤ length es) (u : Update) (p : ℕ) (pair : List ℕ × Node)
+    (key : Key) (next : ℕ) → slice_get u.nodes p ≡ Some pair
+    → (given u p pair key next).next ≡ next + length (given u p pair key next).homes
+given_numbers within u p pair key next at =
+    let k = kept_of u pair key in
+    let n = greater k (wanted_at u.nodes p) in
+    let vs = evaluations (rows_in u.tip pair.0) k n next in
+    let live = live_prints u.cancelled (rows_in u.tip pair.0) k in
+    let head = head_at u p pair key in
+    let long : length vs ≡ n = evaluations_long (rows_in u.tip pair.0) k n next (greater_least k (wanted_at u.nodes p)) (kept_of_rows u pair key) in
+    let le : length vs ≤ length pair.1.entries = omega (arith, long, count_within within u p pair key next at) in
+    print_numbers pair.1 u.blobs pair.1.entries vs live (next + (n - k))
+    ∙ omega (
+      arith,
+      long,
+      eval_count pair.1 u.blobs head vs le,
+      length-drop k (eval_homes pair.1 u.blobs head vs),
+      length-append (drop k (eval_homes pair.1 u.blobs head vs)) (print_homes pair.1 u.blobs pair.1.entries vs live),
+      greater_least k (wanted_at u.nodes p),
+    )
+
+one_numbers : (within : (es : List Entry) → wanted_prefix es ≤ length es) (u : Update) (work : Work) (p next : ℕ)
+    → work.next ≡ next + length work.homes → (assign_one u work p).next ≡ next + length (assign_one u work p).homes
+one_numbers within u work p next e = go (slice_get u.nodes p) refl
+  where
+    go : (o : Option (List ℕ × Node)) → slice_get u.nodes p ≡ o
+        → (option_map_or (λ pair. added work p (given u p pair (key_of u.nodes work.done pair.1) work.next)) o work).next
+        ≡ next + length (option_map_or (λ pair. added work p (given u p pair (key_of u.nodes work.done pair.1) work.next)) o work).homes
+    go None at = e
+    go (Some pair) at = omega (
+      arith,
+      e,
+      given_numbers within u p pair (key_of u.nodes work.done pair.1) work.next at,
+      length-append work.homes (given u p pair (key_of u.nodes work.done pair.1) work.next).homes,
+    )
+
+pub all_numbers : (within : (es : List Entry) → wanted_prefix es ≤ length es) (u : Update) (ps : List ℕ) (work : Work) (next : ℕ)
+    → work.next ≡ next + length work.homes → (assign_all u ps work).next ≡ next + length (assign_all u ps work).homes
+all_numbers within u [] work next e = e
+all_numbers within u (p ∷ ps) work next e =
+    all_numbers within u ps (assign_one u work p) next (one_numbers within u work p next e)
