@@ -1,0 +1,45 @@
+-- Numbers and the texts that write them.
+use Rattle.std.proofs.Common.{◌≡◌, ◌≢◌, ℕ, ◌<◌, ◌^◌, ◌&&◌, IfSome, IfNone, nat_lt, bytes_eq, if◌then◌else◌, List, Option, Some, None, decimal, refl, sym, ap, subst, ◌∙◌, arith}
+use Rattle.std.specs.Str.Parse.{digits_value}
+use Rattle.std.proofs.lemmas.Fmt.{decimal_is_IsNumeral}
+use Rattle.text_words.proofs.KnownTests.{both-parts, both-hold}
+use Rattle.xml_codec.specs.Data.{int_end}
+use Rattle.data_shapes.specs.Numbers.{number_of}
+use Rattle.data_shapes.specs.Shapes.{index_of}
+use Rattle.data_shapes.proofs.KnownSteps.{tested, passed, none_found}
+use Rattle.data_shapes.proofs.KnownTrees.{same_bytes, bytes_same}
+use Rattle.std.proofs.lemmas.Bool.{ltb-true, lt-ltb}
+
+-- what is found below an end is a number whose decimal the text is
+below_sound : (end number n : ℕ) (text : List ℕ)
+    → (if nat_lt number end && bytes_eq (decimal number) text then Some number else None) ≡ Some n → (n < end) × (text ≡ decimal n)
+below_sound end number n text e =
+    let t = tested (nat_lt number end && bytes_eq (decimal number) text) (Some number) n e in
+    let same : number ≡ n = cc in
+    let parts = both-parts (nat_lt number end) (bytes_eq (decimal number) text) t.0 in
+    (subst (λ k. k < end) same (ltb-true number end parts.0), sym (same_bytes (decimal number) text parts.1) ∙ ap decimal same)
+
+below_complete : (end n : ℕ) → n < end → n < 2 ^ 64
+    → (if nat_lt (digits_value 10 (decimal n)) end && bytes_eq (decimal (digits_value 10 (decimal n))) (decimal n)
+    then Some (digits_value 10 (decimal n)) else None) ≡ Some n
+below_complete end n low small =
+    subst (λ k. (if nat_lt k end && bytes_eq (decimal k) (decimal n) then Some k else None) ≡ Some n) (sym (decimal_is_IsNumeral n small).1)
+    (passed (nat_lt n end && bytes_eq (decimal n) (decimal n)) (Some n) None
+    (both-hold (nat_lt n end) (bytes_eq (decimal n) (decimal n)) (lt-ltb n end low) (bytes_same (decimal n) (decimal n) refl)))
+
+pub number_sound : (text : List ℕ) (n : ℕ) → number_of text ≡ Some n → (n < int_end) × (text ≡ decimal n)
+number_sound text n e = below_sound int_end (digits_value 10 text) n text e
+
+pub number_complete : (n : ℕ) → n < int_end → number_of (decimal n) ≡ Some n
+number_complete n low = below_complete int_end n low (omega (arith, low))
+
+pub index_sound : (text : List ℕ) (n : ℕ) → index_of text ≡ Some n → (n < 2 ^ 64) × (text ≡ decimal n)
+index_sound text n e = below_sound (2 ^ 64) (digits_value 10 text) n text e
+
+pub index_complete : (n : ℕ) → n < 2 ^ 64 → index_of (decimal n) ≡ Some n
+index_complete n low = below_complete (2 ^ 64) n low low
+
+-- what a reader of numbers tells is the number
+pub number_told : (r : Option ℕ) (text : List ℕ) → IfSome r (λ n. (n < int_end) × (text ≡ decimal n)) → IfNone r ((n : ℕ) → n < int_end → text ≢ decimal n) → r ≡ number_of text
+number_told (Some n) text some none = sym (ap number_of some.1 ∙ number_complete n some.0)
+number_told None text some none = sym (none_found (number_of text) (λ n e. none n (number_sound text n e).0 (number_sound text n e).1))

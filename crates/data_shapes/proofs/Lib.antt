@@ -1,0 +1,10 @@
+pub mod KnownEdits
+pub mod KnownFaults
+pub mod KnownFinds
+pub mod KnownFound
+pub mod KnownItems
+pub mod KnownNumbers
+pub mod KnownSteps
+pub mod KnownTexts
+pub mod KnownTrees
+pub mod KnownWords

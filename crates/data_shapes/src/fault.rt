@@ -1,0 +1,38 @@
+//! Why a body was not read.
+
+use std::alloc::AllocError;
+use xml_codec::DataFault;
+
+/// Why a body was not read.
+#[derive(Clone, Copy, Debug, PartialEq, Eq)]
+pub enum ShapeFault {
+    /// It encodes no value of the shape.
+    WrongShape,
+    /// Memory ran out, which says nothing of the body.
+    NoMemory,
+}
+
+impl From<AllocError> for ShapeFault {
+    ghost use Rattle.data_shapes.specs.declared.fault.ShapeFault.TheVariants.{NoMemory};
+    ghost use Rattle.std.specs.Prelude.{◌≡◌};
+
+    ghost from_gives = { λ _ fault. fault ≡ NoMemory };
+
+    fn from(_refused: AllocError) -> ShapeFault {
+        ShapeFault::NoMemory
+    }
+}
+
+impl From<DataFault> for ShapeFault {
+    ghost use Rattle.data_shapes.specs.Reads.{placeless};
+    ghost use Rattle.std.specs.Prelude.{◌≡◌};
+
+    ghost from_gives = { λ placed fault. fault ≡ placeless placed };
+
+    fn from(fault: DataFault) -> ShapeFault {
+        match fault {
+            DataFault::Wrong { .. } => ShapeFault::WrongShape,
+            DataFault::NoMemory => ShapeFault::NoMemory,
+        }
+    }
+}
