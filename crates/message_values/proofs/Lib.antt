@@ -1,0 +1,5 @@
+mod Asking
+mod Encoded
+mod Made
+mod Messages
+mod Telling

@@ -1,0 +1,9 @@
+pub mod Asked
+pub mod Bodies
+pub mod Fits
+pub mod Functions
+pub mod Items
+pub mod Protocols
+pub mod Refusals
+pub mod Spelled
+pub mod Workers

@@ -1,0 +1,26 @@
+-- What a reader of messages answers.
+use Rattle.std.specs.Prelude.{◌≡◌, Result, Ok, Err}
+use Rattle.data_shapes.specs.declared.fault.ShapeFault.{ShapeFault}
+use Rattle.data_shapes.specs.declared.fault.ShapeFault.TheVariants as shape
+use Rattle.yxml.specs.declared.fault.YxmlFault.{YxmlFault}
+use Rattle.yxml.specs.declared.fault.YxmlFault.TheVariants as yxml
+use Rattle.message_values.specs.declared.refusal.Refusal.{Refusal}
+use Rattle.message_values.specs.declared.refusal.Refusal.TheVariants.{BadYxml, BadData}
+use Rattle.pide_messages.specs.declared.error.ReadError.{ReadError}
+use Rattle.pide_messages.specs.declared.error.ReadError.TheVariants.{Refused, NoMemory}
+
+-- what is told, or why it is refused, unless memory ran out
+abbrev pub Gives : {A : Type 0} → Result A ReadError → Result A Refusal → Type 0
+Gives (Ok value) told = told ≡ Ok value
+Gives (Err (Refused reason)) told = told ≡ Err reason
+Gives (Err NoMemory) told = Unit {0}
+
+-- another shape is bad data
+abbrev pub shape_error : ShapeFault → ReadError
+shape_error shape.WrongShape = Refused BadData
+shape_error shape.NoMemory = NoMemory
+
+-- a fault of the spelling is bad YXML
+abbrev pub spelling_error : YxmlFault → ReadError
+spelling_error yxml.NoMemory = NoMemory
+spelling_error _ = Refused BadYxml

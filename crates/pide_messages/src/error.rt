@@ -1,0 +1,55 @@
+//! Why a message was not read.
+
+use data_shapes::ShapeFault;
+use message_values::Refusal;
+use std::alloc::AllocError;
+use yxml::YxmlFault;
+
+/// Why a message was not read.
+#[derive(Clone, Copy, Debug, PartialEq, Eq)]
+pub enum ReadError {
+    /// It asks nothing, for this reason, one of the first five: from `UnknownFunction` to
+    /// `BadData`.
+    Refused(Refusal),
+    /// Memory ran out, which says nothing of the message.
+    NoMemory,
+}
+
+impl From<AllocError> for ReadError {
+    ghost use Rattle.pide_messages.specs.declared.error.ReadError.TheVariants.{NoMemory};
+    ghost use Rattle.std.specs.Prelude.{◌≡◌};
+
+    ghost from_gives = { λ _ error. error ≡ NoMemory };
+
+    fn from(_refused: AllocError) -> ReadError {
+        ReadError::NoMemory
+    }
+}
+
+impl From<ShapeFault> for ReadError {
+    ghost use Rattle.pide_messages.specs.Gives.{shape_error};
+    ghost use Rattle.std.specs.Prelude.{◌≡◌};
+
+    ghost from_gives = { λ fault error. error ≡ shape_error fault };
+
+    fn from(fault: ShapeFault) -> ReadError {
+        match fault {
+            ShapeFault::WrongShape => ReadError::Refused(Refusal::BadData),
+            ShapeFault::NoMemory => ReadError::NoMemory,
+        }
+    }
+}
+
+impl From<YxmlFault> for ReadError {
+    ghost use Rattle.pide_messages.specs.Gives.{spelling_error};
+    ghost use Rattle.std.specs.Prelude.{◌≡◌};
+
+    ghost from_gives = { λ fault error. error ≡ spelling_error fault };
+
+    fn from(fault: YxmlFault) -> ReadError {
+        match fault {
+            YxmlFault::NoMemory => ReadError::NoMemory,
+            _ => ReadError::Refused(Refusal::BadYxml),
+        }
+    }
+}
