@@ -4,7 +4,11 @@
 #![tactic(auto)]
 
 #[cfg(test)]
+mod asked;
+#[cfg(test)]
 mod frames;
+#[cfg(test)]
+mod shown;
 #[cfg(test)]
 mod spellings;
 #[cfg(test)]

@@ -1,0 +1,5 @@
+pub mod Bodies
+pub mod Chunks
+pub mod Forms
+pub mod Lent
+pub mod Replies
