@@ -1,0 +1,83 @@
+-- Commands that keep their evaluations have the same source and blob as before.
+use Rattle.std.proofs.Common.{◌≡◌, ℕ, suc, ◌≤◌, Bool, true, false, not, ◌&&◌, cond, List, [], ◌∷◌, length, Option, Some, None, refl, ap, sym, ◌∙◌, arith}
+use Rattle.std.proofs.lemmas.Bool.{eqb-true}
+use Rattle.std.proofs.lemmas.Map.Text.{is_eq-slice_cmp}
+use Rattle.std.proofs.lemmas.Slice.Eq.{bytes_eq-Decides}
+use Rattle.text_words.proofs.KnownTests.{both-parts}
+use Rattle.std.specs.Prelude.{◌==◌, ⊤}
+use Rattle.import_rounds.specs.Rounds.{has}
+use Rattle.doc_nodes.specs.declared.node.Entry.{Entry}
+use Rattle.doc_nodes.specs.declared.node.Node.{Node}
+use Rattle.doc_nodes.specs.Names.{equal}
+use Rattle.exec_rules.specs.declared.row.Row.{Row}
+use Rattle.exec_rules.specs.declared.home.Input.{Input}
+use Rattle.exec_rules.specs.Kept.{Times, agree, blob_of, same_blob, keeps, kept}
+use Rattle.exec_rules.specs.Homes.{home}
+use Rattle.core_rules.specs.Updates.{source_in}
+use Rattle.core_rules.proofs.KeptRows.{SameHome, SameFront}
+
+pub name_is : (xs ys : List ℕ) → equal xs ys ≡ true → xs ≡ ys
+name_is xs ys e = grind (arith, bytes_eq-Decides xs ys, is_eq-slice_cmp xs ys)
+
+pub name_itself : (xs : List ℕ) → equal xs xs ≡ true
+name_itself xs = grind (arith, bytes_eq-Decides xs xs, is_eq-slice_cmp xs xs)
+
+agree_is : (a b : Option (List ℕ)) → agree a b ≡ true → a ≡ b
+agree_is None None e = refl
+agree_is None (Some y) e = absurd (cc)
+agree_is (Some x) None e = absurd (cc)
+agree_is (Some x) (Some y) e = ap (λ z. Some z) (name_is x y e)
+
+module _ (node old : Node) (times : Times) where
+  -- commands at the same place that are the same have the same source
+  abbrev pub SameSources : List Entry → List Entry → Type 0
+  SameSources [] bs = ⊤
+  SameSources (e ∷ es) [] = ⊤
+  SameSources (e ∷ es) (b ∷ bs) = (e.command ≡ b.command → source_in node e ≡ source_in old b) × SameSources es bs
+
+  same_by : (e b : Entry) (i : Input) → source_in node e ≡ source_in old b → blob_of times.now e.needs ≡ blob_of times.before b.needs
+      → home old times.before b i ≡ home node times.now e i
+  same_by e b i source blob =
+      ap (λ x. record { source = x; blob = blob_of times.before b.needs; input = i }) (sym source)
+      ∙ ap (λ x. record { source = source_in node e; blob = x; input = i }) (sym blob)
+
+  same_one : (e b : Entry) (r : Row) → keeps times e b r ≡ true → (e.command ≡ b.command → source_in node e ≡ source_in old b)
+      → SameHome node old times.now times.before e b
+  same_one e b r keep source =
+      let first = both-parts (e.command == b.command) (not (has times.cancelled r.evaluation) && same_blob times e.needs b.needs) keep in
+      let second = both-parts (not (has times.cancelled r.evaluation)) (same_blob times e.needs b.needs) first.1 in
+      let third = both-parts (agree e.needs b.needs) (agree (blob_of times.now e.needs) (blob_of times.before b.needs)) second.1 in
+      λ i. same_by e b i (source (eqb-true e.command b.command first.0)) (agree_is _ _ third.1)
+
+  by : (b : Bool) (e c : Entry) (r : Row) (es cs : List Entry) (n : ℕ) → keeps times e c r ≡ b
+      → (e.command ≡ c.command → source_in node e ≡ source_in old c) → SameFront node old times.now times.before n es cs
+      → SameFront node old times.now times.before (cond b (suc n) 0) (e ∷ es) (c ∷ cs)
+  by true e c r es cs n keep source rest = (same_one e c r keep source, rest)
+  by false e c r es cs n keep source rest = tt
+
+  pub same_front : (es bs : List Entry) (rs : List Row) → SameSources es bs
+      → SameFront node old times.now times.before (kept times es bs rs) es bs
+  same_front [] bs rs same = tt
+  same_front (e ∷ es) [] rs same = tt
+  same_front (e ∷ es) (b ∷ bs) [] same = tt
+  same_front (e ∷ es) (b ∷ bs) (r ∷ rs) same =
+      by (keeps times e b r) e b r es bs (kept times es bs rs) refl same.0 (same_front es bs rs same.1)
+
+within_by : (k : Bool) (n m : ℕ) → n ≤ m → cond k (suc n) 0 ≤ suc m
+within_by true n m le = omega arith
+within_by false n m le = omega arith
+
+-- no more are kept than there are commands, or rows before
+pub kept_commands : (t : Times) (es bs : List Entry) (rs : List Row) → kept t es bs rs ≤ length es
+kept_commands t [] bs rs = omega arith
+kept_commands t (e ∷ es) [] rs = omega arith
+kept_commands t (e ∷ es) (b ∷ bs) [] = omega arith
+kept_commands t (e ∷ es) (b ∷ bs) (r ∷ rs) =
+    within_by (keeps t e b r) (kept t es bs rs) (length es) (kept_commands t es bs rs)
+
+pub kept_rows : (t : Times) (es bs : List Entry) (rs : List Row) → kept t es bs rs ≤ length rs
+kept_rows t [] bs rs = omega arith
+kept_rows t (e ∷ es) [] rs = omega arith
+kept_rows t (e ∷ es) (b ∷ bs) [] = omega arith
+kept_rows t (e ∷ es) (b ∷ bs) (r ∷ rs) =
+    within_by (keeps t e b r) (kept t es bs rs) (length rs) (kept_rows t es bs rs)
