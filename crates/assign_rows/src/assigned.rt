@@ -1,0 +1,258 @@
+//! What updates of small documents assign (`exec_assign`): each row as its evaluation, with its
+//! print behind a `/`, and `|` behind each node.
+ghost use Rattle.std.specs.Prelude.{◌≡◌, ◌≤◌, ◌∷◌, [], IfOk};
+ghost use Rattle.pide_base.specs.Ids.{id_end};
+ghost use Rattle.exec_assign.specs.Fitting.{RowsFit};
+
+use crate::drawn::{Drawn, nodes_of};
+use doc_nodes::Nodes;
+use exec_assign::{AssignFault, Assignment, Cancelled, Update};
+use exec_rules::{Row, Version, numbers_law};
+use pide_base::ExecId;
+use shared_map::SharedMap;
+use sqlite_items::Items;
+use std::alloc::{AllocError, Global};
+use std::test::Fail;
+
+/// The execution of this number is cancelled.
+#[derive(Drop)]
+struct Only {
+    number: u64,
+}
+
+impl Cancelled for Only {
+    ghost use Rattle.std.specs.Prelude.{◌∷◌, []};
+
+    ghost cancelled = { λ only. only.number ∷ [] };
+
+    fn is_cancelled(&self, execution: ExecId) -> bool {
+        execution.number() == self.number
+    }
+}
+
+/// A version, and the number of the next execution.
+#[derive(Drop)]
+struct Made {
+    version: Version,
+    next: u64,
+}
+
+/// The version before any update.
+fn start(alloc: Global) -> Made
+    ensures rows { RowsFit result.version }
+    ensures blobs { result.version.blobs ≡ [] }
+    ensures next { result.next ≡ 1 }
+{
+    Made {
+        version: Version {
+            nodes: SharedMap::new(),
+            blobs: SharedMap::new(),
+            assigned: Items::new(alloc),
+        },
+        next: 1,
+    }
+}
+
+/// What an update to these nodes makes, where nothing is known to be untouched.
+fn updated(
+    alloc: Global,
+    before: &Made,
+    nodes: Nodes,
+    cancelled: &Only,
+) -> Result<Made, AssignFault>
+    requires rows { RowsFit before.now.version }
+    requires blobs { before.now.version.blobs ≡ [] }
+    requires first { 1 ≤ before.now.next }
+    requires next { before.now.next ≤ id_end }
+    ensures rows { IfOk result (λ made. RowsFit made.version) }
+    ensures blobs { IfOk result (λ made. made.version.blobs ≡ []) }
+    ensures first { IfOk result (λ made. 1 ≤ made.next) }
+    ensures next { IfOk result (λ made. made.next ≤ id_end) }
+{
+    numbers_law();
+    let blobs = SharedMap::new();
+    let changed = SharedMap::new();
+    let assignment = {
+        let update = Update::of(
+            alloc,
+            &before.version,
+            &nodes,
+            &blobs,
+            cancelled,
+            &changed,
+            &[],
+        )?;
+        update.assign(alloc, before.next)?
+    };
+    let Assignment { assigned, next, .. } = assignment;
+    Ok(Made {
+        version: Version {
+            nodes,
+            blobs,
+            assigned,
+        },
+        next,
+    })
+}
+
+fn push_row(alloc: Global, text: &mut String, row: Row) -> Result<(), AllocError> {
+    let evaluation = row.evaluation.number();
+    let told = match row.print {
+        Some(print) => format!(in alloc; "{evaluation}/{print} ", print = print.number())?,
+        None => format!(in alloc; "{evaluation} ")?,
+    };
+    text.push_str(told.as_str())
+}
+
+fn told(alloc: Global, version: &Version) -> Result<String, AllocError> {
+    let mut text = String::new(alloc);
+    for assigned in version.assigned.as_slice() {
+        for row in assigned.get().rows.as_slice() {
+            push_row(alloc, &mut text, *row)?;
+        }
+        text.push('|')?;
+    }
+    Ok(text)
+}
+
+/// What the second of two updates assigns, where an execution is cancelled between them.
+fn second_of(
+    alloc: Global,
+    first: Nodes,
+    cancelled: u64,
+    second: Nodes,
+) -> Result<String, AssignFault> {
+    let nothing = Only { number: 0 };
+    let one = updated(alloc, &start(alloc), first, &nothing)?;
+    let other = updated(alloc, &one, second, &Only { number: cancelled })?;
+    Ok(told(alloc, &other.version)?)
+}
+
+/// The same of nodes that are drawn.
+fn after_two(
+    alloc: Global,
+    first: &[Drawn],
+    cancelled: u64,
+    second: &[Drawn],
+) -> Result<String, Fail> {
+    let first = nodes_of(alloc, first)?;
+    let second = nodes_of(alloc, second)?;
+    Ok(
+        second_of(alloc, first, cancelled, second)
+            .ok()
+            .ok_or("limit")?,
+    )
+}
+
+/// A required node without imports.
+const fn required(name: &'static str, commands: &'static [u64]) -> Drawn {
+    Drawn {
+        name,
+        imports: &[],
+        commands,
+        seen: 0,
+        required: true,
+    }
+}
+
+/// A node of five commands, of which some at the front are visible.
+const fn watched(seen: usize) -> Drawn {
+    Drawn {
+        name: "A",
+        imports: &[],
+        commands: &[1, 2, 3, 4, 5],
+        seen,
+        required: false,
+    }
+}
+
+const IMPORTER: Drawn = Drawn {
+    name: "B",
+    imports: &["A"],
+    commands: &[4, 5],
+    seen: 0,
+    required: true,
+};
+
+#[test]
+fn an_update_keeps_what_stands_and_gives_the_next_numbers(rt: HostRuntime) -> Result<(), Fail> {
+    let alloc = rt.alloc();
+    let five = required("A", &[1, 2, 3, 4, 5]);
+    let changed = required("A", &[1, 2, 6, 4, 5]);
+    assert_eq!(rt; after_two(alloc, &[], 0, &[five])?.as_str(), "1 2 3 4 5 |");
+    assert_eq!(rt;
+        after_two(alloc, &[five], 0, &[five])?.as_str(),
+        "1 2 3 4 5 |"
+    );
+    assert_eq!(rt;
+        after_two(alloc, &[five], 0, &[changed])?.as_str(),
+        "1 2 6 7 8 |"
+    );
+    assert_eq!(rt;
+        after_two(alloc, &[five], 2, &[five])?.as_str(),
+        "1 6 7 8 9 |"
+    );
+    Ok(())
+}
+
+#[test]
+fn a_perspective_brings_evaluations_and_prints(rt: HostRuntime) -> Result<(), Fail> {
+    let alloc = rt.alloc();
+    assert_eq!(rt;
+        after_two(alloc, &[], 0, &[watched(2)])?.as_str(),
+        "1/3 2/4 |"
+    );
+    assert_eq!(rt;
+        after_two(alloc, &[watched(2)], 0, &[watched(5)])?.as_str(),
+        "1/3 2/4 5/8 6/9 7/10 |"
+    );
+    assert_eq!(rt;
+        after_two(alloc, &[watched(2)], 0, &[watched(1)])?.as_str(),
+        "1/3 2 |"
+    );
+    assert_eq!(rt;
+        after_two(alloc, &[watched(2)], 3, &[watched(2)])?.as_str(),
+        "1/5 2/4 |"
+    );
+    Ok(())
+}
+
+#[test]
+fn an_importer_has_new_executions_where_its_import_ends_otherwise(
+    rt: HostRuntime,
+) -> Result<(), Fail> {
+    let alloc = rt.alloc();
+    let import = required("A", &[1, 2, 3]);
+    let changed = required("A", &[1, 2, 6]);
+    assert_eq!(rt;
+        after_two(alloc, &[import, IMPORTER], 0, &[import, IMPORTER])?.as_str(),
+        "1 2 3 |4 5 |"
+    );
+    assert_eq!(rt;
+        after_two(alloc, &[import, IMPORTER], 0, &[changed, IMPORTER])?.as_str(),
+        "1 2 6 |7 8 |"
+    );
+    assert_eq!(rt;
+        after_two(alloc, &[import, IMPORTER], 0, &[IMPORTER])?.as_str(),
+        "6 7 |"
+    );
+    Ok(())
+}
+
+#[test]
+fn a_number_past_the_greatest_id_is_the_limit(rt: HostRuntime) -> Result<(), Fail> {
+    let alloc = rt.alloc();
+    let mut before = start(alloc);
+    before.next = 999_999_999_999_999_996;
+    let nothing = Only { number: 0 };
+    let four = nodes_of(alloc, &[required("A", &[1, 2, 3, 4])])?;
+    let five = nodes_of(alloc, &[required("A", &[1, 2, 3, 4, 5])])?;
+    assert!(rt; updated(alloc, &before, four, &nothing).is_ok());
+    assert!(rt;
+        matches!(
+            updated(alloc, &before, five, &nothing),
+            Err(AssignFault::Limit)
+        )
+    );
+    Ok(())
+}

@@ -1,0 +1,11 @@
+mod KeyLemmas
+mod BlobLemmas
+mod KeptLemmas
+mod RowLemmas
+mod HomeLemmas
+mod AgainLemmas
+mod StandLemmas
+mod WantedLemmas
+mod WorkLemmas
+mod ProgressLemmas
+mod FitLemmas

@@ -1,0 +1,165 @@
+-- Rows, command by command.
+use Rattle.std.proofs.Common.{◌≡◌, ℕ, zero, suc, ◌+◌, ◌-◌, ◌<◌, ◌≤◌, Bool, true, false, cond, List, [], ◌∷◌, ◌++◌, length, map, take, drop, get_or, Option, refl, sym, ap, ◌∙◌, arith, append_assoc}
+use Rattle.std.proofs.lemmas.List.{drop_more, drop_all, length-append, length-map, length-take-le}
+use Rattle.std.proofs.lemmas.List.FromFn.{length-range_with_len}
+use Rattle.std.specs.List.{range_with_len}
+use Rattle.doc_nodes.specs.declared.node.Entry.{Entry}
+use Rattle.doc_nodes.specs.declared.node.Node.{Node}
+use Rattle.exec_rules.specs.declared.row.Row.{Row}
+use Rattle.exec_rules.specs.declared.home.Home.{Home}
+use Rattle.exec_rules.specs.declared.home.Input.TheVariants.{Print}
+use Rattle.exec_rules.specs.Kept.{BlobList}
+use Rattle.exec_rules.specs.Rows.{evaluations, first_print, print_of, takes_print, behind, with_prints, behind_prints}
+use Rattle.exec_rules.specs.Homes.{home, print_homes}
+
+drop_next : {X : Type 0} (xs : List X) (i : ℕ) → drop 1 (drop i xs) ≡ drop (suc i) xs
+drop_next [] zero = refl
+drop_next [] (suc i) = refl
+drop_next (x ∷ xs) zero = refl
+drop_next (x ∷ xs) (suc i) = drop_next xs i
+
+pub drop_one : {X : Type 0} (xs : List X) (i : ℕ) → drop 1 (drop i xs) ≡ drop (i + 1) xs
+drop_one xs i = let next : suc i ≡ i + 1 = omega arith in drop_next xs i ∙ ap (λ n. drop n xs) next
+
+-- one number more
+range_next : (a n : ℕ) → range_with_len a (suc n) ≡ range_with_len a n ++ (a + n) ∷ []
+range_next a zero = let same : a ≡ a + 0 = omega arith in ap (λ b. b ∷ []) same
+range_next a (suc n) =
+    let same : a + 1 + n ≡ a + suc n = omega arith in
+    ap (λ xs. a ∷ xs) (range_next (a + 1) n ∙ ap (λ b. range_with_len (a + 1) n ++ b ∷ []) same)
+
+pub range_more : (a n : ℕ) → range_with_len a (n + 1) ≡ range_with_len a n ++ (a + n) ∷ []
+range_more a n = let next : n + 1 ≡ suc n = omega arith in ap (λ k. range_with_len a k) next ∙ range_next a n
+
+-- the next command's row
+pub with_step : (es : List Entry) (vs : List ℕ) (live : List (Option ℕ)) (i m v : ℕ) (d : Entry) → i < length es → i < length vs
+    → with_prints (drop i es) (drop i vs) (drop i live) m
+    ≡ record { evaluation = get_or vs i v; print = print_of (get_or es i d) (first_print (drop i live)) m }
+    ∷ with_prints (drop (i + 1) es) (drop (i + 1) vs) (drop (i + 1) live) (behind (get_or es i d) (first_print (drop i live)) m)
+with_step es vs live i m v d le lv =
+    ap (λ xs. with_prints xs (drop i vs) (drop i live) m) (drop_more es i d le)
+    ∙ ap (λ xs. with_prints (get_or es i d ∷ drop (i + 1) es) xs (drop i live) m) (drop_more vs i v lv)
+    ∙ ap (λ xs. record { evaluation = get_or vs i v; print = print_of (get_or es i d) (first_print (drop i live)) m }
+    ∷ with_prints (drop (i + 1) es) (drop (i + 1) vs) xs (behind (get_or es i d) (first_print (drop i live)) m)) (drop_one live i)
+
+pub behind_step : (es : List Entry) (vs : List ℕ) (live : List (Option ℕ)) (i m : ℕ) (d : Entry) → i < length es → i < length vs
+    → behind_prints (drop i es) (drop i vs) (drop i live) m
+    ≡ behind_prints (drop (i + 1) es) (drop (i + 1) vs) (drop (i + 1) live) (behind (get_or es i d) (first_print (drop i live)) m)
+behind_step es vs live i m d le lv =
+    ap (λ xs. behind_prints xs (drop i vs) (drop i live) m) (drop_more es i d le)
+    ∙ ap (λ xs. behind_prints (get_or es i d ∷ drop (i + 1) es) xs (drop i live) m) (drop_more vs i 0 lv)
+    ∙ ap (λ xs. behind_prints (drop (i + 1) es) (drop (i + 1) vs) xs (behind (get_or es i d) (first_print (drop i live)) m)) (drop_one live i)
+
+with_none : (es : List Entry) (live : List (Option ℕ)) (m : ℕ) → with_prints es [] live m ≡ []
+with_none [] live m = refl
+with_none (e ∷ es) live m = refl
+
+behind_none : (es : List Entry) (live : List (Option ℕ)) (m : ℕ) → behind_prints es [] live m ≡ m
+behind_none [] live m = refl
+behind_none (e ∷ es) live m = refl
+
+-- none are left
+pub with_over : (es : List Entry) (vs : List ℕ) (live : List (Option ℕ)) (i m : ℕ) → length vs ≤ i
+    → with_prints es (drop i vs) live m ≡ []
+with_over es vs live i m le = ap (λ xs. with_prints es xs live m) (drop_all i vs le) ∙ with_none es live m
+
+pub behind_over : (es : List Entry) (vs : List ℕ) (live : List (Option ℕ)) (i m : ℕ) → length vs ≤ i
+    → behind_prints es (drop i vs) live m ≡ m
+behind_over es vs live i m le = ap (λ xs. behind_prints es xs live m) (drop_all i vs le) ∙ behind_none es live m
+
+next_or : (b : Bool) (m : ℕ) → m ≤ cond b (suc m) m
+next_or true m = omega arith
+next_or false m = omega arith
+
+-- numbers rise
+pub behind_rises : (es : List Entry) (vs : List ℕ) (live : List (Option ℕ)) (m : ℕ) → m ≤ behind_prints es vs live m
+behind_rises [] vs live m = omega arith
+behind_rises (e ∷ es) [] live m = omega arith
+behind_rises (e ∷ es) (v ∷ vs) live m =
+    omega (arith, behind_rises es vs (drop 1 live) (behind e (first_print live) m), next_or (takes_print e (first_print live)) m)
+
+-- the home of the next command's print
+pub print_step : (node : Node) (blobs : BlobList) (es : List Entry) (vs : List ℕ) (live : List (Option ℕ)) (i v : ℕ) (d : Entry)
+    → i < length es → i < length vs
+    → print_homes node blobs (drop i es) (drop i vs) (drop i live)
+    ≡ cond (takes_print (get_or es i d) (first_print (drop i live))) (home node blobs (get_or es i d) (Print (get_or vs i v)) ∷ []) []
+    ++ print_homes node blobs (drop (i + 1) es) (drop (i + 1) vs) (drop (i + 1) live)
+print_step node blobs es vs live i v d le lv =
+    ap (λ xs. print_homes node blobs xs (drop i vs) (drop i live)) (drop_more es i d le)
+    ∙ ap (λ xs. print_homes node blobs (get_or es i d ∷ drop (i + 1) es) xs (drop i live)) (drop_more vs i v lv)
+    ∙ ap (λ xs. cond (takes_print (get_or es i d) (first_print (drop i live))) (home node blobs (get_or es i d) (Print (get_or vs i v)) ∷ []) []
+    ++ print_homes node blobs (drop (i + 1) es) (drop (i + 1) vs) xs) (drop_one live i)
+
+homes_none : (node : Node) (blobs : BlobList) (es : List Entry) (live : List (Option ℕ)) → print_homes node blobs es [] live ≡ []
+homes_none node blobs [] live = refl
+homes_none node blobs (e ∷ es) live = refl
+
+pub homes_over : (node : Node) (blobs : BlobList) (es : List Entry) (vs : List ℕ) (live : List (Option ℕ)) (i : ℕ) → length vs ≤ i
+    → print_homes node blobs es (drop i vs) live ≡ []
+homes_over node blobs es vs live i le = ap (λ xs. print_homes node blobs es xs live) (drop_all i vs le) ∙ homes_none node blobs es live
+
+-- one row more
+pub with_next : (es : List Entry) (vs : List ℕ) (live : List (Option ℕ)) (i m : ℕ) (e : Entry) (v : ℕ) (kept print : Option ℕ) (rows more all : List Row)
+    → i < length es → i < length vs → e ≡ get_or es i e → v ≡ get_or vs i v → kept ≡ first_print (drop i live) → print ≡ print_of e kept m
+    → more ≡ rows ++ record { evaluation = v; print = print } ∷ []
+    → rows ++ with_prints (drop i es) (drop i vs) (drop i live) m ≡ all
+    → more ++ with_prints (drop (i + 1) es) (drop (i + 1) vs) (drop (i + 1) live) (behind e kept m) ≡ all
+with_next es vs live i m e v kept print rows more all le lv ee ev ek ep em done =
+    let rest : ℕ → List Row = λ n. with_prints (drop (i + 1) es) (drop (i + 1) vs) (drop (i + 1) live) n in
+    let here : with_prints (drop i es) (drop i vs) (drop i live) m ≡ record { evaluation = v; print = print } ∷ rest (behind e kept m) =
+    with_step es vs live i m v e le lv
+    ∙ ap (λ (x : Entry). record { evaluation = get_or vs i v; print = print_of x (first_print (drop i live)) m } ∷ rest (behind x (first_print (drop i live)) m)) (sym ee)
+    ∙ ap (λ (k : Option ℕ). record { evaluation = get_or vs i v; print = print_of e k m } ∷ rest (behind e k m)) (sym ek)
+    ∙ ap (λ (x : ℕ). record { evaluation = x; print = print_of e kept m } ∷ rest (behind e kept m)) (sym ev)
+    ∙ ap (λ (p : Option ℕ). record { evaluation = v; print = p } ∷ rest (behind e kept m)) (sym ep) in
+    ap (λ (xs : List Row). xs ++ rest (behind e kept m)) em
+    ∙ append_assoc rows (record { evaluation = v; print = print } ∷ []) (rest (behind e kept m))
+    ∙ ap (λ (xs : List Row). rows ++ xs) (sym here) ∙ done
+
+pub behind_next : (es : List Entry) (vs : List ℕ) (live : List (Option ℕ)) (i m : ℕ) (e : Entry) (kept : Option ℕ)
+    → i < length es → i < length vs → e ≡ get_or es i e → kept ≡ first_print (drop i live)
+    → behind_prints (drop (i + 1) es) (drop (i + 1) vs) (drop (i + 1) live) (behind e kept m) ≡ behind_prints (drop i es) (drop i vs) (drop i live) m
+behind_next es vs live i m e kept le lv ee ek =
+    ap (λ (k : Option ℕ). behind_prints (drop (i + 1) es) (drop (i + 1) vs) (drop (i + 1) live) (behind e k m)) ek
+    ∙ ap (λ (x : Entry). behind_prints (drop (i + 1) es) (drop (i + 1) vs) (drop (i + 1) live) (behind x (first_print (drop i live)) m)) ee
+    ∙ sym (behind_step es vs live i m e le lv)
+
+pub behind_first : (e : Entry) (kept : Option ℕ) (m : ℕ) → m ≤ behind e kept m
+behind_first e kept m = next_or (takes_print e kept) m
+
+-- where the next print passes a number, the last one does
+pub behind_over_next : (es : List Entry) (vs : List ℕ) (live : List (Option ℕ)) (i m n top : ℕ) (e : Entry) (kept : Option ℕ)
+    → i < length es → i < length vs → e ≡ get_or es i e → kept ≡ first_print (drop i live)
+    → behind_prints (drop i es) (drop i vs) (drop i live) m ≡ n → top < behind e kept m → top < n
+behind_over_next es vs live i m n top e kept le lv ee ek same over =
+    omega (
+      arith,
+      over,
+      same,
+      behind_next es vs live i m e kept le lv ee ek,
+      behind_rises (drop (i + 1) es) (drop (i + 1) vs) (drop (i + 1) live) (behind e kept m),
+    )
+
+-- one print more
+pub print_next : (node : Node) (blobs : BlobList) (es : List Entry) (vs : List ℕ) (live : List (Option ℕ)) (i : ℕ) (e : Entry) (v : ℕ) (kept : Option ℕ)
+    → (homes more all : List Home) → i < length es → i < length vs → e ≡ get_or es i e → v ≡ get_or vs i v → kept ≡ first_print (drop i live)
+    → more ≡ homes ++ cond (takes_print e kept) (home node blobs e (Print v) ∷ []) []
+    → homes ++ print_homes node blobs (drop i es) (drop i vs) (drop i live) ≡ all
+    → more ++ print_homes node blobs (drop (i + 1) es) (drop (i + 1) vs) (drop (i + 1) live) ≡ all
+print_next node blobs es vs live i e v kept homes more all le lv ee ev ek em done =
+    let rest = print_homes node blobs (drop (i + 1) es) (drop (i + 1) vs) (drop (i + 1) live) in
+    let one : Entry → ℕ → Option ℕ → List Home = λ x y k. cond (takes_print x k) (home node blobs x (Print y) ∷ []) [] in
+    let here : print_homes node blobs (drop i es) (drop i vs) (drop i live) ≡ one e v kept ++ rest =
+    print_step node blobs es vs live i v e le lv
+    ∙ ap (λ (x : Entry). one x (get_or vs i v) (first_print (drop i live)) ++ rest) (sym ee)
+    ∙ ap (λ (y : ℕ). one e y (first_print (drop i live)) ++ rest) (sym ev)
+    ∙ ap (λ (k : Option ℕ). one e v k ++ rest) (sym ek) in
+    ap (λ (xs : List Home). xs ++ rest) em
+    ∙ append_assoc homes (one e v kept) rest
+    ∙ ap (λ (xs : List Home). homes ++ xs) (sym here) ∙ done
+
+-- there are as many evaluations as commands
+pub evaluations_long : (rows : List Row) (k n m : ℕ) → k ≤ n → k ≤ length rows → length (evaluations rows k n m) ≡ n
+evaluations_long rows k n m le lt =
+    length-append (map (λ row. row.evaluation) (take k rows)) (range_with_len m (n - k))
+    ∙ omega (arith, length-map (take k rows) (λ (row : Row). row.evaluation), length-take-le k rows lt, length-range_with_len m (n - k))
