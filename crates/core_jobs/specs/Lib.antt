@@ -1,0 +1,4 @@
+pub mod Jobs
+pub mod Runs
+pub mod Fits
+pub mod Worked

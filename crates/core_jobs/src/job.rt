@@ -1,0 +1,113 @@
+//! Jobs, and running them.
+ghost use Rattle.std.specs.Prelude.{◌≡◌};
+ghost use Rattle.std.specs.Option.{option_copied};
+ghost use Rattle.core_jobs.specs.Runs.{RanSo};
+
+use crate::input::Input;
+use crate::ran::Ran;
+use doc_nodes::Shared;
+use language::{Answer, Language};
+use pide_base::{Flag, Part, Stop};
+use std::alloc::Global;
+use std::marker::Model;
+use text_edits::Text;
+
+/// What is needed to work on a part: its command's source and blob, what it takes up, and the flag
+/// by which it is asked to stop. Contracts see all but the flag.
+#[derive(Drop)]
+pub struct Job<S> {
+    part: Part,
+    source: Shared<Text>,
+    blob: Option<Shared<Text>>,
+    input: Input<S>,
+    flag: Flag,
+}
+
+impl<S> Model for Job<S> {
+    ghost use Rattle.core_jobs.specs.Jobs.{JobContent};
+
+    ghost Value = { JobContent S };
+
+    ghost view = { λ job. record {
+      part = job.part;
+      source = job.source;
+      blob = job.blob;
+      input = job.input;
+    } };
+}
+
+impl<S> Job<S> {
+    /// The job of this part. The source is the command's, in scalars, and the blob the text that the
+    /// command asks for, where there is one. It takes no memory.
+    pub fn new(
+        part: Part,
+        source: Shared<Text>,
+        blob: Option<Shared<Text>>,
+        input: Input<S>,
+        flag: Flag,
+    ) -> Job<S>
+        ensures { result ≡ record { part = part; source = source; blob = blob; input = input } }
+    {
+        Job {
+            part,
+            source,
+            blob,
+            input,
+            flag,
+        }
+    }
+
+    /// The part that it works on.
+    pub fn part(&self) -> Part
+        ensures { result ≡ self.now.part }
+    {
+        self.part
+    }
+
+    /// The flag of its execution, which whoever cancels that sets.
+    pub fn flag(&self) -> &Flag {
+        &self.flag
+    }
+
+    pub(crate) fn source(&self) -> &[char]
+        ensures { result.now ≡ self.now.source }
+    {
+        self.source.get().as_slice()
+    }
+
+    pub(crate) fn blob(&self) -> Option<&[char]>
+        ensures { option_copied result ≡ self.now.blob }
+    {
+        match &self.blob {
+            Some(blob) => Some(blob.get().as_slice()),
+            None => None,
+        }
+    }
+
+    pub(crate) fn input(&self) -> &Input<S>
+        ensures { result.now ≡ self.now.input }
+    {
+        &self.input
+    }
+}
+
+impl<S: Send + Sync + Drop> Job<S> {
+    /// Works on the part. Done has the language's answer to the command, its blob and the state that
+    /// is taken up, whatever `stop` says: an evaluation runs the command, a fork has what is reported
+    /// of it later, a print what is printed of it. Stopped comes only where `stop` answered yes in
+    /// this call. There and for want of memory the job is as it was.
+    pub fn run<L: Language<State = S>, P: Stop>(
+        self,
+        alloc: Global,
+        lang: &L,
+        stop: &mut P,
+    ) -> Ran<S>
+        ensures { RanSo L.lang self result (P.yeses stop.old) (P.yeses stop.new) }
+    {
+        match self.worked_on(alloc, lang, stop) {
+            Answer::Given(done) => Ran::Done(done),
+            Answer::Stopped => Ran::Stopped(self),
+            Answer::NoMemory => Ran::NoMemory(self),
+        }
+    }
+}
