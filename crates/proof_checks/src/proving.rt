@@ -1,0 +1,187 @@
+//! A term is taken apart, its parts are proved, and their theorems are joined.
+
+ghost use Rattle.std.specs.Prelude.{◌≡◌, ◌-◌, IfOk, OnOk};
+ghost use Rattle.nj_formula.specs.Meaning.{meaning};
+ghost use Rattle.proof_terms.specs.declared.term.Term.{out-Term};
+ghost use Rattle.proof_checks.specs.Answers.{Gives, Enters, Plans, Asked, HandsOn};
+ghost use Rattle.proof_checks.specs.Checks.{checked_within, step_within, of_step};
+ghost use Rattle.proof_checks.specs.Fits.{FitsTwo, FitsThree, Fits, IsWithin};
+ghost use Rattle.proof_checks.specs.Rows.{Planned};
+ghost use Rattle.proof_checks.specs.Scopes.{inside};
+ghost use Rattle.proof_checks.specs.declared.step.Step.TheVariants.{Two, Three};
+
+use crate::cited::cited;
+use crate::halt::Halt;
+use crate::joins::{join_one, join_three, join_two};
+use crate::step::{Binary, Part, Step};
+use crate::steps::step_of;
+use nj_formula::{Formula, Shared};
+use nj_kernel::Thm;
+use pide_base::Stop;
+use proof_terms::{Term, TermFault};
+use std::alloc::Global;
+use theory_ctx::InnerScope;
+
+fn shared(alloc: Global, planned: Result<Step, Halt>) -> Result<Shared<Step>, Halt>
+    ensures { (p : Planned) → Plans planned p → Plans result p }
+{
+    Ok(Shared::new(alloc, planned?)?)
+}
+
+/// What the term comes to. Before a rule it is asked whether to stop, and so many rules may be
+/// nested from here on.
+fn entered<P: Stop>(
+    alloc: Global,
+    term: &Term,
+    goal: &Formula,
+    stop: &mut P,
+    left: usize,
+) -> Result<Shared<Step>, Halt>
+    ensures plans { Enters result (step_within left (out-Term term.now) goal.now) }
+    ensures asked { Asked result (P.yeses stop.old) (P.yeses stop.new) }
+    ensures deep { IfOk result (λ step. IsWithin step left) }
+    ensures fits { IfOk result (λ step. Fits step (meaning goal.now)) }
+{
+    if let Term::Fact(_) = term {
+        return shared(alloc, step_of(alloc, term, goal));
+    }
+    if stop.asked() {
+        return Err(Halt::Stopped);
+    }
+    if left == 0 {
+        return Err(Halt::Wrong(TermFault::ProofTooDeep));
+    }
+    shared(alloc, step_of(alloc, term, goal))
+}
+
+/// Hands a theorem on, and takes back what was pushed last. (What was pushed is there, which a
+/// scope does not tell.)
+fn hand_on(scope: &mut InnerScope, given: Result<Thm, Halt>) -> Result<Thm, Halt>
+    ensures { HandsOn given result scope.old scope.new }
+{
+    let theorem = given?;
+    let Some(_) = scope.pop() else {
+        return Err(Halt::NoMemory);
+    };
+    Ok(theorem)
+}
+
+/// The theorem of a term, in which at most so many rules are nested. A scope comes back as it was.
+#[cycle(proved)]
+pub(crate) fn proved<P: Stop>(
+    alloc: Global,
+    term: &Term,
+    goal: &Formula,
+    scope: &mut InnerScope,
+    stop: &mut P,
+    left: usize,
+) -> Result<Thm, Halt>
+    ensures gives { Gives result (checked_within left term.now goal.now scope.old)
+        (meaning goal.now) }
+    ensures scope { OnOk result (scope.new ≡ scope.old) }
+    ensures asked { Asked result (P.yeses stop.old) (P.yeses stop.new) }
+{
+    let step = entered(alloc, term, goal, stop, left)?;
+    taken(alloc, step.get(), goal, scope, stop, left)
+}
+
+/// The theorem of what a term came to.
+#[cycle(proved)]
+fn taken<P: Stop>(
+    alloc: Global,
+    step: &Step,
+    goal: &Formula,
+    scope: &mut InnerScope,
+    stop: &mut P,
+    left: usize,
+) -> Result<Thm, Halt>
+    requires within { IsWithin step.now left }
+    requires fits { Fits step.now (meaning goal.now) }
+    ensures gives { Gives result (of_step (checked_within (left - 1)) scope.old goal.now step.now)
+        (meaning goal.now) }
+    ensures scope { OnOk result (scope.new ≡ scope.old) }
+    ensures asked { Asked result (P.yeses stop.old) (P.yeses stop.new) }
+{
+    match step {
+        Step::Cited(cite) => cited(alloc, cite, goal, scope),
+        Step::One(rule, p) => {
+            let last = premise(alloc, p, scope, stop, left - 1);
+            join_one(alloc, rule, goal, p, last)
+        }
+        Step::Two(rule, p, q) => two(alloc, rule, p, q, goal, scope, stop, left - 1),
+        Step::Three(p, q, r) => three(alloc, p, q, r, goal, scope, stop, left - 1),
+    }
+}
+
+/// The theorem of a rule of two premises.
+#[cycle(proved)]
+fn two<P: Stop>(
+    alloc: Global,
+    rule: &Binary,
+    p: &Part,
+    q: &Part,
+    goal: &Formula,
+    scope: &mut InnerScope,
+    stop: &mut P,
+    left: usize,
+) -> Result<Thm, Halt>
+    requires { FitsTwo rule.now p.now.own q.now.own (meaning p.now.goal) (meaning q.now.goal)
+        (meaning goal.now) }
+    ensures gives { Gives result (of_step (checked_within left) scope.old goal.now
+        (Two rule.now p.now q.now)) (meaning goal.now) }
+    ensures scope { OnOk result (scope.new ≡ scope.old) }
+    ensures asked { Asked result (P.yeses stop.old) (P.yeses stop.new) }
+{
+    let t = premise(alloc, p, scope, stop, left)?;
+    let last = premise(alloc, q, scope, stop, left);
+    join_two(alloc, rule, goal, p, t, q, last)
+}
+
+/// The theorem of the rule disjE.
+#[cycle(proved)]
+fn three<P: Stop>(
+    alloc: Global,
+    p: &Part,
+    q: &Part,
+    r: &Part,
+    goal: &Formula,
+    scope: &mut InnerScope,
+    stop: &mut P,
+    left: usize,
+) -> Result<Thm, Halt>
+    requires { FitsThree p.now.own q.now.own r.now.own (meaning p.now.goal) (meaning q.now.goal)
+        (meaning r.now.goal) (meaning goal.now) }
+    ensures gives { Gives result (of_step (checked_within left) scope.old goal.now
+        (Three p.now q.now r.now)) (meaning goal.now) }
+    ensures scope { OnOk result (scope.new ≡ scope.old) }
+    ensures asked { Asked result (P.yeses stop.old) (P.yeses stop.new) }
+{
+    let t = premise(alloc, p, scope, stop, left)?;
+    let u = premise(alloc, q, scope, stop, left)?;
+    let last = premise(alloc, r, scope, stop, left);
+    join_three(alloc, goal, p, t, q, u, r, last)
+}
+
+/// The theorem of a part, for which it may cite its own assumption.
+#[cycle(proved)]
+fn premise<P: Stop>(
+    alloc: Global,
+    part: &Part,
+    scope: &mut InnerScope,
+    stop: &mut P,
+    left: usize,
+) -> Result<Thm, Halt>
+    ensures gives { Gives result (checked_within left part.now.term part.now.goal
+        (inside part.now.own scope.old)) (meaning part.now.goal) }
+    ensures scope { OnOk result (scope.new ≡ scope.old) }
+    ensures asked { Asked result (P.yeses stop.old) (P.yeses stop.new) }
+{
+    match &part.own {
+        None => proved(alloc, part.term.get(), &part.goal, scope, stop, left),
+        Some(own) => {
+            scope.push(alloc, own.name.as_str(), own.formula.copy(alloc)?)?;
+            let given = proved(alloc, part.term.get(), &part.goal, scope, stop, left);
+            hand_on(scope, given)
+        }
+    }
+}
