@@ -1,2 +1,2 @@
 mod Messages
-mod Nodes
+pub mod KnownNodes

@@ -3,7 +3,7 @@ use Rattle.std.proofs.Common.{map, string_bytes}
 use Rattle.xml_codec.specs.Data.{list_body}
 use Rattle.reply_writing.specs.Bodies.{row_body}
 use Rattle.reply_writing.specs.Lent.{row_of}
-use Rattle.reply_writing.proofs.Nodes.{end, named_pieces, ends_with}
+use Rattle.reply_writing.proofs.KnownNodes.{end, named_pieces, ends_with}
 use Rattle.reply_writing.proofs.data.put_node.Goals as goal
 
 pub returns : goal.returns

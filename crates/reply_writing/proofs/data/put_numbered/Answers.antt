@@ -1,6 +1,6 @@
 -- By its pieces.
 use Rattle.std.proofs.Common.{string_bytes}
-use Rattle.reply_writing.proofs.Nodes.{end, numbered_pieces, ends_with}
+use Rattle.reply_writing.proofs.KnownNodes.{end, numbered_pieces, ends_with}
 use Rattle.reply_writing.proofs.data.put_numbered.Goals as goal
 
 pub returns : goal.returns

@@ -3,7 +3,7 @@ use Rattle.std.proofs.Common.{map, string_bytes}
 use Rattle.xml_codec.specs.Data.{list_body}
 use Rattle.data_shapes.specs.Bodies.{number_body}
 use Rattle.reply_writing.specs.Lent.{executions_of}
-use Rattle.reply_writing.proofs.Nodes.{end, row_pieces, ends_with}
+use Rattle.reply_writing.proofs.KnownNodes.{end, row_pieces, ends_with}
 use Rattle.reply_writing.proofs.data.put_row.Goals as goal
 
 pub returns : goal.returns

@@ -19,7 +19,7 @@ begin = 5 ∷ 6 ∷ 58 ∷ 5 ∷ []
 abbrev pub end : List ℕ
 end = 5 ∷ 6 ∷ 5 ∷ []
 
-node_yxml : (body rest : List Tree) → yxml (node body ∷ rest) ≡ begin ++ (yxml body ++ (end ++ yxml rest))
+pub node_yxml : (body rest : List Tree) → yxml (node body ∷ rest) ≡ begin ++ (yxml body ++ (end ++ yxml rest))
 node_yxml body rest =
     ap (λ ms. spellings (ms ++ marks rest)) (tree_marks-Elem (58 ∷ []) [] body)
     ∙ ap (λ bs. begin ++ bs)

@@ -1,0 +1,16 @@
+mod Alike
+mod Contents
+mod Cuts
+mod Elements
+mod KindWords
+mod Names
+mod Numbers
+mod OneChunk
+mod OneReply
+mod Refusals
+mod Reports
+mod Spelled
+mod Taking
+mod TagSteps
+mod Tags
+mod Told
