@@ -1,0 +1,5 @@
+//! Rows of the editor's document: examples of what its crates answer.
+#![tactic(auto)]
+
+mod asked_blobs;
+mod limits;

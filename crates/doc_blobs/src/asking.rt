@@ -1,0 +1,129 @@
+//! The blob that a command asks for.
+ghost use Rattle.std.specs.Prelude.{◌≡◌, codes, IfOk};
+ghost use Rattle.std.specs.Option.{option_and_then};
+ghost use Rattle.std.specs.String.{string_bytes};
+ghost use Rattle.std.specs.Str.{encode_utf8_all};
+ghost use Rattle.doc_nodes.specs.Names.{equal};
+ghost use Rattle.outer_tokens.specs.Headings.{proper};
+ghost use Rattle.doc_blobs.specs.Needs.{is_load, asked_by, named_by, just_two, needs};
+
+use doc_nodes::{Aliases, BlobName};
+use outer_tokens::{Kind, Token, content, is_proper, lex_under, one_list, scalars};
+use std::alloc::{AllocError, Global};
+use std::cmp::Ordering;
+
+/// The name of the blob that the command of this source, in scalars, asks for: the source is the
+/// command `load`, or an alias of it, and a string that contains a blob's name. Else it is None.
+pub fn needs(
+    alloc: Global,
+    source: &[char],
+    aliases: &Aliases,
+) -> Result<Option<BlobName>, AllocError>
+    ensures { IfOk result (λ name. name ≡ needs source.now aliases.now) }
+{
+    one_list();
+    let tokens = lex_under(alloc, source, aliases.names())?;
+    let proper = proper_ones(alloc, &tokens)?;
+    of_tokens(alloc, source, aliases, &proper)
+}
+
+/// The blob that the proper tokens of the source ask for.
+fn of_tokens(
+    alloc: Global,
+    source: &[char],
+    aliases: &Aliases,
+    proper: &[Token],
+) -> Result<Option<BlobName>, AllocError>
+    ensures { IfOk result (λ found. found
+        ≡ option_and_then (asked_by source.now aliases.now) (just_two proper.now)) }
+{
+    let [name, others @ ..] = proper else {
+        return Ok(None);
+    };
+    let [blob, more @ ..] = others else {
+        return Ok(None);
+    };
+    if !more.is_empty() {
+        return Ok(None);
+    }
+    asked_by(alloc, source, aliases, *name, *blob)
+}
+
+/// The proper ones of the tokens.
+fn proper_ones(alloc: Global, tokens: &[Token]) -> Result<Vec<Token>, AllocError>
+    ensures { IfOk result (λ some. some.items ≡ proper tokens.now) }
+{
+    let mut some = Vec::new(alloc);
+    let mut rest = tokens;
+    'tokens: while let [token, more @ ..] = rest {
+        if is_proper(token.kind) {
+            some.push(*token)?;
+        }
+        rest = more;
+    }
+    Ok(some)
+}
+
+/// The blob that the two tokens of the source ask for.
+fn asked_by(
+    alloc: Global,
+    source: &[char],
+    aliases: &Aliases,
+    name: Token,
+    blob: Token,
+) -> Result<Option<BlobName>, AllocError>
+    ensures { IfOk result (λ found. found ≡ asked_by source.now aliases.now (name, blob)) }
+{
+    if !is_load(source, aliases, name) || blob.kind != Kind::String {
+        return Ok(None);
+    }
+    let named = content(alloc, blob.kind, scalars(source, blob.range))?;
+    named_by(alloc, &named)
+}
+
+/// Whether the token is a name that stands for `load`.
+fn is_load(source: &[char], aliases: &Aliases, name: Token) -> bool
+    ensures { result ≡ is_load aliases.now source.now name }
+{
+    if name.kind != Kind::Command {
+        return false;
+    }
+    let text = scalars(source, name.range);
+    match aliases.target_of(text) {
+        Some(target) => spells_load(target),
+        None => spells_load(text),
+    }
+}
+
+fn spells_load(word: &[char]) -> bool
+    ensures { result ≡ equal word.now (codes "load") }
+{
+    let load: &[char] = &['l', 'o', 'a', 'd'];
+    match word.cmp(load) {
+        Ordering::Equal => true,
+        Ordering::Less | Ordering::Greater => false,
+    }
+}
+
+/// The blob's name that the content is.
+fn named_by(alloc: Global, content: &[char]) -> Result<Option<BlobName>, AllocError>
+    ensures { IfOk result (λ name. name ≡ named_by content.now) }
+{
+    match BlobName::new(text_of(alloc, content)?) {
+        Ok(name) => Ok(Some(name)),
+        Err(_) => Ok(None),
+    }
+}
+
+/// The scalars as a text.
+fn text_of(alloc: Global, scalars: &[char]) -> Result<String, AllocError>
+    ensures { IfOk result (λ text. string_bytes text ≡ encode_utf8_all scalars.now) }
+{
+    let mut text = String::new(alloc);
+    let mut rest = scalars;
+    'scalars: while let [scalar, more @ ..] = rest {
+        text.push(*scalar)?;
+        rest = more;
+    }
+    Ok(text)
+}
