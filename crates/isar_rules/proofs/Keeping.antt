@@ -1,0 +1,116 @@
+-- Each command is done or refused, and its reports are tidy.
+use Rattle.std.proofs.Common.{◌≡◌, ℕ, Bool, true, false, if◌then◌else◌, List, [], ◌∷◌, ◌++◌, length, Option, Some, None, Ok, Err, refl, ap, inl, inr, arith}
+use Rattle.std.specs.List.{AllByRecursion}
+use Rattle.std.specs.Ordering.{is_gt}
+use Rattle.pide_base.specs.declared.range.Range.{Range}
+use Rattle.outer_tokens.specs.Kinds.{is_command}
+use Rattle.outer_tokens.specs.declared.token.Token.{Token}
+use Rattle.report_markup.specs.declared.report.Report.{Report}
+use Rattle.report_markup.specs.Order.{report_cmp}
+use Rattle.report_markup.specs.Ranges.{AreTreelike}
+use Rattle.report_markup.specs.Sorting.{insert_if, in_order}
+use Rattle.language.specs.Laws.{LiesIn}
+use Rattle.doc_blobs.specs.Needs.{source_tokens}
+use Rattle.isar_rules.specs.declared.shape.Shape.{Shape}
+use Rattle.isar_rules.specs.declared.state.Place.{Place}
+use Rattle.isar_rules.specs.declared.state.State.{State}
+use Rattle.isar_rules.specs.Errors.{Tried}
+use Rattle.isar_rules.specs.Reports.{announced, error_report}
+use Rattle.isar_rules.specs.Effects.{Effect}
+use Rattle.isar_rules.specs.Shapes.{shape_of}
+use Rattle.isar_rules.specs.Shown.{print}
+use Rattle.isar_rules.specs.Steps.{tried, made_by, aliases_at, step}
+use Rattle.isar_rules.specs.Kept.{errors_in, IsDoneOrRefused, AreTidyIn}
+use Rattle.isar_rules.proofs.Tokens.{InTokens, Rises, Within, range-within, ranges-treelike, source-rises}
+use Rattle.isar_rules.proofs.Good.{IsGood, IsQuiet, IsPlaced, sorted, joined, all_map, no_errors, good_announced, word_report}
+use Rattle.isar_rules.proofs.Spots.{IfShape, shape-is}
+use Rattle.isar_rules.proofs.Clean.{IfTried, IsClean, InSource, acted-clean}
+
+-- each token is one of them
+weaker : (t : Token) (ts us : List Token) → AllByRecursion (λ u. InTokens ts u.range) us → AllByRecursion (λ u. InTokens (t ∷ ts) u.range) us
+weaker t ts [] all = tt
+weaker t ts (u ∷ us) all = (inr all.0, weaker t ts us all.1)
+
+all-in : (ts : List Token) → AllByRecursion (λ t. InTokens ts t.range) ts
+all-in [] = tt
+all-in (t ∷ ts) = (inl refl, weaker t ts ts (all-in ts))
+
+tried-clean : (source : List ℕ) (tokens : List Token) (blob : Option (List ℕ)) (p : Place) (s : Option Shape)
+    → IfShape (InSource source tokens) s → IfTried (IsClean source tokens) (tried blob p s)
+tried-clean source tokens blob p None spots = tt
+tried-clean source tokens blob p (Some s) spots = acted-clean source tokens blob p s spots
+
+one-error : (source : List ℕ) (tokens : List Token) (text : List ℕ) → errors_in (in_order (announced source tokens ++ error_report source text ∷ [])) ≡ text ∷ []
+one-error source [] text = refl
+one-error source (t ∷ ts) text = go (is_command t.kind)
+  where
+    by_order : (b : Bool) → errors_in (insert_if b (word_report source t) (error_report source text) [] (word_report source t ∷ [])) ≡ text ∷ []
+    by_order true = refl
+    by_order false = refl
+
+    go : (b : Bool) → errors_in (in_order ((if b then word_report source t ∷ [] else []) ++ error_report source text ∷ [])) ≡ text ∷ []
+    go true = by_order (is_gt (report_cmp (word_report source t) (error_report source text)))
+    go false = refl
+
+made-kept : (source : List ℕ) (tokens : List Token) (before : State) (t : Tried Effect) → IfTried (IsClean source tokens) t → IsDoneOrRefused before (made_by source tokens before t)
+made-kept source tokens before (Ok e) clean =
+    inl (no_errors _ (all_map (IsGood source tokens) IsQuiet (λ r g. g.quiet) _
+    (sorted (IsGood source tokens) _ (joined (IsGood source tokens) _ _ (good_announced source tokens) clean))))
+made-kept source tokens before (Err text) clean = inr (text, one-error source tokens text, record { state = refl; forks = refl })
+
+module _ (source : List ℕ) (tokens : List Token) where
+  abbrev Placed : Report → Type 0
+  Placed r = IsPlaced source tokens r.range
+
+  made-placed : (before : State) (t : Tried Effect) → IfTried (IsClean source tokens) t → AllByRecursion Placed (made_by source tokens before t).reports
+  made-placed before (Ok e) clean =
+      sorted Placed _ (joined Placed _ _ (all_map (IsGood source tokens) Placed (λ r g. g.placed) _ (good_announced source tokens))
+      (all_map (IsGood source tokens) Placed (λ r g. g.placed) _ clean))
+  made-placed before (Err text) clean =
+      sorted Placed _ (joined Placed _ _ (all_map (IsGood source tokens) Placed (λ r g. g.placed) _ (good_announced source tokens)) (inl refl, tt))
+
+  module _ (rises : Rises 0 (length source) tokens) where
+    within : (r : Range) → IsPlaced source tokens r → Within 0 (length source) r
+    within r (inl e) =
+        let starts : r.start ≡ 0 = ap (λ x. x.start) e in
+        let stops : r.stop ≡ length source = ap (λ x. x.stop) e in
+        record { starts = omega arith; rises = omega (arith, starts); stops = omega (arith, stops) }
+    within r (inr here) = range-within 0 (length source) tokens r rises here
+
+    lies : (r : Report) → Placed r → LiesIn source r
+    lies r placed = let w = within r.range placed in (w.rises, (w.starts, w.stops))
+
+    treelike : (r s : Range) → IsPlaced source tokens r → IsPlaced source tokens s → AreTreelike r s
+    treelike r s (inl e) there =
+        let starts : r.start ≡ 0 = ap (λ x. x.start) e in
+        let stops : r.stop ≡ length source = ap (λ x. x.stop) e in
+        inr (inr (inr (omega (arith, starts), omega (arith, stops, (within s there).stops))))
+    treelike r s (inr here) (inl e) =
+        let starts : s.start ≡ 0 = ap (λ x. x.start) e in
+        let stops : s.stop ≡ length source = ap (λ x. x.stop) e in
+        inr (inr (inl (omega (arith, starts), omega (arith, stops, (within r (inr here)).stops))))
+    treelike r s (inr here) (inr there) = ranges-treelike 0 (length source) tokens r s rises here there
+
+    pub tidy : (rs : List Report) → AllByRecursion Placed rs → AreTidyIn source rs
+    tidy rs all = record {
+      lie = all_map Placed (LiesIn source) lies rs all;
+      treelike = all_map Placed _ (λ r here. all_map Placed _ (λ s there. treelike r.range s.range here there) rs all) rs all;
+    }
+
+shape-clean : (source : List ℕ) (blob : Option (List ℕ)) (before : State)
+    → (let aliases = aliases_at before.place before.aliases in
+    let tokens = source_tokens aliases source in
+    IfTried (IsClean source tokens) (tried blob before.place (shape_of aliases source tokens)))
+shape-clean source blob before =
+    let aliases = aliases_at before.place before.aliases in
+    let tokens = source_tokens aliases source in
+    tried-clean source tokens blob before.place (shape_of aliases source tokens) (shape-is (InTokens tokens) aliases source tokens (all-in tokens))
+
+pub step-kept : (source : List ℕ) (blob : Option (List ℕ)) (before : State) → IsDoneOrRefused before (step source blob before)
+step-kept source blob before = made-kept source _ before _ (shape-clean source blob before)
+
+pub step-tidy : (source : List ℕ) (blob : Option (List ℕ)) (before after : State) → AreTidyIn source ((step source blob before).reports ++ print source after)
+step-tidy source blob before after =
+    let tokens = source_tokens (aliases_at before.place before.aliases) source in
+    tidy source tokens (source-rises (aliases_at before.place before.aliases) source) _
+    (joined (Placed source tokens) _ _ (made-placed source tokens before _ (shape-clean source blob before)) (inl refl, tt))

@@ -1,0 +1,11 @@
+mod Spoken
+mod Printing
+mod Showing
+mod Quantified
+mod Tokens
+mod Good
+mod Spots
+mod Clean
+mod Keeping
+mod Checking
+mod Forking
