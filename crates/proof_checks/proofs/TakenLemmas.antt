@@ -1,10 +1,10 @@
 -- What a step asks of its parts.
-use Rattle.std.proofs.Common.{◌≡◌, ◌<◌, ℕ, Result, Ok, Err, IfOk, OnOk, sym, ◌∙◌, subst}
+use Rattle.std.proofs.Common.{◌≡◌, ◌<◌, ℕ, Result, Ok, Err, IfOk, OnOk, sym, ◌∙◌, ap, subst}
 use Rattle.nj_formula.specs.Meaning.{meaning}
 use Rattle.nj_formula.specs.Statement.{Statement}
 use Rattle.nj_kernel.specs.declared.thm.Thm.{Thm}
 use Rattle.nj_kernel.specs.Theorem.{shown}
-use Rattle.theory_ctx.specs.Locals.{Scoped}
+use Rattle.theory_ctx.specs.Locals.{Nested, seen}
 use Rattle.proof_checks.specs.declared.halt.Halt.{Halt}
 use Rattle.proof_checks.specs.declared.halt.Halt.TheVariants.{Wrong, Stopped, NoMemory}
 use Rattle.proof_checks.specs.declared.step.Part.{Part}
@@ -58,7 +58,7 @@ asked_so A NoMemory old now told = told
 pub asked_halt : {A : Type 0} (first : Result A Halt) (result : Result Thm Halt) (h : Halt) (old now : ℕ) → first ≡ Err h → result ≡ Err h → Asked first old now → Asked result old now
 asked_halt {A} first result h old now is out told = subst (λ r. Asked r old now) (sym out) (asked_so A h old now (subst (λ r. Asked r old now) is told))
 
-pub scope_then : (last : Result Thm Halt) (a b c : Scoped) → b ≡ a → OnOk last (c ≡ b) → OnOk last (c ≡ a)
+pub scope_then : (last : Result Thm Halt) (a b c : Nested) → b ≡ a → OnOk last (c ≡ b) → OnOk last (c ≡ a)
 scope_then (Ok t) a b c same told = told ∙ same
 scope_then (Err h) a b c same told = tt
 
@@ -67,3 +67,6 @@ scope_halt result h P out = subst (λ r. OnOk r P) (sym out) tt
 
 pub taken_scope : (given : Result Thm Halt) (t : Thm) (P : Type 0) → given ≡ Ok t → OnOk given P → P
 taken_scope given t P is told = subst (λ r. OnOk r P) is told
+
+pub taken_seen : (given : Result Thm Halt) (t : Thm) (new old : Nested) → given ≡ Ok t → OnOk given (new ≡ old) → seen new ≡ seen old
+taken_seen given t new old is told = ap seen (taken_scope given t (new ≡ old) is told)

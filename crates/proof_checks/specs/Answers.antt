@@ -1,13 +1,11 @@
 -- What the calls say. Want of memory is a free answer.
-use Rattle.std.specs.Prelude.{◌≡◌, ⊤, ℕ, true, false, List, ◌∷◌, Result, Ok, Err}
+use Rattle.std.specs.Prelude.{◌≡◌, ⊤, ℕ, true, false, List, Result, Ok, Err}
 use Rattle.pide_base.specs.Faults.{CountsYes}
 use Rattle.nj_formula.specs.Meaning.{meaning}
 use Rattle.nj_formula.specs.Statement.{Statement}
 use Rattle.nj_kernel.specs.Sets.{members, Lists}
 use Rattle.nj_kernel.specs.Theorem.{assumed, shown}
 use Rattle.nj_kernel.specs.declared.thm.Thm.{Thm}
-use Rattle.theory_ctx.specs.declared.local.Local.{Local}
-use Rattle.theory_ctx.specs.Locals.{Scoped}
 use Rattle.proof_terms.specs.declared.fault.TermFault.{TermFault}
 use Rattle.proof_checks.specs.declared.checked.Checked.{Checked}
 use Rattle.proof_checks.specs.declared.checked.Checked.TheVariants as C
@@ -72,11 +70,3 @@ Enters (Ok step) planned = planned ≡ Ok step
 Enters (Err (Wrong fault)) planned = planned ≡ Err fault
 Enters (Err Stopped) planned = ⊤
 Enters (Err NoMemory) planned = ⊤
-
--- a theorem is handed on as the newest local fact is taken back; a halt is handed on
-abbrev pub HandsOn : Result Thm Halt → Result Thm Halt → Scoped → Scoped → Type 0
-HandsOn (Err halt) result old new = result ≡ Err halt
-HandsOn (Ok t) (Ok u) old new =
-    (u ≡ t) × ((own : Local) × (old ≡ record new { locals = own ∷ new.locals }))
-HandsOn (Ok t) (Err NoMemory) old new = ⊤
-HandsOn (Ok t) (Err _) old new = ⊥

@@ -1,6 +1,6 @@
 ghost use Rattle.nj_formula.specs.Meaning.{meaning};
 ghost use Rattle.theory_ctx.specs.Answers.{found};
-ghost use Rattle.theory_ctx.specs.Locals.{looked_in};
+ghost use Rattle.theory_ctx.specs.Locals.{looked_in, seen};
 ghost use Rattle.std.specs.Prelude.{None};
 ghost use Rattle.proof_checks.specs.Answers.{Gives, NotStopped};
 ghost use Rattle.proof_checks.specs.Checks.{cited};
@@ -20,7 +20,7 @@ pub(crate) fn cited(
     goal: &Formula,
     scope: &InnerScope,
 ) -> Result<Thm, Halt>
-    ensures gives { Gives result (cited cite.now.name goal.now (looked_in scope.now cite.now.name))
+    ensures gives { Gives result (cited cite.now.name goal.now (looked_in (seen scope.now) cite.now.name))
         (meaning goal.now) }
     ensures runs { NotStopped result }
 {

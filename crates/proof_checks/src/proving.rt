@@ -1,9 +1,10 @@
 //! A term is taken apart, its parts are proved, and their theorems are joined.
 
-ghost use Rattle.std.specs.Prelude.{◌≡◌, ◌-◌, IfOk, OnOk};
+ghost use Rattle.std.specs.Prelude.{◌≡◌, ◌-◌, IfOk, OnOk, drop};
 ghost use Rattle.nj_formula.specs.Meaning.{meaning};
+ghost use Rattle.theory_ctx.specs.Locals.{seen};
 ghost use Rattle.proof_terms.specs.declared.term.Term.{out-Term};
-ghost use Rattle.proof_checks.specs.Answers.{Gives, Enters, Plans, Asked, HandsOn};
+ghost use Rattle.proof_checks.specs.Answers.{Gives, Enters, Plans, Asked};
 ghost use Rattle.proof_checks.specs.Checks.{checked_within, step_within, of_step};
 ghost use Rattle.proof_checks.specs.Fits.{FitsTwo, FitsThree, Fits, IsWithin};
 ghost use Rattle.proof_checks.specs.Rows.{Planned};
@@ -54,15 +55,13 @@ fn entered<P: Stop>(
     shared(alloc, step_of(alloc, term, goal))
 }
 
-/// Hands a theorem on, and takes back what was pushed last. (What was pushed is there, which a
-/// scope does not tell.)
+/// Hands a theorem on, and takes back what was pushed last.
 fn hand_on(scope: &mut InnerScope, given: Result<Thm, Halt>) -> Result<Thm, Halt>
-    ensures { HandsOn given result scope.old scope.new }
+    ensures given { result ≡ given }
+    ensures scope { OnOk result (scope.new ≡ record scope.old { own = drop 1 scope.old.own }) }
 {
     let theorem = given?;
-    let Some(_) = scope.pop() else {
-        return Err(Halt::NoMemory);
-    };
+    scope.pop();
     Ok(theorem)
 }
 
@@ -76,7 +75,7 @@ pub(crate) fn proved<P: Stop>(
     stop: &mut P,
     left: usize,
 ) -> Result<Thm, Halt>
-    ensures gives { Gives result (checked_within left term.now goal.now scope.old)
+    ensures gives { Gives result (checked_within left term.now goal.now (seen scope.old))
         (meaning goal.now) }
     ensures scope { OnOk result (scope.new ≡ scope.old) }
     ensures asked { Asked result (P.yeses stop.old) (P.yeses stop.new) }
@@ -97,7 +96,7 @@ fn taken<P: Stop>(
 ) -> Result<Thm, Halt>
     requires within { IsWithin step.now left }
     requires fits { Fits step.now (meaning goal.now) }
-    ensures gives { Gives result (of_step (checked_within (left - 1)) scope.old goal.now step.now)
+    ensures gives { Gives result (of_step (checked_within (left - 1)) (seen scope.old) goal.now step.now)
         (meaning goal.now) }
     ensures scope { OnOk result (scope.new ≡ scope.old) }
     ensures asked { Asked result (P.yeses stop.old) (P.yeses stop.new) }
@@ -127,7 +126,7 @@ fn two<P: Stop>(
 ) -> Result<Thm, Halt>
     requires { FitsTwo rule.now p.now.own q.now.own (meaning p.now.goal) (meaning q.now.goal)
         (meaning goal.now) }
-    ensures gives { Gives result (of_step (checked_within left) scope.old goal.now
+    ensures gives { Gives result (of_step (checked_within left) (seen scope.old) goal.now
         (Two rule.now p.now q.now)) (meaning goal.now) }
     ensures scope { OnOk result (scope.new ≡ scope.old) }
     ensures asked { Asked result (P.yeses stop.old) (P.yeses stop.new) }
@@ -151,7 +150,7 @@ fn three<P: Stop>(
 ) -> Result<Thm, Halt>
     requires { FitsThree p.now.own q.now.own r.now.own (meaning p.now.goal) (meaning q.now.goal)
         (meaning r.now.goal) (meaning goal.now) }
-    ensures gives { Gives result (of_step (checked_within left) scope.old goal.now
+    ensures gives { Gives result (of_step (checked_within left) (seen scope.old) goal.now
         (Three p.now q.now r.now)) (meaning goal.now) }
     ensures scope { OnOk result (scope.new ≡ scope.old) }
     ensures asked { Asked result (P.yeses stop.old) (P.yeses stop.new) }
@@ -172,7 +171,7 @@ fn premise<P: Stop>(
     left: usize,
 ) -> Result<Thm, Halt>
     ensures gives { Gives result (checked_within left part.now.term part.now.goal
-        (inside part.now.own scope.old)) (meaning part.now.goal) }
+        (inside part.now.own (seen scope.old))) (meaning part.now.goal) }
     ensures scope { OnOk result (scope.new ≡ scope.old) }
     ensures asked { Asked result (P.yeses stop.old) (P.yeses stop.new) }
 {

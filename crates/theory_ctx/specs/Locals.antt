@@ -1,5 +1,5 @@
 -- Local facts: which of them a name means, and how they hide the facts of theories (this project's own).
-use Rattle.std.specs.Prelude.{ℕ, List, [], ◌∷◌, find, Option, Some, None}
+use Rattle.std.specs.Prelude.{ℕ, List, [], ◌∷◌, ◌++◌, find, Option, Some, None}
 use Rattle.std.specs.Str.{bytes_eq}
 use Rattle.theory_ctx.specs.Facts.{Fact}
 use Rattle.theory_ctx.specs.declared.local.Local.{Local}
@@ -11,6 +11,15 @@ pub record Scoped : Type 0 where
   pub locals : List Local
   pub theory : List ℕ
   pub facts : List Fact
+
+-- local facts of its own, the innermost first, inside another scope
+pub record Nested : Type 0 where
+  pub own : List Local
+  pub outer : Scoped
+
+-- the scope that both are: the own local facts are the inner ones
+abbrev pub seen : Nested → Scoped
+seen scope = record scope.outer { locals = scope.own ++ scope.outer.locals }
 
 -- the innermost local fact n; a name of several parts means none
 abbrev pub local_of : List Local → List (List ℕ) → Option Local

@@ -1,6 +1,6 @@
-ghost use Rattle.std.specs.Prelude.{◌≡◌, [], ◌∷◌, ◌++◌, OnOk, OnErr, IfSome, IfNone};
+ghost use Rattle.std.specs.Prelude.{◌≡◌, ◌∷◌, OnOk, OnErr, drop, slice_get};
 ghost use Rattle.theory_ctx.specs.Answers.{told};
-ghost use Rattle.theory_ctx.specs.Locals.{looked_in};
+ghost use Rattle.theory_ctx.specs.Locals.{looked_in, seen};
 
 use crate::local::Local;
 use crate::lookup::Lookup;
@@ -11,7 +11,8 @@ use std::alloc::{AllocError, Global};
 use std::marker::Model;
 
 /// A scope with local facts of its own inside those of another scope, which it borrows. Contracts see
-/// it as a scope: its local facts, the newest first, then those of the other.
+/// its own local facts, the newest first, apart from the other scope; what is sought goes through
+/// both (`seen`).
 #[derive(Drop)]
 pub struct InnerScope<'s, 'a> {
     pub(crate) outer: &'s Scope<'a>,
@@ -19,27 +20,23 @@ pub struct InnerScope<'s, 'a> {
 }
 
 impl<'s, 'a> Model for InnerScope<'s, 'a> {
-    ghost use Rattle.std.specs.Prelude.{reverse, ◌++◌};
-    ghost use Rattle.theory_ctx.specs.Locals.{Scoped};
+    ghost use Rattle.std.specs.Prelude.{reverse};
+    ghost use Rattle.theory_ctx.specs.Locals.{Nested};
     ghost use Rattle.nj_formula.specs.contracts.formula.Formula as formula;
     ghost use Rattle.std.specs.Coded.{codes};
 
-    ghost Value = { Scoped };
+    ghost Value = { Nested };
 
     ghost coded = { Prim.hlevel (codes, formula.the_row.coded) };
 
-    ghost view = { λ scope. record {
-      locals = reverse scope.locals ++ scope.outer.now.locals;
-      theory = scope.outer.now.theory;
-      facts = scope.outer.now.facts;
-    } };
+    ghost view = { λ scope. record { own = reverse scope.locals; outer = scope.outer.now } };
 }
 
 impl<'s, 'a> InnerScope<'s, 'a> {
     /// Adds a local fact, as the innermost one. For want of memory it adds nothing.
     pub fn push(&mut self, alloc: Global, name: &str, formula: Formula) -> Result<(), AllocError>
         ensures ok { OnOk result (self.new ≡ record self.old {
-          locals = record { name = name.now; formula = formula } ∷ self.old.locals;
+          own = record { name = name.now; formula = formula } ∷ self.old.own;
         }) }
         ensures err { OnErr result (self.new ≡ self.old) }
     {
@@ -51,16 +48,15 @@ impl<'s, 'a> InnerScope<'s, 'a> {
     /// Takes the innermost of its own local facts back, if there is one; those of the scope that it
     /// borrows stay.
     pub fn pop(&mut self) -> Option<Local>
-        ensures some { IfSome result (λ local. self.old
-            ≡ record self.new { locals = local ∷ self.new.locals }) }
-        ensures none { IfNone result (self.new ≡ self.old) }
+        ensures local { result ≡ slice_get self.old.own 0 }
+        ensures rest { self.new ≡ record self.old { own = drop 1 self.old.own } }
     {
         self.locals.pop()
     }
 
     /// The fact that a name means here, as `Scope::lookup` says.
     pub fn lookup(&self, name: &str) -> Lookup<'_>
-        ensures { told result ≡ looked_in self.now name.now }
+        ensures { told result ≡ looked_in (seen self.now) name.now }
     {
         match cited_in(self.locals.as_slice(), name) {
             Some(local) => local.found(),

@@ -88,7 +88,7 @@ impl<'a> Scope<'a> {
 
     /// A scope inside this one, which is lent. It takes no memory.
     pub fn inner(&self, alloc: Global) -> InnerScope<'_, 'a>
-        ensures { result ≡ self.now }
+        ensures { result ≡ record { own = []; outer = self.now } }
     {
         InnerScope {
             outer: self,

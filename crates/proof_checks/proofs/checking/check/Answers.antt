@@ -1,5 +1,6 @@
 use Rattle.std.proofs.Common.{subst}
 use Rattle.nj_formula.specs.Meaning.{meaning}
+use Rattle.theory_ctx.specs.Locals.{seen}
 use Rattle.proof_checks.specs.Answers.{Gives, Answers}
 use Rattle.proof_checks.specs.Checks.{checked, checked_within, deepest}
 use Rattle.proof_checks.proofs.ToldLemmas.{told_answers, told_counts, told_stands}
@@ -9,18 +10,18 @@ pub returns-clause-answer : goal.returns-clause-answer
 returns-clause-answer g c =
     let t = c.args.term.now in
     let f = c.args.goal.now in
-    let here = subst (λ n. Gives c.proved.result (checked_within n t f c.inner-within.result) (meaning f)) c.deepest.ensures c.proved.ensures.gives in
+    let here = subst (λ n. Gives c.proved.result (checked_within n t f (seen c.inner-within.result)) (meaning f)) c.deepest.ensures c.proved.ensures.gives in
     told_answers c.proved.result c.told.result (checked t f c.args.scope.now) (meaning f) c.told.ensures
-    (subst (λ s. Gives c.proved.result (checked_within deepest t f s) (meaning f)) c.inner-within.ensures here)
+    (subst (λ s. Gives c.proved.result (checked_within deepest t f (seen s)) (meaning f)) c.inner-within.ensures here)
 
 pub returns-clause-assumes : goal.returns-clause-assumes
 returns-clause-assumes g c =
     let t = c.args.term.now in
     let f = c.args.goal.now in
-    let here = subst (λ n. Gives c.proved.result (checked_within n t f c.inner-within.result) (meaning f)) c.deepest.ensures c.proved.ensures.gives in
+    let here = subst (λ n. Gives c.proved.result (checked_within n t f (seen c.inner-within.result)) (meaning f)) c.deepest.ensures c.proved.ensures.gives in
     let answer : Answers c.told.result (checked t f c.args.scope.now) (meaning f) =
     told_answers c.proved.result c.told.result (checked t f c.args.scope.now) (meaning f) c.told.ensures
-    (subst (λ s. Gives c.proved.result (checked_within deepest t f s) (meaning f)) c.inner-within.ensures here) in
+    (subst (λ s. Gives c.proved.result (checked_within deepest t f (seen s)) (meaning f)) c.inner-within.ensures here) in
     told_stands deepest t f c.args.scope.now c.told.result answer
 
 pub returns-clause-counts : goal.returns-clause-counts

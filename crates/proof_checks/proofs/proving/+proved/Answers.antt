@@ -5,16 +5,17 @@ use Rattle.proof_checks.specs.Answers.{Gives}
 use Rattle.proof_checks.specs.Checks.{checked_within, of_step}
 use Rattle.proof_checks.specs.Fits.{Fits, FitsTwo, FitsThree, IsWithin}
 use Rattle.proof_checks.specs.Scopes.{inside}
+use Rattle.theory_ctx.specs.Locals.{seen}
 use Rattle.proof_checks.proofs.JoinLemmas.{runs_asks, over_asks, over_ok}
-use Rattle.proof_checks.proofs.OwnLemmas.{none_inside, some_inside, handed_gives, handed_asks, handed_back}
+use Rattle.proof_checks.proofs.OwnLemmas.{none_inside, some_inside, handed_back, handed_asks}
 use Rattle.proof_checks.proofs.ReturnLemmas.{stepped, enter_halts, cited_taken, one_taken, same_taken, two_halts, two_returns, three_halts, three_second_halts, three_returns}
-use Rattle.proof_checks.proofs.TakenLemmas.{one_within, two_within, three_within, one_fits, two_fits, three_fits, given_shows, taken_shows, asked_then, asked_halt, scope_then, scope_halt, taken_scope}
+use Rattle.proof_checks.proofs.TakenLemmas.{one_within, two_within, three_within, one_fits, two_fits, three_fits, given_shows, taken_shows, asked_then, asked_halt, scope_then, scope_halt, taken_scope, taken_seen}
 use Rattle.proof_checks.proofs.proving.+proved.Goals as goal
 
 pub proved-returns-in_err-step-clause-gives : goal.proved-returns-in_err-step-clause-gives
 proved-returns-in_err-step-clause-gives g t c =
     let out : c.from_residual.result ≡ Err c.in_err-step.field-0.0 = search rules in
-    enter_halts c.args.left c.args.term.now c.args.goal.now c.args.scope.now c.entered.result c.from_residual.result c.in_err-step.field-0.0 c.in_err-step.was out c.entered.ensures.plans
+    enter_halts c.args.left c.args.term.now c.args.goal.now (seen c.args.scope.now) c.entered.result c.from_residual.result c.in_err-step.field-0.0 c.in_err-step.was out c.entered.ensures.plans
 
 pub proved-returns-in_err-step-clause-scope : goal.proved-returns-in_err-step-clause-scope
 proved-returns-in_err-step-clause-scope g t c =
@@ -34,8 +35,8 @@ proved-taken-requires g t c κs within =
 
 pub proved-returns-clause-gives : goal.proved-returns-clause-gives
 proved-returns-clause-gives g t c =
-    stepped c.args.left c.args.term.now c.args.goal.now c.args.scope.now c.in_ok-step.step c.taken.result c.in_ok-step.ensures.plans
-    (subst (λ s. Gives c.taken.result (of_step (checked_within (c.args.left - 1)) c.args.scope.now c.args.goal.now s) (meaning c.args.goal.now)) c.get.ensures c.taken.ensures.gives)
+    stepped c.args.left c.args.term.now c.args.goal.now (seen c.args.scope.now) c.in_ok-step.step c.taken.result c.in_ok-step.ensures.plans
+    (subst (λ s. Gives c.taken.result (of_step (checked_within (c.args.left - 1)) (seen c.args.scope.now) c.args.goal.now s) (meaning c.args.goal.now)) c.get.ensures c.taken.ensures.gives)
 
 pub proved-returns-clause-scope : goal.proved-returns-clause-scope
 proved-returns-clause-scope g t c =
@@ -47,7 +48,7 @@ proved-returns-clause-asked g t c =
 
 pub taken-returns-in-Cited-clause-gives : goal.taken-returns-in-Cited-clause-gives
 taken-returns-in-Cited-clause-gives g t c =
-    cited_taken (checked_within (c.args.left - 1)) c.args.goal.now c.args.scope.now c.args.step.now c.in-Cited.cite c.cited.result c.in-Cited.is c.cited.ensures.gives
+    cited_taken (checked_within (c.args.left - 1)) c.args.goal.now (seen c.args.scope.now) c.args.step.now c.in-Cited.cite c.cited.result c.in-Cited.is c.cited.ensures.gives
 
 pub taken-returns-in-Cited-clause-scope : goal.taken-returns-in-Cited-clause-scope
 taken-returns-in-Cited-clause-scope g t c =
@@ -67,7 +68,7 @@ taken-join_one-requires-clause-fits g t c =
 
 pub taken-returns-in-One-clause-gives : goal.taken-returns-in-One-clause-gives
 taken-returns-in-One-clause-gives g t c =
-    one_taken (checked_within (c.args.left - 1)) c.args.goal.now c.args.scope.now c.args.step.now c.in-One.rule c.in-One.p c.join_one.result c.in-One.is (c.join_one.ensures.gives _ c.premise-last.ensures.gives)
+    one_taken (checked_within (c.args.left - 1)) c.args.goal.now (seen c.args.scope.now) c.args.step.now c.in-One.rule c.in-One.p c.join_one.result c.in-One.is (c.join_one.ensures.gives _ c.premise-last.ensures.gives)
 
 pub taken-returns-in-One-clause-scope : goal.taken-returns-in-One-clause-scope
 taken-returns-in-One-clause-scope g t c =
@@ -91,7 +92,7 @@ taken-three-requires g t c κs within =
 
 pub taken-returns-in-Two-clause-gives : goal.taken-returns-in-Two-clause-gives
 taken-returns-in-Two-clause-gives g t c =
-    same_taken (checked_within (c.args.left - 1)) c.args.goal.now c.args.scope.now c.args.step.now (Two c.in-Two.rule c.in-Two.p c.in-Two.q) c.two.result c.in-Two.is c.two.ensures.gives
+    same_taken (checked_within (c.args.left - 1)) c.args.goal.now (seen c.args.scope.now) c.args.step.now (Two c.in-Two.rule c.in-Two.p c.in-Two.q) c.two.result c.in-Two.is c.two.ensures.gives
 
 pub taken-returns-in-Two-clause-scope : goal.taken-returns-in-Two-clause-scope
 taken-returns-in-Two-clause-scope g t c =
@@ -103,7 +104,7 @@ taken-returns-in-Two-clause-asked g t c =
 
 pub taken-returns-in-Three-clause-gives : goal.taken-returns-in-Three-clause-gives
 taken-returns-in-Three-clause-gives g t c =
-    same_taken (checked_within (c.args.left - 1)) c.args.goal.now c.args.scope.now c.args.step.now (Three c.in-Three.p c.in-Three.q c.in-Three.r) c.three.result c.in-Three.is c.three.ensures.gives
+    same_taken (checked_within (c.args.left - 1)) c.args.goal.now (seen c.args.scope.now) c.args.step.now (Three c.in-Three.p c.in-Three.q c.in-Three.r) c.three.result c.in-Three.is c.three.ensures.gives
 
 pub taken-returns-in-Three-clause-scope : goal.taken-returns-in-Three-clause-scope
 taken-returns-in-Three-clause-scope g t c =
@@ -120,7 +121,7 @@ two-premise-requires g t c κs within =
 pub two-returns-in_err-t-clause-gives : goal.two-returns-in_err-t-clause-gives
 two-returns-in_err-t-clause-gives g t c =
     let out : c.from_residual.result ≡ Err c.in_err-t.field-0.0 = search rules in
-    two_halts (checked_within c.args.left) c.args.goal.now c.args.scope.now c.args.rule.now c.args.p.now c.args.q.now
+    two_halts (checked_within c.args.left) c.args.goal.now (seen c.args.scope.now) c.args.rule.now c.args.p.now c.args.q.now
     c.premise.result c.from_residual.result c.in_err-t.field-0.0 c.in_err-t.was out c.premise.ensures.gives
 
 pub two-returns-in_err-t-clause-scope : goal.two-returns-in_err-t-clause-scope
@@ -147,8 +148,8 @@ two-join_two-requires-clause-fits g t c =
 
 pub two-returns-clause-gives : goal.two-returns-clause-gives
 two-returns-clause-gives g t c =
-    two_returns (checked_within c.args.left) c.args.goal.now c.args.scope.now c.args.rule.now c.args.p.now c.args.q.now
-    c.premise.result c.in_ok-t.t c.premise.new.scope c.join_two.result c.in_ok-t.was c.premise.ensures.gives (taken_scope c.premise.result c.in_ok-t.t _ c.in_ok-t.was c.premise.ensures.scope)
+    two_returns (checked_within c.args.left) c.args.goal.now (seen c.args.scope.now) c.args.rule.now c.args.p.now c.args.q.now
+    c.premise.result c.in_ok-t.t (seen c.premise.new.scope) c.join_two.result c.in_ok-t.was c.premise.ensures.gives (taken_seen c.premise.result c.in_ok-t.t _ _ c.in_ok-t.was c.premise.ensures.scope)
     (λ a l. c.join_two.ensures.gives a l _ c.premise-last.ensures.gives)
 
 pub two-returns-clause-scope : goal.two-returns-clause-scope
@@ -172,7 +173,7 @@ three-premise-requires-2 g t c κs within =
 pub three-returns-in_err-t-clause-gives : goal.three-returns-in_err-t-clause-gives
 three-returns-in_err-t-clause-gives g t c =
     let out : c.from_residual.result ≡ Err c.in_err-t.field-0.0 = search rules in
-    three_halts (checked_within c.args.left) c.args.goal.now c.args.scope.now c.args.p.now c.args.q.now c.args.r.now
+    three_halts (checked_within c.args.left) c.args.goal.now (seen c.args.scope.now) c.args.p.now c.args.q.now c.args.r.now
     c.premise.result c.from_residual.result c.in_err-t.field-0.0 c.in_err-t.was out c.premise.ensures.gives
 
 pub three-returns-in_err-t-clause-scope : goal.three-returns-in_err-t-clause-scope
@@ -188,8 +189,8 @@ three-returns-in_err-t-clause-asked g t c =
 pub three-returns-in_err-u-clause-gives : goal.three-returns-in_err-u-clause-gives
 three-returns-in_err-u-clause-gives g t c =
     let out : c.from_residual-in_err-u.result ≡ Err c.in_err-u.field-0.0 = search rules in
-    three_second_halts (checked_within c.args.left) c.args.goal.now c.args.scope.now c.args.p.now c.args.q.now c.args.r.now
-    c.premise.result c.in_ok-t.t c.premise.new.scope c.premise-2.result c.from_residual-in_err-u.result c.in_err-u.field-0.0 c.in_ok-t.was c.premise.ensures.gives (taken_scope c.premise.result c.in_ok-t.t _ c.in_ok-t.was c.premise.ensures.scope)
+    three_second_halts (checked_within c.args.left) c.args.goal.now (seen c.args.scope.now) c.args.p.now c.args.q.now c.args.r.now
+    c.premise.result c.in_ok-t.t (seen c.premise.new.scope) c.premise-2.result c.from_residual-in_err-u.result c.in_err-u.field-0.0 c.in_ok-t.was c.premise.ensures.gives (taken_seen c.premise.result c.in_ok-t.t _ _ c.in_ok-t.was c.premise.ensures.scope)
     c.in_err-u.was out c.premise-2.ensures.gives
 
 pub three-returns-in_err-u-clause-scope : goal.three-returns-in_err-u-clause-scope
@@ -221,10 +222,10 @@ three-join_three-requires-clause-fits g t c =
 
 pub three-returns-clause-gives : goal.three-returns-clause-gives
 three-returns-clause-gives g t c =
-    three_returns (checked_within c.args.left) c.args.goal.now c.args.scope.now c.args.p.now c.args.q.now c.args.r.now
-    c.premise.result c.premise-2.result c.in_ok-t.t c.in_ok-u.u c.premise.new.scope c.premise-2.new.scope c.join_three.result
-    c.in_ok-t.was c.premise.ensures.gives (taken_scope c.premise.result c.in_ok-t.t _ c.in_ok-t.was c.premise.ensures.scope) c.in_ok-u.was c.premise-2.ensures.gives
-    (taken_scope c.premise-2.result c.in_ok-u.u _ c.in_ok-u.was c.premise-2.ensures.scope ∙ (taken_scope c.premise.result c.in_ok-t.t _ c.in_ok-t.was c.premise.ensures.scope))
+    three_returns (checked_within c.args.left) c.args.goal.now (seen c.args.scope.now) c.args.p.now c.args.q.now c.args.r.now
+    c.premise.result c.premise-2.result c.in_ok-t.t c.in_ok-u.u (seen c.premise.new.scope) (seen c.premise-2.new.scope) c.join_three.result
+    c.in_ok-t.was c.premise.ensures.gives (taken_seen c.premise.result c.in_ok-t.t _ _ c.in_ok-t.was c.premise.ensures.scope) c.in_ok-u.was c.premise-2.ensures.gives
+    (taken_seen c.premise-2.result c.in_ok-u.u _ _ c.in_ok-u.was c.premise-2.ensures.scope ∙ (taken_seen c.premise.result c.in_ok-t.t _ _ c.in_ok-t.was c.premise.ensures.scope))
     (λ a b l m. c.join_three.ensures.gives a b l m _ c.premise-last.ensures.gives)
 
 pub three-returns-clause-scope : goal.three-returns-clause-scope
@@ -261,23 +262,23 @@ taken-premise-last-requires g t c κs within =
 pub premise-returns-in-None-clause-gives : goal.premise-returns-in-None-clause-gives
 premise-returns-in-None-clause-gives g t c =
     let p = c.args.part.now in
-    subst (λ s. Gives c.proved.result (checked_within c.args.left p.term p.goal s) (meaning p.goal)) (none_inside p.own c.args.scope.now c.in-None.is)
-    (subst (λ x. Gives c.proved.result (checked_within c.args.left x p.goal c.args.scope.now) (meaning p.goal)) c.get.ensures c.proved.ensures.gives)
+    subst (λ s. Gives c.proved.result (checked_within c.args.left p.term p.goal s) (meaning p.goal)) (none_inside p.own (seen c.args.scope.now) c.in-None.is)
+    (subst (λ x. Gives c.proved.result (checked_within c.args.left x p.goal (seen c.args.scope.now)) (meaning p.goal)) c.get.ensures c.proved.ensures.gives)
 
 pub premise-returns-in_ok-push-in-Some-clause-gives : goal.premise-returns-in_ok-push-in-Some-clause-gives
 premise-returns-in_ok-push-in-Some-clause-gives g t c =
     let p = c.args.part.now in
-    let here : c.push.new.self ≡ inside p.own c.args.scope.now =
+    let here : seen c.push.new.self ≡ inside p.own (seen c.args.scope.now) =
     some_inside p.own c.in-Some.own c.in_ok-copy-in-Some.field-0 c.args.scope.now c.push.new.self c.in-Some.is (search rules) (search rules) in
-    handed_gives c.proved-given.new.scope c.hand_on.new.scope c.proved-given.result c.hand_on.result (checked_within c.args.left p.term p.goal (inside p.own c.args.scope.now)) (meaning p.goal)
-    c.hand_on.ensures (subst (λ s. Gives c.proved-given.result (checked_within c.args.left p.term p.goal s) (meaning p.goal)) here
-    (subst (λ x. Gives c.proved-given.result (checked_within c.args.left x p.goal c.push.new.self) (meaning p.goal)) c.get-in-Some.ensures c.proved-given.ensures.gives))
+    subst (λ r. Gives r (checked_within c.args.left p.term p.goal (inside p.own (seen c.args.scope.now))) (meaning p.goal)) (sym c.hand_on.ensures.given)
+    (subst (λ s. Gives c.proved-given.result (checked_within c.args.left p.term p.goal s) (meaning p.goal)) here
+    (subst (λ x. Gives c.proved-given.result (checked_within c.args.left x p.goal (seen c.push.new.self)) (meaning p.goal)) c.get-in-Some.ensures c.proved-given.ensures.gives))
 
 pub premise-returns-in_ok-push-in-Some-clause-scope : goal.premise-returns-in_ok-push-in-Some-clause-scope
 premise-returns-in_ok-push-in-Some-clause-scope g t c =
-    handed_back c.proved-given.new.scope c.hand_on.new.scope c.proved-given.result c.hand_on.result c.args.scope.now c.push.new.self
-    (record { name = c.in-Some.own.name; formula = c.in_ok-copy-in-Some.field-0 }) c.hand_on.ensures c.proved-given.ensures.scope (search rules)
+    handed_back c.proved-given.result c.hand_on.result c.proved-given.new.scope c.hand_on.new.scope c.args.scope.now c.push.new.self
+    (record { name = c.in-Some.own.name; formula = c.in_ok-copy-in-Some.field-0 }) c.hand_on.ensures.given c.hand_on.ensures.scope c.proved-given.ensures.scope (search rules)
 
 pub premise-returns-in_ok-push-in-Some-clause-asked : goal.premise-returns-in_ok-push-in-Some-clause-asked
 premise-returns-in_ok-push-in-Some-clause-asked g t c =
-    handed_asks c.proved-given.new.scope c.hand_on.new.scope c.proved-given.result c.hand_on.result _ _ c.hand_on.ensures c.proved-given.ensures.asked
+    handed_asks c.proved-given.result c.hand_on.result _ _ c.hand_on.ensures.given c.proved-given.ensures.asked
