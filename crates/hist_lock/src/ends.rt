@@ -11,6 +11,7 @@ use crate::state::State;
 use atomic_table::{Refused, Table};
 use std::alloc::{AllocFailed, Global};
 use std::snapshot::Snapshot;
+use std::sync::atomic::AtomicU64;
 
 impl<S: State> Shared<S> {
     /// A lock round a state whose entries are all caller 0's, and the pass of caller 0. For want of
@@ -32,7 +33,10 @@ impl<S: State> Shared<S> {
             });
         }
         match Table::new(alloc, &[0, 0, count], slots, &about) {
-            Ok((table, place)) => Ok((Shared { table }, Pass { place, count })),
+            Ok((table, place)) => {
+                let watchers = AtomicU64::new(0);
+                Ok((Shared { table, watchers }, Pass { place, count }))
+            }
             Err(Refused { mut slots }) => {
                 let state = slots.pop().unwrap().unwrap();
                 slots.destroy_empty();
@@ -50,7 +54,7 @@ impl<S: State> Shared<S> {
         ensures theirs { HasTheirs S.whose (view pass) (S.entries result) }
         ensures no_other { HasNoOther S.whose (view pass) (S.entries result) }
     {
-        let Shared { table } = self;
+        let Shared { table, watchers: _ } = self;
         let Pass { place, count: _ } = pass;
         let mut closed = table.close_with(place);
         let state = closed.take(0);

@@ -69,6 +69,14 @@ impl<S: State> Shared<S> {
         let None = left else { unreachable!() };
     }
 
+    // Wakes those who wait for a change. Whoever begins to wait after this look looks at the count of
+    // entries after that, and so sees the entry that was appended before.
+    fn wake_watchers(&self) {
+        if self.is_watched() {
+            self.table.shared.wake_all(ENTRIES);
+        }
+    }
+
     // The entry that the call made is appended, and those who wait for a change are woken.
     fn append(&self, place: &mut Place<S>)
         requires own { IsSeatOf self.now place.old }
@@ -78,7 +86,15 @@ impl<S: State> Shared<S> {
         ensures appended { SeesEntry S.entries S.whose S.legal place.old.me place.new.me }
     {
         self.table.shared.fetch_add::<Append<S>>(place, ENTRIES, 1);
-        self.table.shared.wake_all(ENTRIES);
+        self.wake_watchers();
+    }
+
+    // Wakes those who wait for their turn, if a ticket was drawn behind the one that was served. Whoever
+    // draws one after this look looks whose turn it is after that, and so sees that it is its own.
+    fn wake_next(&self, served: u64) {
+        if self.table.shared.peek(TICKETS) != served.wrapping_add(1) {
+            self.table.shared.wake_all(SERVED);
+        }
     }
 
     fn pass_on(&self, place: &mut Place<S>)
@@ -88,8 +104,8 @@ impl<S: State> Shared<S> {
         ensures own { IsSameSeat place.old place.new }
         ensures passed { place.new.me ≡ (staged place.old.me.0 Idle, []) }
     {
-        self.table.shared.fetch_add::<PassOn>(place, SERVED, 1);
-        self.table.shared.wake_all(SERVED);
+        let served = self.table.shared.fetch_add::<PassOn>(place, SERVED, 1);
+        self.wake_next(served);
     }
 
     /// Waits for the turn, and takes the state.
@@ -155,9 +171,11 @@ impl<S: State> Shared<S> {
             ≡ place.old.me.0.view.mine }
         ensures rest { HasSeen place.old.me place.new.me }
     {
-        for _ in rt.forever() {
+        self.begin_watch();
+        'watching: for _ in rt.forever() {
             let found = self.see(place);
             if found != count {
+                self.end_watch();
                 return found;
             }
             self.table.shared.park(rt, ENTRIES, low_half(found));

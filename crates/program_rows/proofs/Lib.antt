@@ -1,1 +1,2 @@
 mod ExampleHistory
+mod BoardBytes

@@ -7,8 +7,10 @@ ghost use Rattle.worker_loop.specs.Crew.{AreWorkers};
 
 mod board;
 mod hands;
+mod pen;
+mod writing;
 
-use board::{Board, Count, End, Task};
+use board::{Board, Count, End, Tally, Task};
 use hands::Hands;
 use hist_lock::{Pass, Shared};
 use pide_base::{ExecId, Flag, Gate, Part, PartKind, Point};
@@ -72,17 +74,22 @@ fn part(number: u64) -> Option<Part> {
     })
 }
 
-// A board of so many tasks, with the executions 1, 2 and so on.
-fn board_of(alloc: Global, tasks: u64) -> Result<Board, AllocError>
+fn task(alloc: Global, part: Part, is_stopped: bool) -> Result<Task, AllocError> {
+    let flag = Flag::new(alloc)?;
+    if is_stopped {
+        flag.set();
+    }
+    Ok(Task { part, flag })
+}
+
+// A board of so many tasks, with the executions 1, 2 and so on. Those after `wanted` are to be stopped.
+fn board_of(alloc: Global, tasks: u64, wanted: u64) -> Result<Board, AllocError>
     ensures { IfOk result (λ b. b.marks.items ≡ []) }
 {
     let mut open = Vec::new(alloc);
     for number in 1..=tasks {
         if let Some(part) = part(number) {
-            open.push(Task {
-                part,
-                flag: Flag::new(alloc)?,
-            })?;
+            open.push(task(alloc, part, wanted < number)?)?;
         }
     }
     Ok(Board {
@@ -92,10 +99,14 @@ fn board_of(alloc: Global, tasks: u64) -> Result<Board, AllocError>
     })
 }
 
-fn opened(alloc: Global, tasks: u64) -> Result<(Shared<Board>, Pass<Board>), AllocError>
+fn opened(
+    alloc: Global,
+    tasks: u64,
+    wanted: u64,
+) -> Result<(Shared<Board>, Pass<Board>), AllocError>
     ensures { IfOk result (λ r. IsPassOf r.0 r.1 × (view r.1 ≡ first_view [])) }
 {
-    match Shared::new(alloc, board_of(alloc, tasks)?) {
+    match Shared::new(alloc, board_of(alloc, tasks, wanted)?) {
         Ok(both) => Ok(both),
         Err(_) => Err(AllocError),
     }
@@ -137,18 +148,19 @@ fn end<R: Wait>(rt: &R, lock: &Shared<Board>, first: Pass<Board>, tasks: usize) 
     unreachable!()
 }
 
-// So many workers work through so many tasks, each in a thread of its own: how many claims there were, and
-// how many tasks are finished.
+// So many workers work through so many tasks, each in a thread of its own, until those up to `wanted` are
+// finished: what was made of the tasks.
 fn work_through<R: Threads + Wait + Sync, G: Gate + Sync>(
     rt: &R,
     alloc: Global,
     tasks: u64,
+    wanted: u64,
     workers: u32,
     gate: &G,
-) -> Result<(usize, usize), AllocError>
+) -> Result<Tally, AllocError>
     requires { workers < 17 }
 {
-    let (lock, mut first) = opened(alloc, tasks)?;
+    let (lock, mut first) = opened(alloc, tasks, wanted)?;
     let mut passes = Vec::new(alloc);
     'splitting: for done in 0..workers {
         add_pass(&lock, &mut first, &mut passes)?;
@@ -164,30 +176,39 @@ fn work_through<R: Threads + Wait + Sync, G: Gate + Sync>(
             requires own { IsPassOf shared.now first }
             requires first { (view first).caller ≡ 0 }
             ensures own { IsPassOf shared.entry.now result }
-        { end(rt, shared, first, tasks as usize) },
+        { end(rt, shared, first, wanted as usize) },
     );
     Ok(lock.turn(rt, &mut first, Count))
 }
 
+// All of so many tasks are finished.
+fn all_of(tasks: usize) -> Tally {
+    Tally {
+        claimed: tasks,
+        finished: tasks,
+        dropped: 0,
+    }
+}
+
 #[test]
 fn two_workers_finish_each_task_once(rt: HostRuntime) -> Result<(), Fail> {
-    let counts = work_through(&rt, rt.alloc(), 100, 2, &NoGate)?;
-    assert_eq!(rt; counts, (100, 100));
+    let tally = work_through(&rt, rt.alloc(), 100, 100, 2, &NoGate)?;
+    assert_eq!(rt; tally, all_of(100));
     Ok(())
 }
 
 #[test]
 fn four_workers_finish_each_task_once(rt: HostRuntime) -> Result<(), Fail> {
-    let counts = work_through(&rt, rt.alloc(), 100, 4, &NoGate)?;
-    assert_eq!(rt; counts, (100, 100));
+    let tally = work_through(&rt, rt.alloc(), 100, 100, 4, &NoGate)?;
+    assert_eq!(rt; tally, all_of(100));
     Ok(())
 }
 
 #[test]
 fn a_held_worker_is_let_go_by_another(rt: HostRuntime) -> Result<(), Fail> {
     let gate = HoldGate::new(1, LOOKS);
-    let counts = work_through(&rt, rt.alloc(), 3, 2, &gate)?;
-    assert_eq!(rt; counts, (3, 3));
+    let tally = work_through(&rt, rt.alloc(), 3, 3, 2, &gate)?;
+    assert_eq!(rt; tally, all_of(3));
     assert_eq!(rt; gate.let_go(), LetGo::ByOther);
     Ok(())
 }
@@ -199,8 +220,8 @@ fn jobs_run_while_another_is_held(rt: HostRuntime) -> Result<(), Fail> {
         points: AtomicU64::new(0),
         by_limit: AtomicBool::new(false),
     };
-    let counts = work_through(&rt, rt.alloc(), 4, 2, &gate)?;
-    assert_eq!(rt; counts, (4, 4));
+    let tally = work_through(&rt, rt.alloc(), 4, 4, 2, &gate)?;
+    assert_eq!(rt; tally, all_of(4));
     assert!(rt; !gate.by_limit.load(Ordering::SeqCst));
     Ok(())
 }
@@ -212,5 +233,18 @@ fn a_gate_on_one_thread_lets_go_by_its_limit(rt: HostRuntime) -> Result<(), Fail
     let part = part(1).ok_or("an id")?;
     gate.at(1, Point::Claimed(part));
     assert_eq!(rt; gate.let_go(), LetGo::ByLimit);
+    Ok(())
+}
+
+// The worker claims the last tasks first.
+#[test]
+fn stopped_jobs_are_dropped(rt: HostRuntime) -> Result<(), Fail> {
+    let tally = work_through(&rt, rt.alloc(), 5, 3, 1, &NoGate)?;
+    let wanted = Tally {
+        claimed: 5,
+        finished: 3,
+        dropped: 2,
+    };
+    assert_eq!(rt; tally, wanted);
     Ok(())
 }

@@ -18,7 +18,8 @@ module _ {E : Type 0} (says : E → Said) where
   -- these entries, oldest first, are rounds, from what was held to what is held
   abbrev pub AreRounds : Option Part → List E → Option Part → Type 0
   AreRounds held [] after = after ≡ held
-  AreRounds held (e ∷ es) after = (next : Option Part) × Steps held (says e) next × AreRounds next es after
+  AreRounds held (e ∷ es) after =
+      (next : Option Part) × Steps held (says e) next × AreRounds next es after
 
   -- the caller went on by rounds, and made no other entry
   abbrev pub GoesOn : View E → Option Part → View E → Option Part → Type 0

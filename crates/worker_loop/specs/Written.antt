@@ -33,8 +33,8 @@ module _ {E : Type 0} (says : E → Said) (sent : List E → List ℕ) where
   WritesOn v k w l =
       (bytes : List ℕ) × Handed sent v bytes w × Appends k.contents l.contents bytes × Sends says v w
 
-  -- the writer has stopped: it has pushed all that it was handed, and all has ended; or the sink failed
-  -- in this call, and holds a front of it
+  -- the writer has stopped: it has pushed all that it was handed, and all has ended; or the sink
+  -- failed in this call, and holds a front of it
   abbrev pub WrittenSo : View E → Holding → Written → View E → Holding → Type 0
   WrittenSo v k written.Ended w l = WritesOn v k w l × HasSeen says w said.Ended
   WrittenSo v k written.WriteFault w l =

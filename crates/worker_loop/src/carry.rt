@@ -44,7 +44,8 @@ fn run_once<S: State, W: Work<S>, R: Wait, G: Gate>(
     requires right { Stays S.legal (view pass.old).seen (λ log. W.fits log job) }
     ensures own { IsPassOf lock.now pass.new }
     ensures same { IsSameCaller (view pass.old) (view pass.new) }
-    ensures attempted { AttemptedSo W.says W.part_of W.fits job (view pass.old) result (view pass.new) }
+    ensures attempted { AttemptedSo W.says W.part_of W.fits job (view pass.old) result
+        (view pass.new) }
 {
     let before_finish = Point::BeforeFinish(worker.part(&job));
     let mut stop = FlagStop::new(flag, gate, who, worker.part(&job), muted);

@@ -1,5 +1,6 @@
 //! Workers in threads of their own.
-ghost use Rattle.std.specs.Prelude.{◌≡◌, ◌≤◌, ◌+◌, ◌<◌, ◌^◌, [], ◌∷◌, ◌++◌, vec_len, vec_capacity, IfSome, IfNone, IfOk, IfErr};
+ghost use Rattle.std.specs.Prelude.{◌≡◌, ◌≤◌, ◌+◌, ◌<◌, ◌^◌, [], ◌∷◌, ◌++◌, vec_len, vec_capacity};
+ghost use Rattle.std.specs.Prelude.{IfSome, IfNone, IfOk, IfErr};
 ghost use Rattle.std.specs.Thread.{IsSync};
 ghost use Rattle.worker_loop.specs.Crew.{AreWorkers, HasWorked, HaveWorked, IsWorker};
 
@@ -17,7 +18,8 @@ fn last_worker<S: State, W: Work<S>>(lock: &Shared<S>, passes: &mut Vec<Pass<S>>
     ensures none { IfNone result (passes.old.items ≡ []) }
     ensures some { IfSome result (λ p. passes.old.items ≡ passes.new.items ++ p ∷ []) }
     ensures length { IfSome result (λ p. vec_len passes.new + 1 ≡ vec_len passes.old) }
-    ensures worker { IfSome result (λ p. IsWorker W.says lock.now (vec_len passes.old) p × AreWorkers W.says lock.now 1 passes.new.items) }
+    ensures worker { IfSome result (λ p. IsWorker W.says lock.now (vec_len passes.old) p
+        × AreWorkers W.says lock.now 1 passes.new.items) }
 {
     passes.pop()
 }
@@ -34,7 +36,8 @@ fn put<S: State>(shifts: &mut Vec<Shift<S>>, last: Shift<S>)
     }
 }
 
-// The workers 1 to `count` work, each in a thread of its own. There is room for what they bring back.
+// The workers 1 to `count` work, each in a thread of its own. There is room for what they bring
+// back.
 fn work_all<S: State + Send, W: Work<S> + Sync, R: Threads + Wait + Sync, G: Gate + Sync>(
     rt: &R,
     alloc: Global,
@@ -78,8 +81,8 @@ fn work_all<S: State + Send, W: Work<S> + Sync, R: Threads + Wait + Sync, G: Gat
     shifts
 }
 
-/// Lets workers 1, 2 and so on work, each in a thread of its own, until all have stopped, and hands back what
-/// each of them brought. For want of memory none begins, and the passes come back.
+/// Lets workers 1, 2 and so on work, each in a thread of its own, until all have stopped, and hands
+/// back what each of them brought. For want of memory none begins, and the passes come back.
 pub fn run_workers<S: State + Send, W: Work<S> + Sync, R: Threads + Wait + Sync, G: Gate + Sync>(
     rt: &R,
     alloc: Global,

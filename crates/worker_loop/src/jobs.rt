@@ -87,7 +87,8 @@ pub trait Work<S: State> {
         requires free { held_in says (view pass.old).mine ≡ None }
         ensures own { IsPassOf lock.now pass.new }
         ensures same { IsSameCaller (view pass.old) (view pass.new) }
-        ensures claimed { ClaimedSo says S.legal S.idle part_of fits (view pass.old) result (view pass.new) };
+        ensures claimed { ClaimedSo says S.legal S.idle part_of fits (view pass.old) result
+            (view pass.new) };
 
     /// Hands in what the job of the part that the caller holds gave. It takes no memory.
     fn finish<R: Wait>(
@@ -104,7 +105,8 @@ pub trait Work<S: State> {
         requires right { Stays S.legal (view pass.old).seen (λ log. answers log done) }
         ensures own { IsPassOf lock.now pass.new }
         ensures same { IsSameCaller (view pass.old) (view pass.new) }
-        ensures finished { FinishedSo says (part_done done) (view pass.old) result (view pass.new) };
+        ensures finished { FinishedSo says (part_done done) (view pass.old) result
+            (view pass.new) };
 
     /// Gives the part that the caller holds up, if it is not wanted any more. Its job was stopped.
     fn give_up<R: Wait>(
@@ -122,7 +124,8 @@ pub trait Work<S: State> {
         requires stopped { was_stopped job }
         ensures own { IsPassOf lock.now pass.new }
         ensures same { IsSameCaller (view pass.old) (view pass.new) }
-        ensures given_up { GivenUpSo says job (part_of job) (view pass.old) result (view pass.new) };
+        ensures given_up { GivenUpSo says job (part_of job) (view pass.old) result
+            (view pass.new) };
 
     /// Whether all has ended.
     fn ended<R: Wait>(&self, rt: &R, lock: &Shared<S>, pass: &mut Pass<S>) -> bool
@@ -142,5 +145,6 @@ pub trait Work<S: State> {
         job: Self::Job,
         stop: &mut P,
     ) -> Ran<Self::Job, Self::Done>
-        ensures ran { RanSo part_of part_done fits answers was_stopped (P.yeses stop.old) (P.yeses stop.new) job result };
+        ensures ran { RanSo part_of part_done fits answers was_stopped (P.yeses stop.old)
+            (P.yeses stop.new) job result };
 }

@@ -50,5 +50,7 @@ pub trait Outbox<S: State> {
         ensures lost { LostSo says (sent who) (view pass.old) (view pass.new) };
 
     /// Entries of others hand this caller nothing.
-    ghost others_hand_nothing: { (who : ℕ) (seen more : List S.Entry) → S.legal more → IsPrefix seen more → own S.whose who more ≡ own S.whose who seen → sent who more ≡ sent who seen };
+    ghost others_hand_nothing: { (who : ℕ) (seen more : List S.Entry) → S.legal more
+        → IsPrefix seen more → own S.whose who more ≡ own S.whose who seen
+        → sent who more ≡ sent who seen };
 }

@@ -42,7 +42,10 @@ fn send_next<S: State, O: Outbox<S>, K: Sink, R: Wait>(
     requires knows { KnowsOwn S.whose (view pass.old) }
     ensures own { IsPassOf lock.now pass.new }
     ensures same { IsSameCaller (view pass.old) (view pass.new) }
-    ensures sent { SentSo O.says (O.sent who) (view pass.old) (record { contents = K.contents sink.old; faults = K.faults sink.old }) result (view pass.new) (record { contents = K.contents sink.new; faults = K.faults sink.new }) }
+    ensures sent { SentSo O.says (O.sent who)
+        (view pass.old) (record { contents = K.contents sink.old; faults = K.faults sink.old })
+        result
+        (view pass.new) (record { contents = K.contents sink.new; faults = K.faults sink.new }) }
     ensures steady { K.faults sink.old ≤ K.faults sink.new }
     ensures knows { IfNone result (KnowsOwn S.whose (view pass.new)) }
 {
@@ -62,8 +65,8 @@ fn send_next<S: State, O: Outbox<S>, K: Sink, R: Wait>(
     }
 }
 
-/// Pushes what is to be sent, piece by piece, until all has ended or the sink fails. It pushes without
-/// the lock.
+/// Pushes what is to be sent, piece by piece, until all has ended or the sink fails. It pushes
+/// without the lock.
 pub fn write_out<S: State, O: Outbox<S>, K: Sink, R: Wait>(
     rt: &R,
     outbox: &O,
@@ -78,7 +81,10 @@ pub fn write_out<S: State, O: Outbox<S>, K: Sink, R: Wait>(
     requires knows { KnowsOwn S.whose (view pass) }
     ensures own { IsPassOf lock.now result.pass }
     ensures same { IsSameCaller (view pass) (view result.pass) }
-    ensures wrote { WrittenSo O.says (O.sent who) (view pass) (record { contents = K.contents sink; faults = K.faults sink }) result.written (view result.pass) (record { contents = K.contents result.sink; faults = K.faults result.sink }) }
+    ensures wrote { WrittenSo O.says (O.sent who)
+        (view pass) (record { contents = K.contents sink; faults = K.faults sink })
+        result.written (view result.pass)
+        (record { contents = K.contents result.sink; faults = K.faults result.sink }) }
     ensures steady { K.faults sink ≤ K.faults result.sink }
 {
     let mut pass = pass;

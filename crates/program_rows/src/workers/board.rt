@@ -205,23 +205,37 @@ impl Turn<Board> for End {
     }
 }
 
-/// Counts the claims, and the tasks that are finished.
+/// What was made of the tasks.
+#[derive(Clone, Copy, Debug, PartialEq, Eq)]
+pub(super) struct Tally {
+    pub(super) claimed: usize,
+    pub(super) finished: usize,
+    pub(super) dropped: usize,
+}
+
+/// Counts the claims, and the tasks that are finished and dropped.
 #[derive(Drop)]
 pub(super) struct Count;
 
 impl Turn<Board> for Count {
-    type Answer = (usize, usize);
+    type Answer = Tally;
 
     ghost asks = { λ c b. Unit {0} };
 
     ghost gives = { λ c b a d. d.marks.items ≡ b.marks.items };
 
-    fn run(self, board: &mut Board) -> (usize, usize) {
-        let claims = board
-            .marks
-            .iter()
-            .filter(|m| matches!(m.what, Said::Claimed(_)))
-            .count();
-        (claims, board.finished())
+    fn run(self, board: &mut Board) -> Tally {
+        let marks = &board.marks;
+        Tally {
+            claimed: marks
+                .iter()
+                .filter(|m| matches!(m.what, Said::Claimed(_)))
+                .count(),
+            finished: board.finished(),
+            dropped: marks
+                .iter()
+                .filter(|m| matches!(m.what, Said::Dropped(_)))
+                .count(),
+        }
     }
 }

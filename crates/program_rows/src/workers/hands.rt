@@ -3,6 +3,7 @@ ghost use Rattle.std.specs.Prelude.{◌≡◌, ◌++◌, ◌∷◌, []};
 ghost use mathlib.Core.List.{IsPrefix};
 ghost use Rattle.hist_lock.specs.Known.{IsSameCaller};
 ghost use Rattle.hist_lock.specs.Passes.{view, IsPassOf};
+ghost use Rattle.worker_loop.specs.Sending.{KnowsOwn};
 
 use super::board::{Add, Board, Look, Mark, Take, Task};
 use hist_lock::{Pass, Shared};
@@ -18,6 +19,7 @@ pub(super) fn add<R: Wait>(rt: &R, lock: &Shared<Board>, pass: &mut Pass<Board>,
     ensures own { IsPassOf lock.now pass.new }
     ensures same { IsSameCaller (view pass.old) (view pass.new) }
     ensures made { (view pass.new).mine ≡ (view pass.old).mine ++ mark ∷ [] }
+    ensures knows { KnowsOwn (λ m. m.by) (view pass.new) }
 {
     let mut mark = mark;
     'adding: for _ in rt.forever() {
