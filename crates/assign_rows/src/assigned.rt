@@ -1,12 +1,14 @@
-//! What updates of small documents assign (`exec_assign`): each row as its evaluation, with its
-//! print behind a `/`, and `|` behind each node.
+//! What updates of small documents assign and tell (`exec_assign`): each row as its evaluation, with
+//! its print behind a `/`, and `|` behind each node.
 ghost use Rattle.std.specs.Prelude.{◌≡◌, ◌≤◌, ◌∷◌, [], IfOk};
 ghost use Rattle.pide_base.specs.Ids.{id_end};
 ghost use Rattle.exec_assign.specs.Fitting.{RowsFit};
 
 use crate::drawn::{Drawn, nodes_of};
 use doc_nodes::Nodes;
-use exec_assign::{AssignFault, Assignment, Cancelled, Update};
+use exec_assign::{
+    AssignFault, Assignment, Cancelled, ToldCommand, ToldNode, Update, cancelled_law,
+};
 use exec_rules::{Row, Version, numbers_law};
 use pide_base::ExecId;
 use shared_map::SharedMap;
@@ -30,11 +32,12 @@ impl Cancelled for Only {
     }
 }
 
-/// A version, and the number of the next execution.
+/// A version, the number of the next execution, and what its update told.
 #[derive(Drop)]
 struct Made {
     version: Version,
     next: u64,
+    told: Vec<ToldNode>,
 }
 
 /// The version before any update.
@@ -50,6 +53,7 @@ fn start(alloc: Global) -> Made
             assigned: Items::new(alloc),
         },
         next: 1,
+        told: Vec::new(alloc),
     }
 }
 
@@ -70,9 +74,10 @@ fn updated(
     ensures next { IfOk result (λ made. made.next ≤ id_end) }
 {
     numbers_law();
+    cancelled_law();
     let blobs = SharedMap::new();
     let changed = SharedMap::new();
-    let assignment = {
+    let (assignment, told) = {
         let update = Update::of(
             alloc,
             &before.version,
@@ -82,7 +87,9 @@ fn updated(
             &changed,
             &[],
         )?;
-        update.assign(alloc, before.next)?
+        let assignment = update.assign(alloc, before.next)?;
+        let told = update.listed(alloc, &assignment)?;
+        (assignment, told)
     };
     let Assignment { assigned, next, .. } = assignment;
     Ok(Made {
@@ -92,6 +99,7 @@ fn updated(
             assigned,
         },
         next,
+        told,
     })
 }
 
@@ -115,26 +123,25 @@ fn told(alloc: Global, version: &Version) -> Result<String, AllocError> {
     Ok(text)
 }
 
-/// What the second of two updates assigns, where an execution is cancelled between them.
+/// The second of two updates, where an execution is cancelled between them.
 fn second_of(
     alloc: Global,
     first: Nodes,
     cancelled: u64,
     second: Nodes,
-) -> Result<String, AssignFault> {
+) -> Result<Made, AssignFault> {
     let nothing = Only { number: 0 };
     let one = updated(alloc, &start(alloc), first, &nothing)?;
-    let other = updated(alloc, &one, second, &Only { number: cancelled })?;
-    Ok(told(alloc, &other.version)?)
+    updated(alloc, &one, second, &Only { number: cancelled })
 }
 
 /// The same of nodes that are drawn.
-fn after_two(
+fn made_by_two(
     alloc: Global,
     first: &[Drawn],
     cancelled: u64,
     second: &[Drawn],
-) -> Result<String, Fail> {
+) -> Result<Made, Fail> {
     let first = nodes_of(alloc, first)?;
     let second = nodes_of(alloc, second)?;
     Ok(
@@ -142,6 +149,47 @@ fn after_two(
             .ok()
             .ok_or("limit")?,
     )
+}
+
+/// What it assigns.
+fn after_two(
+    alloc: Global,
+    first: &[Drawn],
+    cancelled: u64,
+    second: &[Drawn],
+) -> Result<String, Fail> {
+    let made = made_by_two(alloc, first, cancelled, second)?;
+    Ok(told(alloc, &made.version)?)
+}
+
+fn push_command(alloc: Global, text: &mut String, one: &ToldCommand) -> Result<(), AllocError> {
+    let command = format!(in alloc; "{} ", one.command.number())?;
+    text.push_str(command.as_str())?;
+    if let Some(row) = one.row {
+        text.push(':')?;
+        push_row(alloc, text, row)?;
+    }
+    Ok(())
+}
+
+/// What it tells: each node with its commands.
+fn told_by_two(
+    alloc: Global,
+    first: &[Drawn],
+    cancelled: u64,
+    second: &[Drawn],
+) -> Result<String, Fail> {
+    let made = made_by_two(alloc, first, cancelled, second)?;
+    let mut text = String::new(alloc);
+    for node in made.told.as_slice() {
+        text.push_str(node.node.as_str())?;
+        text.push(' ')?;
+        for one in node.commands.as_slice() {
+            push_command(alloc, &mut text, one)?;
+        }
+        text.push('|')?;
+    }
+    Ok(text)
 }
 
 /// A required node without imports.
@@ -236,6 +284,54 @@ fn an_importer_has_new_executions_where_its_import_ends_otherwise(
         after_two(alloc, &[import, IMPORTER], 0, &[IMPORTER])?.as_str(),
         "6 7 |"
     );
+    Ok(())
+}
+
+#[test]
+fn an_update_tells_the_nodes_whose_rows_are_others(rt: HostRuntime) -> Result<(), Fail> {
+    let alloc = rt.alloc();
+    let import = required("A", &[1, 2, 3]);
+    let changed = required("A", &[1, 2, 6]);
+    let longer = Drawn {
+        commands: &[4, 7],
+        ..IMPORTER
+    };
+    assert_eq!(rt;
+        told_by_two(alloc, &[], 0, &[import, IMPORTER])?.as_str(),
+        "A 1 :1 2 :2 3 :3 |B 4 :4 5 :5 |"
+    );
+    assert_eq!(rt;
+        told_by_two(alloc, &[import, IMPORTER], 0, &[import, IMPORTER])?.as_str(),
+        ""
+    );
+    assert_eq!(rt;
+        told_by_two(alloc, &[import, IMPORTER], 0, &[import, longer])?.as_str(),
+        "B 4 :4 7 :6 |"
+    );
+    assert_eq!(rt;
+        told_by_two(alloc, &[import, IMPORTER], 0, &[changed, IMPORTER])?.as_str(),
+        "A 1 :1 2 :2 6 :6 |B 4 :7 5 :8 |"
+    );
+    Ok(())
+}
+
+#[test]
+fn a_node_is_told_with_the_commands_that_have_no_executions(rt: HostRuntime) -> Result<(), Fail> {
+    let alloc = rt.alloc();
+    let empty = required("A", &[]);
+    assert_eq!(rt;
+        told_by_two(alloc, &[], 0, &[watched(2)])?.as_str(),
+        "A 1 :1/3 2 :2/4 3 4 5 |"
+    );
+    assert_eq!(rt;
+        told_by_two(alloc, &[watched(2)], 0, &[watched(1)])?.as_str(),
+        "A 1 :1/3 2 :2 3 4 5 |"
+    );
+    assert_eq!(rt;
+        told_by_two(alloc, &[watched(2)], 0, &[empty])?.as_str(),
+        "A |"
+    );
+    assert_eq!(rt; told_by_two(alloc, &[], 0, &[empty])?.as_str(), "");
     Ok(())
 }
 

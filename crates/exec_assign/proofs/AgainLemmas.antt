@@ -17,7 +17,7 @@ use Rattle.exec_rules.specs.Homes.{home, print_homes}
 use Rattle.exec_assign.specs.Fitting.{Fit}
 use Rattle.exec_assign.specs.Untouched.{IsAlive}
 
-name_itself : (xs : List ℕ) → equal xs xs ≡ true
+pub name_itself : (xs : List ℕ) → equal xs xs ≡ true
 name_itself xs = grind (arith, bytes_eq-Decides xs xs, is_eq-slice_cmp xs xs)
 
 -- where no blob changed, a command finds what it found

@@ -53,7 +53,7 @@ all_fits u gives (p ∷ ps) work fit = all_fits u gives ps (assign_one u work p)
 none_fit : (es : List Entry) → Fit es []
 none_fit es i row at = absurd (cc)
 
-got : {X : Type 0} (xs : List X) (p : ℕ) (d x : X) → slice_get xs p ≡ Some x → get_or xs p d ≡ x
+pub got : {X : Type 0} (xs : List X) (p : ℕ) (d x : X) → slice_get xs p ≡ Some x → get_or xs p d ≡ x
 got [] p d x e = absurd (cc)
 got (y ∷ ys) zero d x e = let same : y ≡ x = cc in same
 got (y ∷ ys) (suc p) d x e = got ys p d x e

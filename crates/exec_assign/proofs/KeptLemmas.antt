@@ -20,7 +20,7 @@ keeps_is t es bs rs i e = go (slice_get es i) (slice_get bs i) (slice_get rs i) 
     go (Some x) (Some y) (Some z) ea eb er e =
         record { command = x; old = y; row = z; stands = ea; stood = eb; had = er; keeping = e }
 
-is_kept : (t : Times) (es bs : List Entry) (rs : List Row) (i : ℕ) → KeepsAt t es bs rs i → keeps_at t es bs rs i ≡ true
+pub is_kept : (t : Times) (es bs : List Entry) (rs : List Row) (i : ℕ) → KeepsAt t es bs rs i → keeps_at t es bs rs i ≡ true
 is_kept t es bs rs i at =
     ap (λ a. keeps_three t a (slice_get bs i) (slice_get rs i)) at.stands
     ∙ ap (λ b. keeps_three t (Some at.command) b (slice_get rs i)) at.stood
@@ -58,3 +58,8 @@ kept_rows t es bs rs zero all = omega arith
 kept_rows t es bs rs (suc m) all =
     let at = keeps_is t es bs rs m (all m (omega arith)) in
     let within : m < length rs = slice_get_within rs m _ at.had in omega arith
+
+-- nor commands
+pub kept_commands : (t : Times) (es bs : List Entry) (rs : List Row) (n : ℕ) → ((j : ℕ) → j < n → keeps_at t es bs rs j ≡ true) → n ≤ length es
+kept_commands t es bs rs zero all = omega arith
+kept_commands t es bs rs (suc m) all = let within = keeps_within t es bs rs m (all m (omega arith)) in omega arith

@@ -9,3 +9,14 @@ mod WantedLemmas
 mod WorkLemmas
 mod ProgressLemmas
 mod FitLemmas
+mod TellLemmas
+mod ListLemmas
+mod AgreeRows
+mod AgreeLemmas
+mod OldLemmas
+mod DoneLemmas
+mod BelowLemmas
+mod HeldLemmas
+mod NumberedRows
+mod NumberedNodes
+mod NumberedFold

@@ -69,7 +69,7 @@ given_rises u p pair key next =
     let n = greater k (wanted_at u.nodes p) in
     omega (arith, behind_rises pair.1.entries (evaluations (rows_in u.tip pair.0) k n next) (live_prints u.cancelled (rows_in u.tip pair.0) k) (next + (n - k)))
 
-one_rises : (u : Update) (work : Work) (p : ℕ) → work.next ≤ (assign_one u work p).next
+pub one_rises : (u : Update) (work : Work) (p : ℕ) → work.next ≤ (assign_one u work p).next
 one_rises u work p = go (slice_get u.nodes p)
   where
     go : (o : Option (List ℕ × Node)) → work.next ≤ (option_map_or (λ pair. added work p (given u p pair (key_of u.nodes work.done pair.1) work.next)) o work).next

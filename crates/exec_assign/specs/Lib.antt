@@ -6,3 +6,6 @@ pub mod Prepared
 pub mod Standing
 pub mod Work
 pub mod Telling
+pub mod Told
+pub mod Agreeing
+pub mod Numbered

@@ -16,12 +16,17 @@ mod given;
 mod homes;
 mod keeping;
 mod keying;
+mod laws;
+mod listing;
 mod printing;
 mod same;
 mod sharing;
+mod told;
 mod update;
 
 pub use assigning::Assignment;
 pub use cancelled::Cancelled;
 pub use fault::AssignFault;
+pub use laws::{cancelled_law, new_numbers_law};
+pub use told::{ToldCommand, ToldNode};
 pub use update::{ChangedBlobs, Update};
