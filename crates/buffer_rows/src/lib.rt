@@ -3,3 +3,4 @@
 
 mod asked_blobs;
 mod limits;
+mod open_nodes;

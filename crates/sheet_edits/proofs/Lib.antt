@@ -1,0 +1,4 @@
+mod EditSteps
+mod MovedRanges
+mod SheetLemmas
+mod HeaderNodes

@@ -1,0 +1,37 @@
+use Rattle.std.proofs.Common.{◌≡◌, ℕ, ◌≤◌, ◌-◌, List, [], ◌∷◌, length, map, take, drop, Ok, sym, ap, subst, ◌∙◌, arith}
+use Rattle.std.proofs.lemmas.List.{take_rest, nil_from_length}
+use Rattle.text_edits.specs.declared.edit.Edit.{Edit}
+use Rattle.buffer_rules.specs.Texts.{edit_all}
+use Rattle.buffer_rules.specs.Sheets.{converted}
+use Rattle.sheet_edits.proofs.SheetLemmas.{next_edit, head_tail}
+use Rattle.sheet_edits.proofs.MovedRanges.{converted_then, converted_none}
+use Rattle.sheet_edits.proofs.editing.edited.Goals as goal
+
+pub each-preserved : goal.each-preserved
+each-preserved c =
+    let rest = c.each.rest.now in
+    let edit : Edit = c.edit-item.result in
+    let more = drop 1 rest in
+    let text = c.each.made.spans.text in
+    let after = c.in_ok-made.made.spans.text in
+    let split : rest ≡ edit ∷ more = head_tail rest edit c.in-len1-up.len_at_least c.edit-item.is in
+    let slice : take (length rest - 1) more ≡ more = take_rest rest 1 in
+    record {
+      text = subst (λ (es : List Edit). edit_all es after ≡ edit_all c.args.edits.now c.args.old.spans.text) (sym slice)
+          (next_edit edit more text after (edit_all c.args.edits.now c.args.old.spans.text)
+          (ap (λ (es : List Edit). edit_all es text) (sym split) ∙ c.each.invariant.text) c.in_ok-made.ensures.text);
+      ranges = ap (λ (es : List Edit). map (converted es) c.in_ok-made.made.ranges.items) slice
+          ∙ ap (map (converted more)) c.in_ok-made.ensures.ranges
+          ∙ converted_then edit more c.each.made.ranges.items
+          ∙ ap (λ (es : List Edit). map (converted es) c.each.made.ranges.items) (sym split)
+          ∙ c.each.invariant.ranges;
+      within = c.in_ok-made.ensures.within;
+    }
+
+pub returns-clause-ranges : goal.returns-clause-ranges
+returns-clause-ranges c =
+    let items = c.each.made.ranges.items in
+    let none : c.each.rest.now ≡ [] = nil_from_length c.each.rest.now (omega (arith, c.in_default.len_below)) in
+    sym (converted_none items)
+    ∙ ap (λ (es : List Edit). map (converted es) items) (sym none)
+    ∙ c.each.invariant.ranges

@@ -1,0 +1,47 @@
+//! The node that a sheet makes, before its text is cut.
+ghost use Rattle.std.specs.Prelude.{◌≡◌, [], IfOk};
+ghost use Rattle.buffer_rules.specs.Nodes.{uncut};
+
+use crate::open_node::shared;
+use buffer_rules::Sheet;
+use doc_headers::{KeywordPair, header, one_header};
+use doc_nodes::Node;
+use sqlite_items::Items;
+use std::alloc::{AllocError, Global};
+
+/// The node of a sheet with these imports and keyword pairs, and no commands.
+fn bare_node(
+    alloc: Global,
+    sheet: &Sheet,
+    imports: Items<Items<char>>,
+    keywords: Items<KeywordPair>,
+) -> Result<Node, AllocError>
+    ensures { IfOk result (λ node. node ≡ record {
+      text = sheet.now.text;
+      entries = [];
+      required = sheet.now.required;
+      imports = imports;
+      keywords = keywords;
+    }) }
+{
+    Ok(Node {
+        text: sheet.text.copy()?,
+        entries: shared(alloc, Items::new(alloc))?,
+        required: sheet.required,
+        imports: shared(alloc, imports)?,
+        keywords: shared(alloc, keywords)?,
+    })
+}
+
+/// The node of a sheet, with the imports and keyword pairs of its header and no commands yet. No more
+/// of the text is read than its header.
+#[tactic(auto, using(crate::proofs::HeaderNodes::uncut_some, crate::proofs::HeaderNodes::uncut_none))]
+pub fn uncut(alloc: Global, sheet: &Sheet) -> Result<Node, AllocError>
+    ensures { IfOk result (λ node. node ≡ uncut sheet.now) }
+{
+    one_header();
+    match header(alloc, sheet.text.get().as_slice())? {
+        Some(header) => bare_node(alloc, sheet, header.imports, header.keywords),
+        None => bare_node(alloc, sheet, Items::new(alloc), Items::new(alloc)),
+    }
+}

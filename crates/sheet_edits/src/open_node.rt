@@ -1,0 +1,179 @@
+//! A node as the editor has it.
+ghost use Rattle.std.specs.Prelude.{◌≡◌, length, map, Some, None, IfOk};
+ghost use Rattle.std.specs.Bool.{OnTrue};
+ghost use Rattle.std.specs.Option.{option_copied};
+ghost use Rattle.buffer_rules.specs.Sheets.{blank};
+ghost use Rattle.sheet_edits.specs.OpenSheet.{OpenSheet};
+ghost use Rattle.sheet_edits.specs.Within.{AreWithin, IsWhole};
+
+use buffer_rules::Sheet;
+use command_spans::Spans;
+use doc_nodes::{Aliases, Shared};
+use sqlite_items::Items;
+use std::alloc::{AllocError, Global};
+use std::marker::Model;
+use text_edits::Text;
+
+/// A node as the editor has it: its sheet, the spans of its text, and the aliases under which the
+/// commands of the version's node were cut from it. Where there are none they have to be cut.
+#[derive(Drop)]
+pub struct OpenNode {
+    sheet: Sheet,
+    spans: Shared<Spans>,
+    cut_under: Option<Shared<Aliases>>,
+}
+
+impl Model for OpenNode {
+    ghost use Rattle.sheet_edits.specs.OpenSheet.{OpenSheet};
+    ghost use Rattle.sheet_edits.specs.Within.{IsWhole};
+
+    ghost Value = { OpenSheet };
+
+    ghost view = { λ opened. record { sheet = opened.sheet; cut_under = opened.cut_under } };
+
+    ghost invariant = { λ opened. IsWhole opened.sheet opened.spans.text };
+}
+
+impl OpenNode {
+    /// A node with an empty text, not required, nothing visible.
+    pub fn blank(alloc: Global) -> Result<OpenNode, AllocError>
+        ensures { IfOk result (λ opened. opened ≡ record { sheet = blank; cut_under = None }) }
+    {
+        let spans = Spans::of(alloc, Text::new(alloc), &[])?;
+        Ok(OpenNode {
+            sheet: Sheet {
+                text: shared(alloc, Text::new(alloc))?,
+                required: false,
+                ranges: shared(alloc, Items::new(alloc))?,
+            },
+            spans: shared(alloc, spans)?,
+            cut_under: None,
+        })
+    }
+
+    /// The same node, in the same memory.
+    pub fn copy(&self) -> Result<OpenNode, AllocError>
+        ensures { IfOk result (λ opened. opened ≡ self.now) }
+    {
+        Ok(OpenNode {
+            sheet: copied(&self.sheet)?,
+            spans: self.spans.copy()?,
+            cut_under: copied_aliases(&self.cut_under)?,
+        })
+    }
+
+    /// What the editor has of it.
+    pub fn sheet(&self) -> &Sheet
+        ensures { result.now ≡ self.now.sheet }
+    {
+        &self.sheet
+    }
+
+    /// The aliases under which its commands were cut.
+    pub fn cut_under(&self) -> Option<&Shared<Aliases>>
+        ensures { option_copied result ≡ self.now.cut_under }
+    {
+        self.cut_under.as_ref()
+    }
+
+    /// The spans of its text, under some aliases.
+    pub(crate) fn spans(&self) -> &Shared<Spans>
+        ensures text { result.now.text ≡ self.now.sheet.text }
+        ensures ranges { AreWithin (length self.now.sheet.text) self.now.sheet.ranges }
+    {
+        &self.spans
+    }
+
+    /// The spans of its text under these aliases: those that it has, where they are under these.
+    pub fn spans_under(&self, alloc: Global, aliases: &Aliases) -> Result<Shared<Spans>, AllocError>
+        ensures { IfOk result (λ spans. spans ≡ record {
+          text = self.now.sheet.text;
+          aliases = map (λ pair. pair.0) aliases.now;
+        }) }
+    {
+        let spans = self.spans.get();
+        if same_names(spans.aliases(), aliases.names()) {
+            return self.spans.copy();
+        }
+        let text = spans.text().copy(alloc)?;
+        shared(alloc, Spans::of(alloc, text, aliases.names())?)
+    }
+
+    /// The same node, after its commands were cut under these aliases, with the spans that it has
+    /// then.
+    pub fn with_cut(
+        &self,
+        spans: Shared<Spans>,
+        aliases: Shared<Aliases>,
+    ) -> Result<OpenNode, AllocError>
+        requires { spans.text ≡ self.now.sheet.text }
+        ensures { IfOk result (λ opened. opened ≡ record {
+          sheet = self.now.sheet;
+          cut_under = Some aliases;
+        }) }
+    {
+        Ok(OpenNode {
+            sheet: copied(&self.sheet)?,
+            spans,
+            cut_under: Some(aliases),
+        })
+    }
+
+    /// A node of this sheet, whose commands have to be cut.
+    pub(crate) fn uncut(sheet: Sheet, spans: Shared<Spans>) -> OpenNode
+        requires { IsWhole sheet spans.text }
+        ensures { result ≡ record { sheet = sheet; cut_under = None } }
+    {
+        OpenNode {
+            sheet,
+            spans,
+            cut_under: None,
+        }
+    }
+}
+
+/// The value in memory that can be shared.
+pub(crate) fn shared<T: Drop>(alloc: Global, value: T) -> Result<Shared<T>, AllocError>
+    ensures { IfOk result (λ shared. shared ≡ value) }
+{
+    match Shared::new(alloc, value) {
+        Ok(shared) => Ok(shared),
+        Err(_) => Err(AllocError),
+    }
+}
+
+/// The same sheet, in the same memory.
+fn copied(sheet: &Sheet) -> Result<Sheet, AllocError>
+    ensures { IfOk result (λ copy. copy ≡ sheet.now) }
+{
+    Ok(Sheet {
+        text: sheet.text.copy()?,
+        required: sheet.required,
+        ranges: sheet.ranges.copy()?,
+    })
+}
+
+/// The same aliases, in the same memory, if there are some.
+fn copied_aliases(aliases: &Option<Shared<Aliases>>) -> Result<Option<Shared<Aliases>>, AllocError>
+    ensures { IfOk result (λ copy. copy ≡ aliases.now) }
+{
+    match aliases {
+        Some(aliases) => Ok(Some(aliases.copy()?)),
+        None => Ok(None),
+    }
+}
+
+/// Whether both lists have the same names in the same order.
+fn same_names(names: &[Items<char>], others: &[Items<char>]) -> bool
+    ensures { OnTrue result (names.now ≡ others.now) }
+{
+    if names.len() != others.len() {
+        return false;
+    }
+    for (i, name) in names.iter().enumerate() {
+        if name.as_slice() != others[i].as_slice() {
+            return false;
+        }
+    }
+    true
+}
