@@ -1,0 +1,13 @@
+use Rattle.std.proofs.Common.{◌≡◌, ◌≤◌, ◌+◌, length}
+use Rattle.isar_rules.specs.BlobLines.{lines_of, facts_from, facts_of}
+use Rattle.blob_facts.specs.Listing.{joined}
+use Rattle.blob_facts.proofs.listing.facts_of.Given as goal
+
+abbrev pub invariant-lines : goal.invariant-lines
+invariant-lines l = record {
+  within : l.number + length l.rest ≤ length l.text + 1;
+  told : joined l.facts (facts_from l.number (lines_of l.rest)) ≡ facts_of l.text;
+}
+
+abbrev pub decreases-lines : goal.decreases-lines
+decreases-lines l = length l.rest

@@ -1,0 +1,177 @@
+//! Reports of commands.
+ghost use Rattle.std.specs.Prelude.{◌≡◌, ◌∷◌, [], IfOk, decimal, string_bytes};
+ghost use Rattle.report_markup.specs.declared.kind.ReportKind.TheVariants as kinds;
+ghost use Rattle.isar_rules.specs.Reports.{report, theory_is, name_is, whole, announced, error_report};
+ghost use Rattle.isar_rules.specs.Reports.{theory_report, import_report, def_report, local_report, formula_report};
+
+use crate::texts::{ascii, plain};
+use isar_rules::Spot;
+use itoa::Buffer;
+use nj_formula::Formula;
+use outer_tokens::{Kind, Token, scalars};
+use pide_base::Range;
+use printed_texts::formula_text;
+use report_markup::{PlainText, Property, PropertyKey, Report, ReportKind};
+use sqlite_items::Items;
+use std::alloc::{AllocError, Global};
+
+/// What names something.
+fn name_is(alloc: Global, name: &[char]) -> Result<Property, AllocError>
+    ensures { IfOk result (λ property. property ≡ name_is name.now) }
+{
+    Ok(Property {
+        key: PropertyKey::Name,
+        value: plain(alloc, ascii(alloc, name)?)?,
+    })
+}
+
+/// What names a fact's theory.
+fn theory_is(alloc: Global, name: &str) -> Result<Property, AllocError>
+    ensures { IfOk result (λ property. property ≡ theory_is name.now) }
+{
+    Ok(Property {
+        key: PropertyKey::Theory,
+        value: plain(alloc, String::from_str(alloc, name)?)?,
+    })
+}
+
+/// A report of this kind that names something.
+fn naming(
+    alloc: Global,
+    kind: ReportKind,
+    range: Range,
+    name: &[char],
+) -> Result<Report, AllocError>
+    ensures { IfOk result (λ r. r ≡ report kind range (name_is name.now ∷ []) []) }
+{
+    let mut properties = Items::new(alloc);
+    properties.push(name_is(alloc, name)?)?;
+    Ok(Report {
+        range,
+        kind,
+        properties,
+        text: PlainText::empty(),
+    })
+}
+
+/// A report of this kind that has a text.
+fn saying(alloc: Global, kind: ReportKind, range: Range, text: PlainText) -> Report
+    ensures { result ≡ report kind range [] text }
+{
+    Report {
+        range,
+        kind,
+        properties: Items::new(alloc),
+        text,
+    }
+}
+
+/// All of a command's source.
+fn whole(source: &[char]) -> Range
+    ensures { result ≡ whole source.now }
+{
+    Range {
+        start: 0,
+        stop: source.len(),
+    }
+}
+
+/// The command of these tokens, by the word that is written; what begins with no command has none.
+pub fn announced(
+    alloc: Global,
+    source: &[char],
+    tokens: &[Token],
+) -> Result<Items<Report>, AllocError>
+    ensures { IfOk result (λ reports. reports ≡ announced source.now tokens.now) }
+{
+    let mut reports = Items::new(alloc);
+    let [first, _more @ ..] = tokens else {
+        return Ok(reports);
+    };
+    if matches!(first.kind, Kind::Command) {
+        let word = scalars(source, first.range);
+        reports.push(naming(alloc, ReportKind::Command, first.range, word)?)?;
+    }
+    Ok(reports)
+}
+
+/// An error of the command of this source.
+pub fn error_report(alloc: Global, source: &[char], text: String) -> Result<Report, AllocError>
+    ensures { IfOk result (λ r. r ≡ error_report source.now (string_bytes text)) }
+{
+    let text = plain(alloc, text)?;
+    Ok(saying(alloc, ReportKind::Error, whole(source), text))
+}
+
+/// What is printed behind the command of this source.
+pub fn state_report(alloc: Global, source: &[char], text: String) -> Result<Report, AllocError>
+    ensures { IfOk result (λ r. r
+        ≡ report kinds.State (whole source.now) [] (string_bytes text)) }
+{
+    let text = plain(alloc, text)?;
+    Ok(saying(alloc, ReportKind::State, whole(source), text))
+}
+
+/// A theory's name.
+pub fn theory_report(alloc: Global, name: &Spot) -> Result<Report, AllocError>
+    ensures { IfOk result (λ r. r ≡ theory_report name.now) }
+{
+    naming(alloc, ReportKind::Theory, name.range, name.text.as_slice())
+}
+
+/// The name of an import.
+pub fn import_report(alloc: Global, name: &Spot) -> Result<Report, AllocError>
+    ensures { IfOk result (λ r. r ≡ import_report name.now) }
+{
+    naming(alloc, ReportKind::Import, name.range, name.text.as_slice())
+}
+
+/// The name of a theory's new fact.
+pub fn def_report(alloc: Global, theory: &str, name: &Spot) -> Result<Report, AllocError>
+    ensures { IfOk result (λ r. r ≡ def_report theory.now name.now) }
+{
+    let mut properties = Items::new(alloc);
+    properties.push(theory_is(alloc, theory)?)?;
+    properties.push(name_is(alloc, name.text.as_slice())?)?;
+    Ok(Report {
+        range: name.range,
+        kind: ReportKind::Def,
+        properties,
+        text: PlainText::empty(),
+    })
+}
+
+/// A new local name, where there is one.
+pub fn local_report(alloc: Global, name: &Option<Spot>) -> Result<Items<Report>, AllocError>
+    ensures { IfOk result (λ reports. reports ≡ local_report name.now) }
+{
+    let mut reports = Items::new(alloc);
+    if let Some(name) = name {
+        reports.push(naming(alloc, ReportKind::Def, name.range, name.text.as_slice())?)?;
+    }
+    Ok(reports)
+}
+
+/// How many facts were loaded, as a report of the blob's name.
+pub fn loaded_report(alloc: Global, name: &Spot, count: usize) -> Result<Report, AllocError>
+    ensures { IfOk result (λ r. r ≡ report kinds.Loaded name.now.range [] (decimal count)) }
+{
+    let text = plain(alloc, counted(alloc, count)?)?;
+    Ok(saying(alloc, ReportKind::Loaded, name.range, text))
+}
+
+/// The number in decimal.
+fn counted(alloc: Global, number: usize) -> Result<String, AllocError>
+    ensures { IfOk result (λ text. string_bytes text ≡ decimal number) }
+{
+    let mut buffer = Buffer::new();
+    String::from_str(alloc, buffer.format(number))
+}
+
+/// A formula, printed.
+pub fn formula_report(alloc: Global, quoted: &Spot, formula: &Formula) -> Result<Report, AllocError>
+    ensures { IfOk result (λ r. r ≡ formula_report quoted.now formula.now) }
+{
+    let text = plain(alloc, formula_text(alloc, formula)?)?;
+    Ok(saying(alloc, ReportKind::Formula, quoted.range, text))
+}

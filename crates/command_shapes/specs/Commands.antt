@@ -1,0 +1,19 @@
+-- Which command a word or a token begins (this project's own).
+use Rattle.std.specs.Prelude.{ℕ, if◌then◌else◌, List, drop, Option, None}
+use Rattle.shared_map.specs.Pairs.{found}
+use Rattle.outer_tokens.specs.Kinds.{is_command}
+use Rattle.outer_tokens.specs.Tokens.{text_of}
+use Rattle.outer_tokens.specs.declared.token.Token.{Token}
+use Rattle.doc_nodes.specs.Names.{in_order}
+use Rattle.doc_blobs.specs.Needs.{AliasList, meant}
+use Rattle.isar_rules.specs.declared.verb.Verb.{Verb}
+use Rattle.isar_rules.specs.Verbs.{verbs, verb_of}
+
+-- the command that a word is, but for those of theories
+abbrev pub proof_verb_of : List ℕ → Option Verb
+proof_verb_of word = found in_order word (drop 5 verbs)
+
+-- the command that a token begins
+abbrev pub verb_in : AliasList → List ℕ → Token → Option Verb
+verb_in aliases source t =
+    if is_command t.kind then verb_of (meant aliases (text_of source t)) else None

@@ -1,0 +1,5 @@
+mod LengthLemmas
+mod PrimedLemmas
+mod SpokenLemmas
+mod PrintedLemmas
+mod DescribedLemmas
