@@ -1,0 +1,3 @@
+pub mod OneText
+pub mod Lines
+pub mod Worked
