@@ -14,11 +14,9 @@ use Rattle.exec_rules.specs.Kept.{BlobList, Times, agree, same_blob, keeps, kept
 use Rattle.exec_rules.specs.Rows.{live_print, print_of, takes_print, with_prints, behind_prints}
 use Rattle.exec_rules.specs.declared.home.Input.TheVariants.{Print}
 use Rattle.exec_rules.specs.Homes.{home, print_homes}
+use Rattle.exec_rules.proofs.KnownNames.{name_itself}
 use Rattle.exec_assign.specs.Fitting.{Fit}
 use Rattle.exec_assign.specs.Untouched.{IsAlive}
-
-pub name_itself : (xs : List ℕ) → equal xs xs ≡ true
-name_itself xs = grind (arith, bytes_eq-Decides xs xs, is_eq-slice_cmp xs xs)
 
 -- where no blob changed, a command finds what it found
 blob_itself : (t : Times) → ((name : List ℕ) → agree (found in_order name t.now) (found in_order name t.before) ≡ true)

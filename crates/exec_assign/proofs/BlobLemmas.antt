@@ -9,10 +9,8 @@ use Rattle.std.specs.Option.{option_copied}
 use Rattle.shared_map.specs.Pairs.{found}
 use Rattle.doc_nodes.specs.Names.{in_order, equal}
 use Rattle.exec_rules.specs.Kept.{BlobList, Times, agree, same_blob}
+use Rattle.exec_rules.proofs.KnownNames.{name_is}
 use Rattle.exec_assign.specs.Untouched.{AreChanged}
-
-pub name_is : (xs ys : List ℕ) → equal xs ys ≡ true → xs ≡ ys
-name_is xs ys e = grind (arith, bytes_eq-Decides xs ys, is_eq-slice_cmp xs ys)
 
 not_not : (a b : Bool) → a ≡ not b → b ≡ not a
 not_not true true e = absurd (cc)

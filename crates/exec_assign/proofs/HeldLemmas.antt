@@ -16,7 +16,7 @@ use Rattle.exec_rules.specs.Rows.{live_print, live_prints, print_of, behind, wit
 use Rattle.exec_rules.specs.Assigning.{Update, rows_in, kept_of, greater, given, assignment}
 use Rattle.exec_assign.specs.Telling.{made_by}
 use Rattle.exec_assign.specs.Numbered.{IsHeld, AreHeld}
-use Rattle.exec_assign.proofs.BlobLemmas.{name_is}
+use Rattle.exec_rules.proofs.KnownNames.{name_is}
 use Rattle.exec_assign.proofs.RowLemmas.{behind_first}
 use Rattle.exec_assign.proofs.OldLemmas.{live_is}
 use Rattle.exec_assign.proofs.DoneLemmas.{each_assigned}

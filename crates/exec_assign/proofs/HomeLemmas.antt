@@ -13,6 +13,7 @@ use Rattle.exec_rules.specs.declared.home.Input.{Input}
 use Rattle.exec_rules.specs.declared.home.Input.TheVariants.{Next}
 use Rattle.exec_rules.specs.Kept.{BlobList}
 use Rattle.exec_rules.specs.Homes.{home, taken_up, eval_homes}
+use Rattle.exec_rules.proofs.KnownNumbers.{eval_count}
 
 pair_at : {X Y Z : Type 0} (f : X × Y → Z) (xs : List X) (ys : List Y) (n i : ℕ) (d : X) (y : Y) → i < n → i < length xs
     → slice_get ys i ≡ Some y
@@ -33,14 +34,6 @@ eval_step node blobs head vs i d input lt le at =
     let next : suc i ≡ i + 1 = omega arith in
     pair_at (λ pair. home node blobs pair.0 pair.1) node.entries (taken_up head vs) (length vs) i d input lt (omega arith) (sym at)
     ∙ ap (λ n. home node blobs (get_or node.entries i d) input ∷ drop n (eval_homes node blobs head vs)) next
-
--- there are as many as evaluations
-pub eval_count : (node : Node) (blobs : BlobList) (head : Head) (vs : List ℕ) → length vs ≤ length node.entries
-    → length (eval_homes node blobs head vs) ≡ length vs
-eval_count node blobs head vs le =
-    length-map (zip (take (length vs) node.entries) (taken_up head vs)) (λ pair. home node blobs pair.0 pair.1)
-    ∙ length-zip (take (length vs) node.entries) (taken_up head vs)
-    ∙ omega (arith, length-take-le (length vs) node.entries le, length-map vs (λ x. Next x))
 
 pub eval_over : (node : Node) (blobs : BlobList) (head : Head) (vs : List ℕ) (i : ℕ) → length vs ≤ length node.entries → length vs ≤ i
     → drop i (eval_homes node blobs head vs) ≡ []

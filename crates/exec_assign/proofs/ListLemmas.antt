@@ -21,7 +21,7 @@ use Rattle.exec_rules.specs.Listed.{Told, told, told_in, is_other, listed}
 use Rattle.exec_assign.specs.Telling.{made_by}
 use Rattle.exec_assign.specs.Told.{told_at}
 use Rattle.exec_assign.specs.Work.{HasStood}
-use Rattle.exec_assign.proofs.AgainLemmas.{name_itself}
+use Rattle.exec_rules.proofs.KnownNames.{name_itself}
 use Rattle.exec_assign.proofs.FitLemmas.{got}
 use Rattle.exec_assign.proofs.TellLemmas.{same_tells}
 

@@ -16,9 +16,10 @@ use Rattle.exec_rules.specs.Kept.{BlobList}
 use Rattle.exec_rules.specs.Rows.{evaluations, live_prints, first_print, takes_print, with_prints, behind_prints}
 use Rattle.exec_rules.specs.Homes.{home, eval_homes, print_homes}
 use Rattle.exec_rules.specs.Assigning.{Update, rows_in, kept_of, greater, head_at, given}
+use Rattle.exec_rules.proofs.KnownCounts.{greater_least, kept_of_rows, kept_of_commands}
+use Rattle.exec_rules.proofs.KnownNumbers.{print_numbers, eval_count}
 use Rattle.exec_assign.specs.Numbered.{new_evaluations, new_prints, new_of, with_numbers, AreBelow}
-use Rattle.exec_assign.proofs.HomeLemmas.{eval_count}
-use Rattle.exec_assign.proofs.OldLemmas.{AllKeep, kept_of_rows, kept_of_commands, front_old, live_old}
+use Rattle.exec_assign.proofs.OldLemmas.{AllKeep, front_old, live_old}
 use Rattle.exec_assign.proofs.WantedLemmas.{count_within}
 use Rattle.exec_assign.proofs.NumberedRows.{evaluations_made, prints_made}
 
@@ -27,26 +28,6 @@ numbers_more m [] gs = let same : m + 0 ≡ m = omega arith in ap (λ k. with_nu
 numbers_more m (h ∷ hs) gs =
     let next : m + suc (length hs) ≡ m + 1 + length hs = omega arith in
     ap (λ k. (m, h) ∷ (with_numbers (m + 1) hs ++ with_numbers k gs)) next ∙ ap (λ xs. (m, h) ∷ xs) (numbers_more (m + 1) hs gs)
-
-greater_least : (k n : ℕ) → k ≤ greater k n
-greater_least k n = go (nat_lt k n) refl
-  where
-    go : (b : Bool) → nat_lt k n ≡ b → k ≤ cond b n k
-    go true e = omega (arith, ltb-true k n e)
-    go false e = omega arith
-
--- the next number behind prints is told by their homes
-print_numbers : (node : Node) (blobs : BlobList) (es : List Entry) (vs : List ℕ) (live : List (Option ℕ)) (m : ℕ)
-    → behind_prints es vs live m ≡ m + length (print_homes node blobs es vs live)
-print_numbers node blobs [] vs live m = omega arith
-print_numbers node blobs (e ∷ es) [] live m = omega arith
-print_numbers node blobs (e ∷ es) (v ∷ vs) live m = go (takes_print e (first_print live)) (λ next. print_numbers node blobs es vs (drop 1 live) next)
-  where
-    go : (b : Bool) → ((next : ℕ) → behind_prints es vs (drop 1 live) next ≡ next + length (print_homes node blobs es vs (drop 1 live)))
-        → behind_prints es vs (drop 1 live) (cond b (suc m) m)
-        ≡ m + length (cond b (home node blobs e (Print v) ∷ []) [] ++ print_homes node blobs es vs (drop 1 live))
-    go true rest = rest (suc m) ∙ omega arith
-    go false rest = rest m
 
 module _ (all_keep : AllKeep) (u : Update) (p : ℕ) (pair : List ℕ × Node) (key : Key) (m : ℕ) (at : slice_get u.nodes p ≡ Some pair) where
   abbrev k : ℕ
@@ -71,11 +52,11 @@ module _ (all_keep : AllKeep) (u : Update) (p : ℕ) (pair : List ℕ × Node) (
   least = greater_least k (wanted_at u.nodes p)
 
   many : n ≤ length pair.1.entries
-  many = count_within u.nodes p pair k at (kept_of_commands all_keep u pair key)
+  many = count_within u.nodes p pair k at (kept_of_commands u pair key)
 
   fronts : length (map (λ (row : Row). row.evaluation) (take k (rows_in u.tip pair.0))) ≡ k
   fronts = length-map (take k (rows_in u.tip pair.0)) (λ (row : Row). row.evaluation)
-      ∙ length-take-le k (rows_in u.tip pair.0) (kept_of_rows all_keep u pair key)
+      ∙ length-take-le k (rows_in u.tip pair.0) (kept_of_rows u pair key)
 
   long : length vs ≡ n
   long = length-append (map (λ (row : Row). row.evaluation) (take k (rows_in u.tip pair.0))) (range_with_len m (n - k))

@@ -18,31 +18,6 @@ use Rattle.exec_assign.proofs.KeptLemmas.{is_kept, kept_commands, kept_rows}
 abbrev pub AllKeep : Type 0
 AllKeep = (t : Times) (es bs : List Entry) (rs : List Row) (i : ℕ) → i < kept t es bs rs → KeepsAt t es bs rs i
 
-zero_or : (b : Bool) (n m : ℕ) → n ≤ m → cond b n 0 ≤ m
-zero_or true n m le = le
-zero_or false n m le = omega arith
-
-module _ (all_keep : AllKeep) (u : Update) (pair : List ℕ × Node) (key : Key) where
-  pub kept_of_rows : kept_of u pair key ≤ length (rows_in u.tip pair.0)
-  kept_of_rows = go (assigned_in u.tip pair.0)
-    where
-      go : (o : Option Assigned) → option_map_or (λ old. cond (same_key key old.key)
-          (kept (times u) pair.1.entries (entries_in u.tip pair.0) old.rows) 0) o 0 ≤ length (option_map_or (λ a. a.rows) o [])
-      go None = omega arith
-      go (Some old) = zero_or (same_key key old.key) _ _
-          (kept_rows (times u) pair.1.entries (entries_in u.tip pair.0) old.rows _
-          (λ j lt. is_kept (times u) pair.1.entries (entries_in u.tip pair.0) old.rows j (all_keep (times u) pair.1.entries (entries_in u.tip pair.0) old.rows j lt)))
-
-  pub kept_of_commands : kept_of u pair key ≤ length pair.1.entries
-  kept_of_commands = go (assigned_in u.tip pair.0)
-    where
-      go : (o : Option Assigned) → option_map_or (λ old. cond (same_key key old.key)
-          (kept (times u) pair.1.entries (entries_in u.tip pair.0) old.rows) 0) o 0 ≤ length pair.1.entries
-      go None = omega arith
-      go (Some old) = zero_or (same_key key old.key) _ _
-          (kept_commands (times u) pair.1.entries (entries_in u.tip pair.0) old.rows _
-          (λ j lt. is_kept (times u) pair.1.entries (entries_in u.tip pair.0) old.rows j (all_keep (times u) pair.1.entries (entries_in u.tip pair.0) old.rows j lt)))
-
 pub front_old : (rows : List Row) (k first : ℕ) → ((i : ℕ) (row : Row) → slice_get rows i ≡ Some row → row.evaluation < first)
     → (i y : ℕ) → slice_get (map (λ row. row.evaluation) (take k rows)) i ≡ Some y → y < first
 front_old rows zero first old i y at = absurd (cc)

@@ -157,9 +157,3 @@ print_next node blobs es vs live i e v kept homes more all le lv ee ev ek em don
     ap (λ (xs : List Home). xs ++ rest) em
     ∙ append_assoc homes (one e v kept) rest
     ∙ ap (λ (xs : List Home). homes ++ xs) (sym here) ∙ done
-
--- there are as many evaluations as commands
-pub evaluations_long : (rows : List Row) (k n m : ℕ) → k ≤ n → k ≤ length rows → length (evaluations rows k n m) ≡ n
-evaluations_long rows k n m le lt =
-    length-append (map (λ row. row.evaluation) (take k rows)) (range_with_len m (n - k))
-    ∙ omega (arith, length-map (take k rows) (λ (row : Row). row.evaluation), length-take-le k rows lt, length-range_with_len m (n - k))

@@ -8,6 +8,7 @@ use Rattle.doc_nodes.specs.Imports.{NodeList}
 use Rattle.doc_nodes.specs.Prefix.{up_to, wanted_prefix, own_wanted}
 use Rattle.doc_nodes.specs.Wanted.{is_reached, wanted_at}
 use Rattle.exec_rules.specs.Assigning.{greater}
+use Rattle.exec_rules.proofs.KnownCounts.{all_or, greater_by}
 
 up_within : (v : Bool) (n m : ℕ) → n ≤ m → up_to v n ≤ suc m
 up_within true zero m le = omega arith
@@ -18,10 +19,6 @@ prefix_within : (es : List Entry) → wanted_prefix es ≤ length es
 prefix_within [] = omega arith
 prefix_within (e ∷ es) = up_within e.visible (wanted_prefix es) (length es) (prefix_within es)
 
-all_or : (b : Bool) (n m : ℕ) → n ≤ m → cond b m n ≤ m
-all_or true n m le = omega arith
-all_or false n m le = le
-
 -- no more are wanted than there are commands
 wanted_within : (nodes : NodeList) (p : ℕ) (pair : List ℕ × Node) → slice_get nodes p ≡ Some pair
     → wanted_at nodes p ≤ length pair.1.entries
@@ -31,10 +28,6 @@ wanted_within nodes p pair at =
     (sym at)
     (all_or (is_reached nodes p) (own_wanted pair.1) (length pair.1.entries)
     (all_or pair.1.required (wanted_prefix pair.1.entries) (length pair.1.entries) (prefix_within pair.1.entries)))
-
-greater_by : (b : Bool) (k n m : ℕ) → k ≤ m → n ≤ m → cond b n k ≤ m
-greater_by true k n m a b = b
-greater_by false k n m a b = a
 
 -- nor assigned
 pub count_within : (nodes : NodeList) (p : ℕ) (pair : List ℕ × Node) (k : ℕ) → slice_get nodes p ≡ Some pair → k ≤ length pair.1.entries

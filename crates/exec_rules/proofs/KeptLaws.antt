@@ -1,5 +1,5 @@
 -- How many commands keep their evaluations, in the subject's words.
-use Rattle.std.proofs.Common.{◌≡◌, ℕ, zero, suc, ◌<◌, ◌≤◌, Bool, true, false, cond, List, [], ◌∷◌, length, refl, ap, ◌∙◌, arith}
+use Rattle.std.proofs.Common.{◌≡◌, ℕ, zero, suc, ◌<◌, ◌≤◌, Bool, true, false, cond, List, [], ◌∷◌, refl, ap, ◌∙◌, arith}
 use Rattle.doc_nodes.specs.declared.node.Entry.{Entry}
 use Rattle.exec_rules.specs.declared.row.Row.{Row}
 use Rattle.exec_rules.specs.Kept.{Times, keeps, kept, KeepsAt}
@@ -69,22 +69,3 @@ kept_greatest t (e ∷ es) (b ∷ bs) [] (suc n) all = let at = all zero (omega 
 kept_greatest t (e ∷ es) (b ∷ bs) (r ∷ rs) (suc n) all =
     one_more (keeps t e b r) n (kept t es bs rs) (first_keeps t e b r es bs rs (all zero (omega arith)))
     (kept_greatest t es bs rs n (λ i less. rest_at t e b r es bs rs i (all (suc i) (omega arith))))
-
-within_by : (k : Bool) (n m : ℕ) → n ≤ m → cond k (suc n) 0 ≤ suc m
-within_by true n m le = omega arith
-within_by false n m le = omega arith
-
--- no more are kept than there are commands, or rows before
-pub kept_commands : (t : Times) (es bs : List Entry) (rs : List Row) → kept t es bs rs ≤ length es
-kept_commands t [] bs rs = omega arith
-kept_commands t (e ∷ es) [] rs = omega arith
-kept_commands t (e ∷ es) (b ∷ bs) [] = omega arith
-kept_commands t (e ∷ es) (b ∷ bs) (r ∷ rs) =
-    within_by (keeps t e b r) (kept t es bs rs) (length es) (kept_commands t es bs rs)
-
-pub kept_rows : (t : Times) (es bs : List Entry) (rs : List Row) → kept t es bs rs ≤ length rs
-kept_rows t [] bs rs = omega arith
-kept_rows t (e ∷ es) [] rs = omega arith
-kept_rows t (e ∷ es) (b ∷ bs) [] = omega arith
-kept_rows t (e ∷ es) (b ∷ bs) (r ∷ rs) =
-    within_by (keeps t e b r) (kept t es bs rs) (length rs) (kept_rows t es bs rs)

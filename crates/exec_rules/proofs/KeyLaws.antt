@@ -1,15 +1,13 @@
 -- Keys that are the same.
-use Rattle.std.proofs.Common.{◌≡◌, ℕ, Bool, true, false, ◌&&◌, List, [], ◌∷◌, refl, ap, sym, ◌∙◌, arith}
+use Rattle.std.proofs.Common.{◌≡◌, true, List, [], ◌∷◌, refl, ap, sym, ◌∙◌}
 use Rattle.std.proofs.lemmas.Bool.{eqb-true, eq-eqb}
-use Rattle.std.proofs.lemmas.Map.Text.{is_eq-slice_cmp}
-use Rattle.std.proofs.lemmas.Slice.Eq.{bytes_eq-Decides}
 use Rattle.text_words.proofs.KnownTests.{both-parts, both-hold}
-use Rattle.doc_nodes.specs.Names.{equal}
 use Rattle.exec_rules.specs.declared.key.Last.{Last}
 use Rattle.exec_rules.specs.declared.key.Last.TheVariants.{Empty, Open, Made}
 use Rattle.exec_rules.specs.declared.key.Key.{Key}
 use Rattle.exec_rules.specs.declared.key.Key.TheVariants.{Lasts, BadImport}
 use Rattle.exec_rules.specs.Keys.{same_last, same_lasts, same_key}
+use Rattle.exec_rules.proofs.KnownNames.{name_is, name_itself}
 
 last_is : (a b : Last) → same_last a b ≡ true → a ≡ b
 last_is Empty Empty e = refl
@@ -38,12 +36,6 @@ lasts_are (x ∷ xs) (y ∷ ys) e =
 lasts_themselves : (xs : List Last) → same_lasts xs xs ≡ true
 lasts_themselves [] = refl
 lasts_themselves (x ∷ xs) = both-hold (same_last x x) (same_lasts xs xs) (last_itself x) (lasts_themselves xs)
-
-name_is : (xs ys : List ℕ) → equal xs ys ≡ true → xs ≡ ys
-name_is xs ys e = grind (arith, bytes_eq-Decides xs ys, is_eq-slice_cmp xs ys)
-
-name_itself : (xs : List ℕ) → equal xs xs ≡ true
-name_itself xs = grind (arith, bytes_eq-Decides xs xs, is_eq-slice_cmp xs xs)
 
 pub key_is : (a b : Key) → same_key a b ≡ true → a ≡ b
 key_is (Lasts xs) (Lasts ys) e = ap Lasts (lasts_are xs ys e)

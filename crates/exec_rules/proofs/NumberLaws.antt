@@ -1,45 +1,20 @@
 -- How many numbers an update gives.
-use Rattle.std.proofs.Common.{◌≡◌, ℕ, suc, ◌+◌, ◌-◌, ◌≤◌, Bool, true, false, cond, List, [], ◌∷◌, ◌++◌, length, take, drop, Option, Some, None, refl, ◌∙◌, arith}
-use Rattle.std.proofs.lemmas.List.{length-append, length-map, length-take-le, length-drop}
-use Rattle.std.proofs.lemmas.Slice.Zip.{length-zip}
+use Rattle.std.proofs.Common.{◌≡◌, ℕ, ◌+◌, ◌-◌, ◌≤◌, List, [], ◌∷◌, length, drop, Option, Some, None, refl, ◌∙◌, arith}
+use Rattle.std.proofs.lemmas.List.{length-append, length-drop}
 use Rattle.std.specs.Prelude.{slice_get}
-use Rattle.std.specs.List.{zip}
 use Rattle.std.specs.Option.{option_map_or}
 use Rattle.doc_nodes.specs.declared.node.Entry.{Entry}
 use Rattle.doc_nodes.specs.declared.node.Node.{Node}
 use Rattle.doc_nodes.specs.Prefix.{wanted_prefix}
 use Rattle.doc_nodes.specs.Wanted.{wanted_at}
-use Rattle.exec_rules.specs.declared.home.Head.{Head}
-use Rattle.exec_rules.specs.declared.home.Input.TheVariants.{Next, Print}
 use Rattle.exec_rules.specs.declared.key.Key.{Key}
 use Rattle.exec_rules.specs.Keys.{key_of}
-use Rattle.exec_rules.specs.Kept.{BlobList}
-use Rattle.exec_rules.specs.Rows.{evaluations, live_prints, first_print, takes_print, behind_prints}
-use Rattle.exec_rules.specs.Homes.{home, taken_up, eval_homes, print_homes}
+use Rattle.exec_rules.specs.Rows.{evaluations, live_prints}
+use Rattle.exec_rules.specs.Homes.{eval_homes, print_homes}
 use Rattle.exec_rules.specs.Assigning.{Update, Work, added, rows_in, kept_of, greater, head_at, given, assign_one, assign_all}
-use Rattle.exec_rules.proofs.RowLaws.{kept_of_rows, greater_least, evaluations_long, count_within}
-
--- the next number behind the prints is told by their homes
-print_numbers : (node : Node) (blobs : BlobList) (es : List Entry) (vs : List ℕ) (live : List (Option ℕ)) (m : ℕ)
-    → behind_prints es vs live m ≡ m + length (print_homes node blobs es vs live)
-print_numbers node blobs [] vs live m = omega arith
-print_numbers node blobs (e ∷ es) [] live m = omega arith
-print_numbers node blobs (e ∷ es) (v ∷ vs) live m = go (takes_print e (first_print live))
-    (λ next. print_numbers node blobs es vs (drop 1 live) next)
-  where
-    go : (b : Bool) → ((next : ℕ) → behind_prints es vs (drop 1 live) next ≡ next + length (print_homes node blobs es vs (drop 1 live)))
-        → behind_prints es vs (drop 1 live) (cond b (suc m) m)
-        ≡ m + length (cond b (home node blobs e (Print v) ∷ []) [] ++ print_homes node blobs es vs (drop 1 live))
-    go true rest = rest (suc m) ∙ omega arith
-    go false rest = rest m
-
--- as many evaluations as there are, where there are commands for them
-eval_count : (node : Node) (blobs : BlobList) (head : Head) (vs : List ℕ) → length vs ≤ length node.entries
-    → length (eval_homes node blobs head vs) ≡ length vs
-eval_count node blobs head vs le =
-    length-map (zip (take (length vs) node.entries) (taken_up head vs)) (λ pair. home node blobs pair.0 pair.1)
-    ∙ length-zip (take (length vs) node.entries) (taken_up head vs)
-    ∙ omega (arith, length-take-le (length vs) node.entries le, length-map vs (λ x. Next x))
+use Rattle.exec_rules.proofs.KnownCounts.{kept_of_rows, greater_least, evaluations_long}
+use Rattle.exec_rules.proofs.KnownNumbers.{print_numbers, eval_count}
+use Rattle.exec_rules.proofs.RowLaws.{count_within}
 
 -- what a node is given
 given_numbers : (within : (es : List Entry) → wanted_prefix es ≤ length es) (u : Update) (p : ℕ) (pair : List ℕ × Node)

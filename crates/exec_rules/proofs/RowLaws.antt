@@ -1,9 +1,8 @@
 -- The rows of a node, in the subject's words.
 use Rattle.std.proofs.Common.{◌≡◌, ℕ, zero, suc, ◌+◌, ◌-◌, ◌<◌, ◌≤◌, Bool, true, false, cond, List, [], ◌∷◌, ◌++◌, length, map, take, drop, Option, Some, None, refl, ap, sym, subst, ◌∙◌, arith}
-use Rattle.std.proofs.lemmas.List.{length-append, length-map, length-take-le}
-use Rattle.std.proofs.lemmas.List.FromFn.{length-range_with_len}
+use Rattle.std.proofs.lemmas.List.{length-map}
 use Rattle.std.proofs.lemmas.Option.{slice_get-map, slice_get_past}
-use Rattle.std.proofs.lemmas.Bool.{ltb-true, ltb-false, false≢true}
+use Rattle.std.proofs.lemmas.Bool.{false≢true}
 use Rattle.std.specs.Prelude.{slice_get, option_map, is_some, IsSome}
 use Rattle.std.specs.List.{range_with_len}
 use Rattle.std.specs.Option.{option_map_or}
@@ -15,12 +14,9 @@ use Rattle.doc_nodes.specs.Imports.{NodeList}
 use Rattle.doc_nodes.specs.Prefix.{wanted_prefix, own_wanted}
 use Rattle.doc_nodes.specs.Wanted.{is_reached, wanted_at}
 use Rattle.exec_rules.specs.declared.key.Key.{Key}
-use Rattle.exec_rules.specs.declared.row.Assigned.{Assigned}
-use Rattle.exec_rules.specs.Keys.{same_key}
 use Rattle.exec_rules.specs.Kept.{kept}
-use Rattle.exec_rules.specs.Assigning.{Update, times, assigned_in, rows_in, entries_in, kept_of, greater, given}
-use Rattle.exec_rules.proofs.KeptLaws.{kept_commands, kept_rows}
-use Rattle.std.specs.Prelude.{nat_lt}
+use Rattle.exec_rules.specs.Assigning.{Update, rows_in, kept_of, greater, given}
+use Rattle.exec_rules.proofs.KnownCounts.{evaluations_long, kept_of_commands, kept_of_rows, all_or, greater_within, greater_least, greater_most}
 
 -- the rows have these evaluations
 pub rows_evaluate : (es : List Entry) (vs : List ℕ) (live : List (Option ℕ)) (m : ℕ) → length vs ≤ length es
@@ -89,11 +85,6 @@ live_front cancelled (x ∷ xs) (suc k) zero print old lt at live =
 live_front cancelled (x ∷ xs) (suc k) (suc i) print old lt at live =
     live_front cancelled xs k i print old (omega arith) at live
 
-pub evaluations_long : (rows : List Row) (k n m : ℕ) → k ≤ n → k ≤ length rows → length (evaluations rows k n m) ≡ n
-evaluations_long rows k n m le lt =
-    length-append (map (λ row. row.evaluation) (take k rows)) (range_with_len m (n - k))
-    ∙ omega (arith, length-map (take k rows) (λ (row : Row). row.evaluation), length-take-le k rows lt, length-range_with_len m (n - k))
-
 -- a list's front, and what stands behind it
 pub front_at : (xs : List Row) (ys : List ℕ) (k i : ℕ) → i < k → k ≤ length xs
     → slice_get (map (λ row. row.evaluation) (take k xs) ++ ys) i ≡ slice_get (map (λ row. row.evaluation) xs) i
@@ -124,34 +115,6 @@ behind_at (x ∷ xs) (suc k) (suc n) m (suc i) le lt in_rows =
     ∙ behind_at xs k n m i (omega arith) (omega arith) (omega arith)
     ∙ ap (λ d. Some (m + d)) nearer
 
-zero_or : (b : Bool) (n m : ℕ) → n ≤ m → cond b n 0 ≤ m
-zero_or true n m le = le
-zero_or false n m le = omega arith
-
--- no more keep their evaluations than there are commands, or rows before
-pub kept_of_commands : (u : Update) (pair : List ℕ × Node) (key : Key) → kept_of u pair key ≤ length pair.1.entries
-kept_of_commands u pair key = go (assigned_in u.tip pair.0)
-  where
-    go : (old : Option Assigned) → option_map_or (λ old. cond (same_key key old.key)
-        (kept (times u) pair.1.entries (entries_in u.tip pair.0) old.rows) 0) old 0 ≤ length pair.1.entries
-    go None = omega arith
-    go (Some old) = zero_or (same_key key old.key) _ _
-        (kept_commands (times u) pair.1.entries (entries_in u.tip pair.0) old.rows)
-
-pub kept_of_rows : (u : Update) (pair : List ℕ × Node) (key : Key) → kept_of u pair key ≤ length (rows_in u.tip pair.0)
-kept_of_rows u pair key = go (assigned_in u.tip pair.0)
-  where
-    go : (old : Option Assigned) → option_map_or (λ old. cond (same_key key old.key)
-        (kept (times u) pair.1.entries (entries_in u.tip pair.0) old.rows) 0) old 0
-        ≤ length (option_map_or (λ assigned. assigned.rows) old [])
-    go None = omega arith
-    go (Some old) = zero_or (same_key key old.key) _ _
-        (kept_rows (times u) pair.1.entries (entries_in u.tip pair.0) old.rows)
-
-all_or : (b : Bool) (n m : ℕ) → n ≤ m → cond b m n ≤ m
-all_or true n m le = omega arith
-all_or false n m le = le
-
 -- no more are wanted than there are commands
 pub wanted_commands : ((es : List Entry) → wanted_prefix es ≤ length es) → (nodes : NodeList) (p : ℕ) (pair : List ℕ × Node)
     → slice_get nodes p ≡ Some pair → wanted_at nodes p ≤ length pair.1.entries
@@ -161,27 +124,6 @@ wanted_commands within nodes p pair at =
     (sym at)
     (all_or (is_reached nodes p) (own_wanted pair.1) (length pair.1.entries)
     (all_or pair.1.required (wanted_prefix pair.1.entries) (length pair.1.entries) (within pair.1.entries)))
-
-greater_by : (b : Bool) (k n m : ℕ) → k ≤ m → n ≤ m → cond b n k ≤ m
-greater_by true k n m a b = b
-greater_by false k n m a b = a
-
-pub greater_within : (k n m : ℕ) → k ≤ m → n ≤ m → greater k n ≤ m
-greater_within k n m a b = greater_by (nat_lt k n) k n m a b
-
-least_by : (b : Bool) (k n : ℕ) → nat_lt k n ≡ b → k ≤ cond b n k
-least_by true k n e = omega (arith, ltb-true k n e)
-least_by false k n e = omega arith
-
-most_by : (b : Bool) (k n : ℕ) → nat_lt k n ≡ b → n ≤ cond b n k
-most_by true k n e = omega arith
-most_by false k n e = ltb-false k n e
-
-pub greater_least : (k n : ℕ) → k ≤ greater k n
-greater_least k n = least_by (nat_lt k n) k n refl
-
-pub greater_most : (k n : ℕ) → n ≤ greater k n
-greater_most k n = most_by (nat_lt k n) k n refl
 
 -- the rows that a node is given
 abbrev rows_given : Update → ℕ → List ℕ × Node → Key → ℕ → List Row

@@ -61,7 +61,7 @@ pub fn rows_law()
     prefix_law();
 }
 
-/// Each new number is given once, and has a home: they are as many as the homes.
+/// An update gives as many new numbers as new executions have homes.
 pub fn numbers_law()
     ensures { (u : Update) (next : ℕ)
         → (assignment u next).next ≡ next + length (assignment u next).homes }

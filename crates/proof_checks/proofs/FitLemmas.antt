@@ -1,4 +1,5 @@
 -- The parts of a rule fit its goal.
+use Rattle.std.proofs.lemmas.Bool.{and_parts}
 use Rattle.std.proofs.Common.{◌≡◌, ℕ, Bool, true, false, cond, ◌&&◌, List, Option, Some, None, Result, Ok, Err, refl, sym, ◌∙◌, ap, subst}
 use Rattle.nj_formula.specs.declared.argument.Argument.{Argument}
 use Rattle.nj_formula.specs.declared.argument.Argument.TheVariants.{Free}
@@ -43,10 +44,6 @@ fits_planned s t g fits e = subst (λ x. Fits x g) (same_step e) fits
 chosen : (b : Bool) (row step : Step) (r : Rule) → ◌≡◌ {A = Planned} (cond b (Ok row) (misfit r)) (Ok step) → (b ≡ true) × (row ≡ step)
 chosen true row step r e = (refl, same_step e)
 chosen false row step r e = cc
-
-both_true : (a b : Bool) → (a && b) ≡ true → (a ≡ true) × (b ≡ true)
-both_true true b e = (refl, e)
-both_true false b e = cc
 
 module _ (g : Statement) (step : Step) where
   conj_i_fits : (t u : Term) (l : Formula-F Formula) → g ≡ says l → conj_i t u l ≡ Ok step → Fits step g
@@ -96,7 +93,7 @@ all_e_fits : (step : Step) (quoted : Formula) (s : Argument) (t : Term) (goal : 
 unfolding Fits FitsOne FitsTwo FitsThree
 all_e_fits step quoted s t goal (Formula-F.All y p) is e =
     let w = chosen (is_closed s && is_same (meaning goal) (meaning (formula_instance s p))) (One (AllE s) (part t quoted)) step R.AllE e in
-    let tests = both_true (is_closed s) (is_same (meaning goal) (meaning (formula_instance s p))) w.0 in
+    let tests = and_parts (is_closed s) (is_same (meaning goal) (meaning (formula_instance s p))) w.0 in
     subst (λ x. Fits x (meaning goal)) w.1 (meaning p, is, same_is _ _ tests.1 ∙ instance_says s p, tests.0)
 all_e_fits step quoted s t goal _ is e = cc
 

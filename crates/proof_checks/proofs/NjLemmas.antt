@@ -7,6 +7,7 @@ use Rattle.nj_kernel.specs.Nj.{Nj}
 use Rattle.nj_kernel.specs.Nj as N
 use Rattle.nj_kernel.specs.Sets.{members, ◌∪◌, ◌∖◌, Lists}
 use Rattle.theory_ctx.specs.declared.local.Local.{Local}
+use Rattle.proof_state.proofs.KnownSets.{lists_both}
 use Rattle.proof_checks.specs.declared.step.Unary.{Unary}
 use Rattle.proof_checks.specs.declared.step.Unary.TheVariants.{ConjE1, ConjE2, DisjI1, DisjI2, ImpI, NotI, FalseE, AllI, AllE, ExI}
 use Rattle.proof_checks.specs.declared.step.Binary.{Binary}
@@ -22,9 +23,6 @@ itself s f = (λ m. m, λ m. m)
 
 turned : {P Q : Statement → Type 0} → Same P Q → Same Q P
 turned same f = ((same f).1, (same f).0)
-
-lists_both : (s t : List Statement) → Lists (s ++ t) (members s ∪ members t)
-lists_both s t = turned (joined s t (itself s) (itself t))
 
 lists_left : (s t : List Statement) (a : Statement) → Lists (s ++ without a t) (members s ∪ (members t ∖ a))
 lists_left s t a = turned (joined s (without a t) (itself s) (left_out a t (itself t)))

@@ -2,6 +2,7 @@
 use Rattle.std.proofs.Common.{◌≡◌, ◌⊎◌, ◌↔◌, List, [], ◌∷◌, ◌++◌, inl, inr, ⊎_elim}
 use Rattle.nj_formula.specs.Statement.{Statement}
 use Rattle.nj_kernel.specs.Sets.{members, ◌∪◌, ◌∖◌, Lists}
+use Rattle.proof_state.proofs.KnownSets.{in_left, in_right, in_either}
 use Rattle.proof_checks.specs.Statements.{without}
 use Rattle.proof_checks.proofs.StatementLemmas.{lists_without}
 
@@ -14,19 +15,6 @@ along s lists same f = (λ m. (same f).0 ((lists f).0 m), λ q. (lists f).1 ((sa
 
 pub both : {P Q R : Statement → Type 0} → Same P Q → Same Q R → Same P R
 both one two f = (λ p. (two f).0 ((one f).0 p), λ r. (one f).1 ((two f).1 r))
-
-in_left : (s t : List Statement) (f : Statement) → members s f → members (s ++ t) f
-in_left [] t f m = elim m [ ]
-in_left (g ∷ s) t f m = ⊎_elim (λ e. inl e) (λ n. inr (in_left s t f n)) m
-
-in_right : (s t : List Statement) (f : Statement) → members t f → members (s ++ t) f
-in_right [] t f m = m
-in_right (g ∷ s) t f m = inr (in_right s t f m)
-
-pub in_either : (s t : List Statement) (f : Statement) → members (s ++ t) f → members s f ⊎ members t f
-in_either [] t f m = inr m
-in_either (g ∷ s) t f m =
-    ⊎_elim (λ e. inl (inl e)) (λ n. ⊎_elim (λ l. inl (inr l)) (λ r. inr r) (in_either s t f n)) m
 
 -- either set is what its list lists
 pub joined : {P Q : Statement → Type 0} (s t : List Statement) → Same P (members s) → Same Q (members t) → Same (P ∪ Q) (members (s ++ t))

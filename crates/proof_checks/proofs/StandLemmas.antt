@@ -20,7 +20,7 @@ use Rattle.proof_checks.specs.declared.step.Binary.TheVariants.{ExE}
 use Rattle.proof_checks.specs.Checks.{Found, and_then, cited, if_fresh, by_one, by_two, by_three, of_part, of_step, step_within, checked_within}
 use Rattle.proof_checks.specs.Scopes.{inside, remaining, Stands}
 use Rattle.proof_checks.specs.Statements.{is_same, is_free_among}
-use Rattle.proof_checks.proofs.SetLemmas.{in_either}
+use Rattle.proof_state.proofs.KnownSets.{in_either}
 use Rattle.proof_checks.proofs.StatementLemmas.{lists_without}
 use Rattle.proof_checks.proofs.LookLemmas.{looked_stands}
 

@@ -1,19 +1,13 @@
 -- Tests on statements and lists of them.
 use Rattle.std.proofs.Common.{◌≡◌, ◌≢◌, ◌⊎◌, ◌↔◌, ℕ, Bool, true, false, not, cond, ◌||◌, IsTrue, List, [], ◌∷◌, refl, sym, ◌∙◌, ap, subst, inl, inr, ⊎_elim}
+use Rattle.std.proofs.lemmas.Bool.{or_parts}
 use Rattle.std.specs.List.{list_any}
 use Rattle.nj_formula.specs.Statement.{Statement}
 use Rattle.nj_formula.specs.Free.{is_free}
 use Rattle.nj_kernel.specs.Sets.{members, ◌∖◌, Lists, IsFreshIn}
 use Rattle.proof_state.specs.Same.{decide, is_first}
+use Rattle.proof_state.proofs.KnownFirst.{first_is, is_first_of}
 use Rattle.proof_checks.specs.Statements.{is_same, without, is_free_among}
-
-first_is : {P : Type 0} (d : P ⊎ (P → ⊥)) → is_first d ≡ true → P
-first_is (inl p) e = p
-first_is (inr q) e = cc
-
-is_first_of : {P : Type 0} (d : P ⊎ (P → ⊥)) → P → is_first d ≡ true
-is_first_of (inl p) q = refl
-is_first_of (inr none) q = absurd (none q)
 
 pub same_is : (a b : Statement) → is_same a b ≡ true → a ≡ b
 same_is a b e = first_is (decide a b) e
@@ -41,10 +35,6 @@ lists_without a (g ∷ s) = by (lists_without a s) (decide g a)
       λ m. ⊎_elim (λ e. inl e) (λ n. inr ((rest f).1 (n, m.1))) m.0,
     )
 
-or_false : (a b : Bool) → (a || b) ≡ false → (a ≡ false) × (b ≡ false)
-or_false true b e = cc
-or_false false b e = (refl, e)
-
 both_false : (a b : Bool) → a ≡ false → b ≡ false → (a || b) ≡ false
 both_false true b e h = cc
 both_false false b e h = h
@@ -52,7 +42,7 @@ both_false false b e h = h
 pub fresh_among : (x : List ℕ) (s : List Statement) → is_free_among x s ≡ false → IsFreshIn x (members s)
 fresh_among x [] e f m = elim m [ ]
 fresh_among x (g ∷ s) e f m =
-    let parts = or_false (is_free x g) (is_free_among x s) e in
+    let parts = or_parts (is_free x g) (is_free_among x s) e in
     ⊎_elim (λ is. subst (λ h. is_free x h ≡ false) is parts.0) (λ n. fresh_among x s parts.1 f n) m
 
 pub among_fresh : (x : List ℕ) (s : List Statement) → IsFreshIn x (members s) → is_free_among x s ≡ false
@@ -62,7 +52,7 @@ among_fresh x (g ∷ s) fresh =
 
 -- what is free in none of a list with one more
 pub first_fresh : (x : List ℕ) (g : Statement) (s : List Statement) → is_free_among x (g ∷ s) ≡ false → (is_free x g ≡ false) × (is_free_among x s ≡ false)
-first_fresh x g s e = or_false (is_free x g) (is_free_among x s) e
+first_fresh x g s e = or_parts (is_free x g) (is_free_among x s) e
 
 pub more_fresh : (x : List ℕ) (g : Statement) (s : List Statement) → is_free x g ≡ false → is_free_among x s ≡ false → is_free_among x (g ∷ s) ≡ false
 more_fresh x g s e h = both_false (is_free x g) (is_free_among x s) e h
