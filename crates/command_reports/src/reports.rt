@@ -1,7 +1,9 @@
 //! Reports of commands.
-ghost use Rattle.std.specs.Prelude.{◌≡◌, ◌∷◌, [], IfOk, decimal, string_bytes};
+ghost use Rattle.std.specs.Prelude.{◌≡◌, ◌∷◌, [], Some, IfOk, decimal, string_bytes};
+ghost use Rattle.std.specs.Option.{option_copied};
 ghost use Rattle.report_markup.specs.declared.kind.ReportKind.TheVariants as kinds;
 ghost use Rattle.isar_rules.specs.Reports.{report, theory_is, name_is, whole, announced, error_report};
+ghost use Rattle.isar_rules.specs.Cites.{meant_by};
 ghost use Rattle.isar_rules.specs.Reports.{theory_report, import_report, def_report, local_report, formula_report};
 
 use crate::texts::{ascii, plain};
@@ -15,24 +17,28 @@ use report_markup::{PlainText, Property, PropertyKey, Report, ReportKind};
 use sqlite_items::Items;
 use std::alloc::{AllocError, Global};
 
+/// A property of this key.
+fn property(alloc: Global, key: PropertyKey, value: String) -> Result<Property, AllocError>
+    ensures { IfOk result (λ property. property ≡ record { key = key; value = string_bytes value }) }
+{
+    Ok(Property {
+        key,
+        value: plain(alloc, value)?,
+    })
+}
+
 /// What names something.
 fn name_is(alloc: Global, name: &[char]) -> Result<Property, AllocError>
     ensures { IfOk result (λ property. property ≡ name_is name.now) }
 {
-    Ok(Property {
-        key: PropertyKey::Name,
-        value: plain(alloc, ascii(alloc, name)?)?,
-    })
+    property(alloc, PropertyKey::Name, ascii(alloc, name)?)
 }
 
 /// What names a fact's theory.
 fn theory_is(alloc: Global, name: &str) -> Result<Property, AllocError>
     ensures { IfOk result (λ property. property ≡ theory_is name.now) }
 {
-    Ok(Property {
-        key: PropertyKey::Theory,
-        value: plain(alloc, String::from_str(alloc, name)?)?,
-    })
+    property(alloc, PropertyKey::Theory, String::from_str(alloc, name)?)
 }
 
 /// A report of this kind that names something.
@@ -141,15 +147,62 @@ pub fn def_report(alloc: Global, theory: &str, name: &Spot) -> Result<Report, Al
     })
 }
 
+/// A new local name.
+pub fn fixed_report(alloc: Global, name: &Spot) -> Result<Items<Report>, AllocError>
+    ensures { IfOk result (λ reports. reports ≡ local_report (Some name.now)) }
+{
+    let mut reports = Items::new(alloc);
+    reports.push(naming(alloc, ReportKind::Def, name.range, name.text.as_slice())?)?;
+    Ok(reports)
+}
+
 /// A new local name, where there is one.
 pub fn local_report(alloc: Global, name: &Option<Spot>) -> Result<Items<Report>, AllocError>
     ensures { IfOk result (λ reports. reports ≡ local_report name.now) }
 {
-    let mut reports = Items::new(alloc);
-    if let Some(name) = name {
-        reports.push(naming(alloc, ReportKind::Def, name.range, name.text.as_slice())?)?;
+    match name {
+        Some(name) => fixed_report(alloc, name),
+        None => Ok(Items::new(alloc)),
     }
-    Ok(reports)
+}
+
+/// What a name means that is cited: a fact of a theory, or one of the proof's own.
+fn meant_by(alloc: Global, theory: Option<&str>, name: &str) -> Result<Items<Property>, AllocError>
+    ensures { IfOk result (λ properties. properties
+        ≡ meant_by (option_copied theory.entry) name.now) }
+{
+    let mut properties = Items::new(alloc);
+    if let Some(theory) = theory {
+        properties.push(theory_is(alloc, theory)?)?;
+    }
+    let name = String::from_str(alloc, name)?;
+    properties.push(property(alloc, PropertyKey::Name, name)?)?;
+    Ok(properties)
+}
+
+/// A name that is cited, by what it means.
+pub fn ref_report(
+    alloc: Global,
+    range: Range,
+    theory: Option<&str>,
+    name: &str,
+) -> Result<Report, AllocError>
+    ensures { IfOk result (λ r. r
+        ≡ report kinds.Ref range (meant_by (option_copied theory.entry) name.now) []) }
+{
+    Ok(Report {
+        range,
+        kind: ReportKind::Ref,
+        properties: meant_by(alloc, theory, name)?,
+        text: PlainText::empty(),
+    })
+}
+
+/// The proof behind the command of this source was checked.
+pub fn proved_report(alloc: Global, source: &[char]) -> Report
+    ensures { result ≡ report kinds.Proved (whole source.now) [] [] }
+{
+    saying(alloc, ReportKind::Proved, whole(source), PlainText::empty())
 }
 
 /// How many facts were loaded, as a report of the blob's name.

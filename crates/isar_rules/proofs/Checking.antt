@@ -23,7 +23,8 @@ use Rattle.isar_rules.specs.Reports.{report, error_report, whole}
 use Rattle.isar_rules.specs.Cites.{Cited, cited_layer, refs, cited as cites}
 use Rattle.isar_rules.specs.Forks.{judged, verdict}
 use Rattle.proof_terms.specs.Texts.{fault_text}
-use Rattle.isar_rules.proofs.Printing.{out-Implies, is_first_of}
+use Rattle.proof_state.proofs.KnownFirst.{is_first_of}
+use Rattle.isar_rules.proofs.Printing.{out-Implies}
 
 out-Fact : (c : Cite) → out-Term (Fact c) ≡ Term-F.Fact c
 out-Fact c = ap out-Term (sym (rolls-Fact c)) ∙ out-roll-Term (Term-F.Fact c)

@@ -26,7 +26,7 @@ use Rattle.isar_rules.specs.Theories.{facts_or, begins, begun, has_fact, stated}
 use Rattle.isar_rules.specs.Loads.{load_made, blob_or, with_all, facts_or as listed_or}
 use Rattle.isar_rules.specs.Proofs.{Ordered, with_formula, ordered, levels_or, effect_of, stands, proof_made}
 use Rattle.isar_rules.specs.Steps.{acted}
-use Rattle.isar_rules.proofs.Tokens.{InTokens}
+use Rattle.proof_terms.specs.Cited.{IsPlaceOf}
 use Rattle.isar_rules.proofs.Good.{IsGood, good_token}
 use Rattle.isar_rules.proofs.Spots.{IfSpot, SpotsAre}
 
@@ -54,7 +54,7 @@ module _ (source : List ℕ) (tokens : List Token) where
   IsClean e = AreGood e.reports
 
   abbrev pub InSource : Range → Type 0
-  InSource = InTokens tokens
+  InSource = IsPlaceOf tokens
 
   imports-good : (imports : List Spot) → AllByRecursion (λ s. InSource s.range) imports → AreGood (map import_report imports)
   imports-good [] all = tt

@@ -12,7 +12,7 @@ use Rattle.outer_tokens.specs.Tokens.{text_of}
 use Rattle.report_markup.specs.declared.kind.ReportKind.TheVariants as kind
 use Rattle.isar_rules.specs.Reports.{report, name_is, whole, announced}
 use Rattle.isar_rules.specs.Kept.{error_at, errors_in}
-use Rattle.isar_rules.proofs.Tokens.{InTokens}
+use Rattle.proof_terms.specs.Cited.{IsPlaceOf}
 
 -- sorting keeps what holds of each
 module _ (P : Report → Type 0) where
@@ -47,14 +47,14 @@ no_errors (r ∷ rs) all = ap (λ o. cons_option o (errors_in rs)) all.0 ∙ no_
 module _ (source : List ℕ) (tokens : List Token) where
   -- a token's range, or the whole source
   abbrev pub IsPlaced : Range → Type 0
-  IsPlaced r = (r ≡ whole source) ⊎ InTokens tokens r
+  IsPlaced r = (r ≡ whole source) ⊎ IsPlaceOf tokens r
 
   pub record IsGood (r : Report) : Type 0 where
     pub placed : IsPlaced r.range
     pub quiet : IsQuiet r
 
   -- a report of a token
-  pub good_token : (r : Report) → InTokens tokens r.range → IsQuiet r → IsGood r
+  pub good_token : (r : Report) → IsPlaceOf tokens r.range → IsQuiet r → IsGood r
   good_token r here quiet = record { placed = inr here; quiet = quiet }
 
 -- the report of a command's word

@@ -7,9 +7,9 @@ use Rattle.outer_tokens.specs.Kinds.{is_command}
 use Rattle.outer_tokens.specs.declared.token.Token.{Token}
 use Rattle.report_markup.specs.declared.report.Report.{Report}
 use Rattle.report_markup.specs.Order.{report_cmp}
-use Rattle.report_markup.specs.Ranges.{AreTreelike}
+use Rattle.report_markup.specs.Ranges.{AreTreelike, IsTreelike}
 use Rattle.report_markup.specs.Sorting.{insert_if, in_order}
-use Rattle.language.specs.Laws.{LiesIn}
+use Rattle.language.specs.Laws.{LiesIn, reports_of}
 use Rattle.doc_blobs.specs.Needs.{source_tokens}
 use Rattle.isar_rules.specs.declared.shape.Shape.{Shape}
 use Rattle.isar_rules.specs.declared.state.Place.{Place}
@@ -18,20 +18,27 @@ use Rattle.isar_rules.specs.Errors.{Tried}
 use Rattle.isar_rules.specs.Reports.{announced, error_report}
 use Rattle.isar_rules.specs.Effects.{Effect}
 use Rattle.isar_rules.specs.Shapes.{shape_of}
-use Rattle.isar_rules.specs.Shown.{print}
+use Rattle.isar_rules.specs.Isar.{isar}
 use Rattle.isar_rules.specs.Steps.{tried, made_by, aliases_at, step}
-use Rattle.isar_rules.specs.Kept.{errors_in, IsDoneOrRefused, AreTidyIn}
-use Rattle.isar_rules.proofs.Tokens.{InTokens, Rises, Within, range-within, ranges-treelike, source-rises}
+use Rattle.isar_rules.specs.Kept.{errors_in, IsDoneOrRefused}
+use Rattle.proof_terms.specs.Cited.{IsPlaceOf}
+use Rattle.isar_rules.proofs.Tokens.{Rises, Within, range-within, ranges-treelike, source-rises}
 use Rattle.isar_rules.proofs.Good.{IsGood, IsQuiet, IsPlaced, sorted, joined, all_map, no_errors, good_announced, word_report}
+use Rattle.isar_rules.proofs.Citing.{fork-placed}
 use Rattle.isar_rules.proofs.Spots.{IfShape, shape-is}
 use Rattle.isar_rules.proofs.Clean.{IfTried, IsClean, InSource, acted-clean}
 
+-- reports lie in the source, and any two are equal in range, nested or disjoint
+pub record AreTidyIn (source : List ℕ) (reports : List Report) : Type 0 where
+  pub lie : AllByRecursion (LiesIn source) reports
+  pub treelike : IsTreelike reports
+
 -- each token is one of them
-weaker : (t : Token) (ts us : List Token) → AllByRecursion (λ u. InTokens ts u.range) us → AllByRecursion (λ u. InTokens (t ∷ ts) u.range) us
+weaker : (t : Token) (ts us : List Token) → AllByRecursion (λ u. IsPlaceOf ts u.range) us → AllByRecursion (λ u. IsPlaceOf (t ∷ ts) u.range) us
 weaker t ts [] all = tt
 weaker t ts (u ∷ us) all = (inr all.0, weaker t ts us all.1)
 
-all-in : (ts : List Token) → AllByRecursion (λ t. InTokens ts t.range) ts
+all-in : (ts : List Token) → AllByRecursion (λ t. IsPlaceOf ts t.range) ts
 all-in [] = tt
 all-in (t ∷ ts) = (inl refl, weaker t ts ts (all-in ts))
 
@@ -61,6 +68,10 @@ made-kept source tokens before (Err text) clean = inr (text, one-error source to
 module _ (source : List ℕ) (tokens : List Token) where
   abbrev Placed : Report → Type 0
   Placed r = IsPlaced source tokens r.range
+
+  if-forks : (forks : Bool) (rs : List Report) → AllByRecursion Placed rs → AllByRecursion Placed (if forks then rs else [])
+  if-forks true rs all = all
+  if-forks false rs all = tt
 
   made-placed : (before : State) (t : Tried Effect) → IfTried (IsClean source tokens) t → AllByRecursion Placed (made_by source tokens before t).reports
   made-placed before (Ok e) clean =
@@ -104,13 +115,17 @@ shape-clean : (source : List ℕ) (blob : Option (List ℕ)) (before : State)
 shape-clean source blob before =
     let aliases = aliases_at before.place before.aliases in
     let tokens = source_tokens aliases source in
-    tried-clean source tokens blob before.place (shape_of aliases source tokens) (shape-is (InTokens tokens) aliases source tokens (all-in tokens))
+    tried-clean source tokens blob before.place (shape_of aliases source tokens) (shape-is (IsPlaceOf tokens) aliases source tokens (all-in tokens))
 
 pub step-kept : (source : List ℕ) (blob : Option (List ℕ)) (before : State) → IsDoneOrRefused before (step source blob before)
 step-kept source blob before = made-kept source _ before _ (shape-clean source blob before)
 
-pub step-tidy : (source : List ℕ) (blob : Option (List ℕ)) (before after : State) → AreTidyIn source ((step source blob before).reports ++ print source after)
-step-tidy source blob before after =
+-- what is reported of a command, of its fork and of its print
+pub all-tidy : (source : List ℕ) (blob : Option (List ℕ)) (before : State) → AreTidyIn source (reports_of isar source blob before)
+all-tidy source blob before =
     let tokens = source_tokens (aliases_at before.place before.aliases) source in
     tidy source tokens (source-rises (aliases_at before.place before.aliases) source) _
-    (joined (Placed source tokens) _ _ (made-placed source tokens before _ (shape-clean source blob before)) (inl refl, tt))
+    (joined (Placed source tokens) _ _
+    (joined (Placed source tokens) _ _ (made-placed source tokens before _ (shape-clean source blob before))
+    (if-forks source tokens (step source blob before).forks _ (fork-placed source tokens before.place)))
+    (inl refl, tt))

@@ -4,8 +4,10 @@ mod Showing
 mod Quantified
 mod Tokens
 mod Good
+mod Citing
 mod Spots
 mod Clean
 mod Keeping
+pub mod KnownTidy
 mod Checking
 mod Forking

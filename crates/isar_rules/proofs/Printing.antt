@@ -5,6 +5,7 @@ use Rattle.nj_formula.specs.declared.formula.Formula.TheOpen.{Formula-F}
 use Rattle.nj_formula.specs.declared.formula.Formula.TheVariants.{Implies, rolls-Implies}
 use Rattle.nj_formula.specs.Meaning.{meaning}
 use Rattle.proof_state.specs.Same.{decide, is_first, says_same}
+use Rattle.proof_state.proofs.KnownFirst.{is_first_of}
 use Rattle.isar_rules.specs.Printed.{formula_text}
 use Rattle.isar_rules.specs.Small.{prop}
 use Rattle.isar_rules.specs.WorkedProofs.{not_p, itself}
@@ -39,10 +40,6 @@ ba_text = says_and 10 [] (prop (codes "B")) (prop (codes "A")) _ _ (says_atom 36
 
 pub out-Implies : (a b : Formula) → out-Formula (Implies a b) ≡ Formula-F.Implies a b
 out-Implies a b = ap out-Formula (sym (rolls-Implies a b)) ∙ out-roll-Formula (Formula-F.Implies a b)
-
-pub is_first_of : {P : Type 0} (d : P ⊎ (P → ⊥)) → P → is_first d ≡ true
-is_first_of (inl p) q = refl
-is_first_of (inr none) q = absurd (none q)
 
 pub same_itself : (f : Formula) → says_same f f ≡ true
 unfolding says_same

@@ -1,5 +1,5 @@
 -- The tokens of a source lie one behind the other, and so do their ranges.
-use Rattle.std.proofs.Common.{◌≡◌, ◌≤◌, ◌<◌, ◌⊎◌, ℕ, Bool, true, false, cond, List, [], ◌∷◌, length, map, ap, inl, inr, arith}
+use Rattle.std.proofs.Common.{◌≡◌, ◌≤◌, ◌<◌, ℕ, Bool, true, false, cond, List, [], ◌∷◌, length, map, ap, inl, inr, arith}
 use Rattle.pide_base.specs.declared.range.Range.{Range}
 use Rattle.outer_tokens.specs.Headings.{proper}
 use Rattle.outer_tokens.specs.Kinds.{is_proper}
@@ -8,12 +8,8 @@ use Rattle.outer_tokens.specs.Words.{is_in_force}
 use Rattle.outer_tokens.specs.declared.token.Token.{Token}
 use Rattle.outer_tokens.proofs.KnownLexing.{all-tokens}
 use Rattle.report_markup.specs.Ranges.{AreTreelike}
+use Rattle.proof_terms.specs.Cited.{IsPlaceOf}
 use Rattle.doc_blobs.specs.Needs.{AliasList, source_tokens}
-
--- the range is that of a token
-abbrev pub InTokens : List Token → Range → Type 0
-InTokens [] r = ⊥
-InTokens (t ∷ ts) r = (r ≡ t.range) ⊎ InTokens ts r
 
 -- tokens that are not empty, one behind the other between two places
 abbrev pub Rises : ℕ → ℕ → List Token → Type 0
@@ -50,7 +46,7 @@ pub record Within (from to : ℕ) (r : Range) : Type 0 where
   pub rises : r.start ≤ r.stop
   pub stops : r.stop ≤ to
 
-pub range-within : (from to : ℕ) (ts : List Token) (r : Range) → Rises from to ts → InTokens ts r → Within from to r
+pub range-within : (from to : ℕ) (ts : List Token) (r : Range) → Rises from to ts → IsPlaceOf ts r → Within from to r
 range-within from to [] r rises none = absurd none
 range-within from to (t ∷ ts) r rises (inl e) =
     let starts : r.start ≡ t.range.start = ap (λ x. x.start) e in
@@ -68,7 +64,7 @@ range-within from to (t ∷ ts) r rises (inr later) =
       stops = rest.stops;
     }
 
-pub ranges-treelike : (from to : ℕ) (ts : List Token) (r s : Range) → Rises from to ts → InTokens ts r → InTokens ts s → AreTreelike r s
+pub ranges-treelike : (from to : ℕ) (ts : List Token) (r s : Range) → Rises from to ts → IsPlaceOf ts r → IsPlaceOf ts s → AreTreelike r s
 ranges-treelike from to [] r s rises here there = absurd here
 ranges-treelike from to (t ∷ ts) r s rises (inl e) (inl f) =
     let one : r.start ≡ t.range.start = ap (λ x. x.start) e in

@@ -1,11 +1,9 @@
 -- What holds of every command (this project's own).
 use Rattle.std.specs.Prelude.{◌≡◌, ◌⊎◌, ℕ, false, List, [], ◌∷◌, Option, Some, None}
-use Rattle.std.specs.List.{filter_map, AllByRecursion}
+use Rattle.std.specs.List.{filter_map}
 use Rattle.report_markup.specs.declared.kind.ReportKind.{ReportKind}
 use Rattle.report_markup.specs.declared.kind.ReportKind.TheVariants.{Error}
 use Rattle.report_markup.specs.declared.report.Report.{Report}
-use Rattle.report_markup.specs.Ranges.{IsTreelike}
-use Rattle.language.specs.Laws.{LiesIn}
 use Rattle.language.specs.declared.made.Made.{Made}
 use Rattle.isar_rules.specs.declared.state.State.{State}
 use Rattle.isar_rules.specs.Steps.{after_error}
@@ -29,8 +27,3 @@ pub record LeavesState (before : State) (made : Made State) : Type 0 where
 abbrev pub IsDoneOrRefused : State → Made State → Type 0
 IsDoneOrRefused before made = (errors_in made.reports ≡ [])
     ⊎ ((text : List ℕ) × (errors_in made.reports ≡ text ∷ []) × LeavesState before made)
-
--- reports lie in the source, and any two are equal in range, nested or disjoint
-pub record AreTidyIn (source : List ℕ) (reports : List Report) : Type 0 where
-  pub lie : AllByRecursion (LiesIn source) reports
-  pub treelike : IsTreelike reports

@@ -1,10 +1,11 @@
 //! What holds of the commands.
 
-ghost use Rattle.std.specs.Prelude.{◌++◌, ℕ, List, Option};
+ghost use Rattle.std.specs.Prelude.{ℕ, List, Option};
+ghost use Rattle.language.specs.Laws.{AreTidy};
 ghost use Rattle.isar_rules.specs.declared.state.State.{State};
 ghost use Rattle.isar_rules.specs.Steps.{step};
-ghost use Rattle.isar_rules.specs.Shown.{print};
-ghost use Rattle.isar_rules.specs.Kept.{IsDoneOrRefused, AreTidyIn};
+ghost use Rattle.isar_rules.specs.Isar.{isar};
+ghost use Rattle.isar_rules.specs.Kept.{IsDoneOrRefused};
 ghost use Rattle.isar_rules.specs.Places.{EachPlace, FirstErrors};
 ghost use Rattle.isar_rules.specs.WorkedTheories.{ATheory, StatedFacts, Headers};
 ghost use Rattle.isar_rules.specs.WorkedNames.{TakenNames};
@@ -40,9 +41,8 @@ pub fn refused_law()
         → IsDoneOrRefused before (step source blob before) }
 {}
 
-/// What is reported of a command, and what is printed of it, lies in its source; any two of these
-/// reports are equal in range, nested or disjoint.
+/// What is reported of a command, by its evaluation, its fork and its print, lies in its source; any
+/// two of these reports are equal in range, nested or disjoint.
 pub fn tidy_law()
-    ensures { (source : List ℕ) (blob : Option (List ℕ)) (before after : State)
-        → AreTidyIn source ((step source blob before).reports ++ print source after) }
+    ensures { AreTidy isar }
 {}

@@ -1,9 +1,11 @@
 //! What stands between two commands.
+ghost use Rattle.std.specs.Prelude.{◌≡◌, IfOk};
 
 use doc_nodes::{Aliases, Shared};
 use nj_formula::{Formula, Name};
 use proof_state::Proof;
 use sqlite_items::Items;
+use std::alloc::{AllocError, Global};
 use theory_ctx::Ctx;
 
 /// What a node has from its imports.
@@ -20,6 +22,18 @@ pub enum Given {
 pub struct Theory {
     pub name: Name,
     pub facts: Ctx,
+}
+
+impl Theory {
+    /// The same theory, in constant time.
+    pub fn copy(&self, alloc: Global) -> Result<Theory, AllocError>
+        ensures { IfOk result (λ theory. theory ≡ self.now) }
+    {
+        Ok(Theory {
+            name: self.name.copy(alloc)?,
+            facts: self.facts.copy()?,
+        })
+    }
 }
 
 /// How far the commands of a node have come.

@@ -87,6 +87,10 @@ fn a_name_is_taken_once(rt: HostRuntime) -> Result<(), Fail> {
         Err(AddError::Taken)
     );
     assert_eq!(rt; count_told(alloc, &ctx, "A", &[("n", "A.n: A")])?, 1);
+    assert!(rt; ctx.has("A", "n"));
+    assert!(rt; !ctx.has("C", "n"));
+    ctx.set(alloc, "A", "n", atom(alloc, "D")?)?;
+    assert_eq!(rt; count_told(alloc, &ctx, "A", &[("n", "A.n: D")])?, 1);
     Ok(())
 }
 

@@ -393,7 +393,9 @@ fn a_goal_is_open_in_mode_prove_alone(rt: HostRuntime) -> Result<(), Fail> {
     let alloc = rt.alloc();
     let mut proof = Proof::start(formula(alloc, "A")?);
     assert!(rt; proof.goal().is_some());
+    assert!(rt; !proof.is_state());
     assert!(rt; proof.proof(alloc, true).is_ok());
     assert!(rt; proof.goal().is_none());
+    assert!(rt; proof.is_state());
     Ok(())
 }

@@ -1,4 +1,5 @@
 -- Showing what fits a subgoal is showing the subgoal.
+use Rattle.std.proofs.lemmas.Bool.{and_parts, or_cases}
 use Rattle.std.proofs.Common.{◌≡◌, ℕ, suc, ◌+◌, cond, arith, Bool, true, false, Some, List, [], ◌∷◌, ◌⊎◌, map, refl, sym, subst, ap, ◌∙◌, inl, inr, ⊎_elim}
 use Rattle.std.specs.Prelude.{slice_get}
 use Rattle.std.specs.List.{list_any, list_all, position_from}
@@ -21,19 +22,18 @@ use Rattle.proof_state.specs.Follows.{Follows}
 use Rattle.proof_state.specs.Worth.{Assumes, Holds, IsPartOf, IsSound}
 use Rattle.proof_state.proofs.SameLemmas.{same_is}
 use Rattle.proof_state.proofs.FollowLemmas.{monotone, all_follows}
-use Rattle.proof_state.proofs.ListLemmas.{both_true, either_true}
 
 one_of : (a : Formula) (bs : List Formula) → list_any (says_same a) bs ≡ true → members (map meaning bs) (meaning a)
 one_of a [] e = cc
 one_of a (b ∷ bs) e =
-    ⊎_elim (λ s. inl (sym (same_is a b s))) (λ s. inr (one_of a bs s)) (either_true (says_same a b) (list_any (says_same a) bs) e)
+    ⊎_elim (λ s. inl (sym (same_is a b s))) (λ s. inr (one_of a bs s)) (or_cases (says_same a b) (list_any (says_same a) bs) e)
 
 -- each of the first says what one of the second says
 all_of : (bs xs : List Formula) → list_all (λ a. list_any (says_same a) bs) xs ≡ true
     → (s : Statement) → members (map meaning xs) s → members (map meaning bs) s
 all_of bs [] e s m = elim m [ ]
 all_of bs (a ∷ xs) e s m =
-    let both = both_true (list_any (says_same a) bs) (list_all (λ b. list_any (says_same b) bs) xs) e in
+    let both = and_parts (list_any (says_same a) bs) (list_all (λ b. list_any (says_same b) bs) xs) e in
     ⊎_elim (λ same. subst (members (map meaning bs)) same (one_of a bs both.0)) (all_of bs xs both.1 s) m
 
 -- an instance at a fixed name
@@ -43,7 +43,7 @@ some_name : (Q : List ℕ → Type 0) (c p : Formula) (fixed : List (List ℕ)) 
 some_name Q c p [] each e = cc
 some_name Q c p (y ∷ fixed) each e =
     ⊎_elim (λ s. (y, each.0, same_is c (formula_instance (Free y) p) s)) (λ s. some_name Q c p fixed each.1 s)
-    (either_true (says_same c (formula_instance (Free y) p)) (list_any (λ z. says_same c (formula_instance (Free z) p)) fixed) e)
+    (or_cases (says_same c (formula_instance (Free y) p)) (list_any (λ z. says_same c (formula_instance (Free z) p)) fixed) e)
 
 module _ (P : Statement → Type 0) (block : Block) (sound : IsSound P block) (c : Formula) where
   abbrev Inner : Statement → Type 0
@@ -65,7 +65,7 @@ module _ (P : Statement → Type 0) (block : Block) (sound : IsSound P block) (c
 
   pub fits_shown : (subgoal : Subgoal) → IsPartOf block.goal subgoal → fits block c subgoal ≡ true → Follows Inner (meaning c) → Holds P subgoal
   fits_shown subgoal part e =
-      let both = both_true (concludes block.variables c subgoal) (list_all (λ a. list_any (says_same a) (assumed subgoal)) (assumptions block)) e in
+      let both = and_parts (concludes block.variables c subgoal) (list_all (λ a. list_any (says_same a) (assumed subgoal)) (assumptions block)) e in
       shown subgoal part both.0 (all_of (assumed subgoal) (assumptions block) both.1)
 
 module _ {X : Type 0} (p : X → Bool) where

@@ -1,3 +1,5 @@
+pub mod KnownSets
+pub mod KnownFirst
 mod NjLemmas
 mod FollowLemmas
 mod SameLemmas

@@ -3,14 +3,7 @@ use Rattle.std.proofs.Common.{◌≡◌, ◌≢◌, ◌⊎◌, ◌↔◌, Bool, 
 use Rattle.nj_formula.specs.declared.formula.Formula.{Formula}
 use Rattle.nj_formula.specs.Meaning.{meaning}
 use Rattle.proof_state.specs.Same.{decide, is_first, says_same}
-
-first_is : {P Q : Type 0} (d : P ⊎ Q) → is_first d ≡ true → P
-first_is (inl p) e = p
-first_is (inr q) e = cc
-
-is_first_of : {P : Type 0} (d : P ⊎ (P → ⊥)) → P → is_first d ≡ true
-is_first_of (inl p) q = refl
-is_first_of (inr none) q = absurd (none q)
+use Rattle.proof_state.proofs.KnownFirst.{first_is, is_first_of}
 
 pub same_is : (f g : Formula) → says_same f g ≡ true → meaning f ≡ meaning g
 unfolding says_same

@@ -27,6 +27,12 @@ is_closed Closed = true
 is_closed (Prove goal around) = false
 is_closed (State block around) = false
 
+-- a block is worked on, in mode state
+abbrev pub is_stated : Levels → Bool
+is_stated Closed = false
+is_stated (Prove goal around) = false
+is_stated (State block around) = true
+
 -- the goal that is open, in mode prove
 abbrev pub open_goal : Levels → Option Formula
 open_goal (Prove goal around) = Some goal

@@ -2,7 +2,7 @@ ghost use Rattle.std.specs.Prelude.{◌≡◌, [], IfOk, OnErr, string_bytes};
 ghost use Rattle.std.specs.Option.{option_copied};
 ghost use Rattle.proof_state.specs.declared.levels.Levels.TheVariants.{Prove};
 ghost use Rattle.proof_state.specs.Steps.{step, proof, fix, assume, have, show, next, qed, by};
-ghost use Rattle.proof_state.specs.Answers.{Gives, left, is_closed, open_goal};
+ghost use Rattle.proof_state.specs.Answers.{Gives, left, is_closed, is_stated, open_goal};
 ghost use Rattle.proof_state.specs.Locals.{locals_of};
 ghost use Rattle.proof_state.specs.Describes.{Describes};
 
@@ -163,6 +163,13 @@ impl Proof {
             Levels::Prove { goal, around: _ } => Some(goal),
             Levels::Closed | Levels::State { .. } => None,
         }
+    }
+
+    /// Whether it is in mode state.
+    pub fn is_state(&self) -> bool
+        ensures { result ≡ is_stated self.now }
+    {
+        matches!(&self.levels, Levels::State { .. })
     }
 
     /// What a name means here: the named assumptions and facts of the blocks from the innermost, in

@@ -5,3 +5,7 @@ mod SoundLemmas
 mod JudgedLemmas
 mod AnsweredLemmas
 mod GivenLemmas
+mod BuiltLemmas
+mod CitingLemmas
+pub mod KnownCiting
+pub mod KnownTerms

@@ -6,3 +6,4 @@ pub mod Faults
 pub mod Reading
 pub mod Answers
 pub mod Texts
+pub mod Cited

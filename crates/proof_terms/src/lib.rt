@@ -17,7 +17,7 @@ mod rule_names;
 mod term;
 
 pub use fault::{TermError, TermFault};
-pub use law::one_answer;
+pub use law::{cited_on_tokens, one_answer};
 pub use reading::read;
 pub use rule_names::rule_named;
 pub use term::{Cite, Term};

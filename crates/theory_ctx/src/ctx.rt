@@ -1,4 +1,4 @@
-ghost use Rattle.std.specs.Prelude.{◌≡◌, ℕ, List, [], ◌∷◌, ◌↔◌, Some, IsSome, IfOk, OnOk, OnErr, map, option_map, if◌then◌else◌};
+ghost use Rattle.std.specs.Prelude.{◌≡◌, ℕ, List, [], ◌∷◌, ◌↔◌, Some, IsSome, is_some, IfOk, OnOk, OnErr, map, option_map, if◌then◌else◌};
 ghost use Rattle.std.specs.List.{list_any};
 ghost use Rattle.nj_formula.specs.Meaning.{meaning};
 ghost use Rattle.nj_formula.specs.Free.{is_free};
@@ -95,15 +95,39 @@ impl Ctx {
         ensures taken { (result ≡ Err AddError.Taken) ↔ IsSome (fact_of theory.now name.now self.old) }
         ensures err { OnErr result (self.new ≡ self.old) }
     {
-        if self.fact(theory, name).is_some() {
+        if self.has(theory, name) {
             return Err(AddError::Taken);
         }
+        self.set(alloc, theory, name, formula)?;
+        Ok(())
+    }
+
+    /// Puts a fact of a theory in the place of the theory's fact of this name, if there is one. For
+    /// want of memory the context is as before.
+    pub fn set(
+        &mut self,
+        alloc: Global,
+        theory: &str,
+        name: &str,
+        formula: Formula,
+    ) -> Result<(), AllocError>
+        ensures ok { OnOk result (self.new
+            ≡ added (record { name = name.now; theory = theory.now }, formula) self.old) }
+        ensures sorted { OnOk result (IsSorted by_name self.new) }
+        ensures err { OnErr result (self.new ≡ self.old) }
+    {
         let fact = FactName {
             name: Name::new(alloc, name)?,
             theory: Name::new(alloc, theory)?,
         };
-        self.facts.set(alloc, fact, formula)?;
-        Ok(())
+        self.facts.set(alloc, fact, formula)
+    }
+
+    /// Whether the theory has a fact of this name.
+    pub fn has(&self, theory: &str, name: &str) -> bool
+        ensures { result ≡ is_some (fact_of theory.now name.now self.now) }
+    {
+        self.fact(theory, name).is_some()
     }
 
     /// The facts of all parts. Where two parts have different facts of one theory and one name, that

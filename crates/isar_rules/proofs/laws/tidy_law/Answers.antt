@@ -1,5 +1,5 @@
-use Rattle.isar_rules.proofs.Keeping.{step-tidy}
+use Rattle.isar_rules.proofs.KnownTidy.{isar_tidy}
 use Rattle.isar_rules.proofs.laws.tidy_law.Goals as goal
 
 pub returns : goal.returns
-returns c = step-tidy
+returns c = isar_tidy
