@@ -13,7 +13,8 @@ use Rattle.exec_rules.specs.Keys.{nothing}
 use Rattle.exec_rules.specs.Listed.{executions, print_list}
 use Rattle.core_rules.specs.Assigned.{assigns}
 use Rattle.core_rules.specs.FromScratch.{assigned_to}
-use Rattle.core_rules.proofs.Places.{has_both, get_within, get_there}
+use Rattle.core_rules.proofs.Places.{get_within, get_there}
+use Rattle.import_rounds.proofs.KnownRounds.{has_both}
 
 -- the execution is one of the row's
 abbrev pub IsIn : Row → ℕ → Type 0
@@ -41,7 +42,7 @@ in_print (Some q) e is = go (or_cases (e == q) false is)
     go (inl same) = ap (λ x. Some x) (sym (eqb-true e q same))
     go (inr bad) = absurd (cc)
 
-in_row : (row : Row) (e : ℕ) → has (executions row) e ≡ true → IsIn row e
+pub in_row : (row : Row) (e : ℕ) → has (executions row) e ≡ true → IsIn row e
 in_row row e is = go (or_cases (e == row.evaluation) (has (print_list row.print) e) is)
   where
     go : ((e == row.evaluation) ≡ true) ⊎ (has (print_list row.print) e ≡ true) → IsIn row e
@@ -113,7 +114,7 @@ row_in (r ∷ rows) zero row e at is =
 row_in (r ∷ rows) (suc i) row e at is =
     has_both (executions r) (flat_map executions rows) e ∙ or_right _ _ (row_in rows i row e at is)
 
-node_in : (all : List Assigned) (q i : ℕ) (row : Row) (e : ℕ)
+pub node_in : (all : List Assigned) (q i : ℕ) (row : Row) (e : ℕ)
     → slice_get (option_map_or (λ (a : Assigned). a) (slice_get all q) nothing).rows i ≡ Some row
     → has (executions row) e ≡ true → has (flat_map executions (flat_map (λ (a : Assigned). a.rows) all)) e ≡ true
 node_in [] q i row e at is = absurd (cc)

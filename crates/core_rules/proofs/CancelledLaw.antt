@@ -16,9 +16,9 @@ use Rattle.core_rules.specs.Assigned.{assigns}
 use Rattle.core_rules.specs.Parts.{forks, kinds_by}
 use Rattle.core_rules.specs.Standing.{is_finished, is_open}
 use Rattle.core_rules.specs.Doc.{Doc, dropped, assignment_of, version_of, doc}
-use Rattle.core_rules.proofs.Numbers.{numbered_within, length_grown}
+use Rattle.core_rules.proofs.KnownNumbers.{numbered_within, length_grown}
 use Rattle.core_rules.proofs.Tables.{AtMost, at_most_more}
-use Rattle.core_rules.proofs.Places.{has_both}
+use Rattle.import_rounds.proofs.KnownRounds.{has_both}
 
 -- what has an unfinished part was made
 pub opened_within : {S : Type 0} (l : Lang S) (h : List Event) (homes : List Home) (e : ℕ) → is_open l h homes e ≡ true → e ≤ length homes

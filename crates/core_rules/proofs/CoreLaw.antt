@@ -33,7 +33,7 @@ use Rattle.core_rules.proofs.FromScratchLaw.{from_scratch}
 use Rattle.core_rules.proofs.ShownLaw.{all_parts}
 
 -- the rows at the place of a name
-rows_found : (v : Version) (name : List ℕ) (q : ℕ) → place_of v.nodes name ≡ Some q → rows_in v name ≡ (assigned_to v q).rows
+pub rows_found : (v : Version) (name : List ℕ) (q : ℕ) → place_of v.nodes name ≡ Some q → rows_in v name ≡ (assigned_to v q).rows
 rows_found v name q e =
     ap (λ o. option_map_or (λ (a : Assigned). a.rows) (option_and_then (slice_get v.assigned) o) []) e
     ∙ go (slice_get v.assigned q)

@@ -16,7 +16,7 @@ use Rattle.core_rules.specs.FromScratch.{input_at}
 use Rattle.core_rules.specs.Parts.{same_part, forks, kinds_by, parts_of, sources_of, waits_for, evaluation}
 use Rattle.core_rules.specs.Ready.{is_part}
 use Rattle.core_rules.proofs.ShownLaw.{IsEval, eval_kinds}
-use Rattle.core_rules.proofs.Holders.{part_itself}
+use Rattle.core_rules.proofs.KnownParts.{part_itself}
 
 module _ {S : Type 0} (l : Lang S) (homes : List Home) where
   pub eval_input : (head : Head) (rows : List Row) (i : ℕ) → IsEval (input_at head rows i)

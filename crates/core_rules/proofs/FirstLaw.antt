@@ -14,7 +14,7 @@ use Rattle.core_rules.specs.Parts.{same_part, forks, kinds_by, parts_of}
 use Rattle.core_rules.specs.Standing.{standing, is_free}
 use Rattle.core_rules.specs.Doc.{doc}
 use Rattle.core_rules.specs.Ready.{is_part, is_wanted, has_inputs, is_ready_in, is_ready, IsFirst, all_parts, first_among, first_ready}
-use Rattle.core_rules.proofs.Numbers.{numbered_within}
+use Rattle.core_rules.proofs.KnownNumbers.{numbered_within}
 use Rattle.core_rules.proofs.FirstReady.{among, among_append, among_filter, filtered, IsLeast, first_least, least_one}
 
 -- numbers begin with one

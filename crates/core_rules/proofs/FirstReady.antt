@@ -7,7 +7,7 @@ use Rattle.pide_base.specs.declared.part.Part.{Part}
 use Rattle.exec_rules.specs.declared.version.Version.{Version}
 use Rattle.core_rules.specs.Parts.{same_part}
 use Rattle.core_rules.specs.Ready.{comes_before, sooner, first_among}
-use Rattle.core_rules.proofs.Holders.{part_is, part_itself}
+use Rattle.core_rules.proofs.KnownParts.{part_is, part_itself}
 use Rattle.core_rules.proofs.TakingOrder.{not_before, one_first, not_itself, not_both}
 
 -- the part is among these

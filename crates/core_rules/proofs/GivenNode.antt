@@ -11,29 +11,16 @@ use Rattle.exec_rules.specs.Kept.{BlobList}
 use Rattle.exec_rules.specs.Rows.{evaluations, live_prints, first_print, takes_print, behind_prints}
 use Rattle.exec_rules.specs.Homes.{home, eval_homes, print_homes}
 use Rattle.exec_rules.specs.Assigning.{Update, rows_in, given_by}
+use Rattle.exec_rules.proofs.KnownNumbers.{print_numbers}
 use Rattle.core_rules.specs.Numbered.{numbered, grown}
 use Rattle.core_rules.specs.Parts.{sources_of}
-use Rattle.core_rules.proofs.Numbers.{length_grown}
+use Rattle.core_rules.proofs.KnownNumbers.{length_grown}
 use Rattle.core_rules.proofs.Tables.{AtMost, AreOlder, older_grown}
 use Rattle.core_rules.proofs.HomedRows.{Homes, evals, Extends, evals_on, prints_on, RowsHomed}
 use Rattle.core_rules.proofs.Made.{Numbered, numbered_all}
 use Rattle.core_rules.proofs.KeptRows.{SameFront}
 use Rattle.core_rules.proofs.NodeMade.{Before, made_long, node_evals, node_homed, node_older}
 use Rattle.core_rules.proofs.Sound.{extends_grown}
-
--- the next number behind prints is told by their homes
-behind_by : (b : Bool) (h : Home) (hs : List Home) (m : ℕ) (f : ℕ → ℕ) → ((k : ℕ) → f k ≡ k + length hs)
-    → f (cond b (suc m) m) ≡ m + length (cond b (h ∷ []) [] ++ hs)
-behind_by true h hs m f rest = rest (suc m) ∙ omega arith
-behind_by false h hs m f rest = rest m
-
-print_numbers : (node : Node) (blobs : BlobList) (es : List Entry) (vs : List ℕ) (live : List (Option ℕ)) (m : ℕ)
-    → behind_prints es vs live m ≡ m + length (print_homes node blobs es vs live)
-print_numbers node blobs [] vs live m = omega arith
-print_numbers node blobs (e ∷ es) [] live m = omega arith
-print_numbers node blobs (e ∷ es) (v ∷ vs) live m =
-    behind_by (takes_print e (first_print live)) (home node blobs e (input.Print v)) (print_homes node blobs es vs (drop 1 live)) m
-    (λ k. behind_prints es vs (drop 1 live) k) (λ k. print_numbers node blobs es vs (drop 1 live) k)
 
 pub front_within : (node old : Node) (blobs before : BlobList) (k : ℕ) (es bs : List Entry)
     → SameFront node old blobs before k es bs → k ≤ length es

@@ -14,32 +14,7 @@ use Rattle.core_rules.specs.Standing.{Standing, Free, Held, Done, standing, is_f
 use Rattle.core_rules.specs.Doc.{doc}
 use Rattle.core_rules.specs.Ready.{is_part, is_wanted, has_inputs, IsFirst}
 use Rattle.core_rules.specs.Legal.{IsLegal}
-
-kind_is : (a b : PartKind) → same_kind a b ≡ true → a ≡ b
-kind_is kind.Eval kind.Eval e = refl
-kind_is kind.Eval kind.Fork e = absurd (cc)
-kind_is kind.Eval kind.Print e = absurd (cc)
-kind_is kind.Fork kind.Eval e = absurd (cc)
-kind_is kind.Fork kind.Fork e = refl
-kind_is kind.Fork kind.Print e = absurd (cc)
-kind_is kind.Print kind.Eval e = absurd (cc)
-kind_is kind.Print kind.Fork e = absurd (cc)
-kind_is kind.Print kind.Print e = refl
-
-kind_itself : (a : PartKind) → same_kind a a ≡ true
-kind_itself kind.Eval = refl
-kind_itself kind.Fork = refl
-kind_itself kind.Print = refl
-
--- the test of parts
-pub part_is : (p q : Part) → same_part p q ≡ true → p ≡ q
-part_is p q e =
-    let parts = both-parts (p.exec == q.exec) (same_kind p.kind q.kind) e in
-    ap (λ x. record { exec = x; kind = p.kind }) (eqb-true p.exec q.exec parts.0)
-    ∙ ap (λ x. record { exec = q.exec; kind = x }) (kind_is p.kind q.kind parts.1)
-
-pub part_itself : (p : Part) → same_part p p ≡ true
-part_itself p = both-hold (p.exec == p.exec) (same_kind p.kind p.kind) (eq-eqb p.exec p.exec refl) (kind_itself p.kind)
+use Rattle.core_rules.proofs.KnownParts.{part_is, part_itself}
 
 -- what a worker holds, and who holds a part, are told by each other
 abbrev pub Tells : (ℕ → Option Part) → (Part → Standing) → Type 0

@@ -13,7 +13,7 @@ use Rattle.core_rules.specs.Assigned.{command_ids}
 use Rattle.core_rules.specs.Doc.{Doc}
 use Rattle.core_rules.specs.Updates.{AllDiffer, source_in, Stood, IsOld, IsKnown, node_in}
 use Rattle.core_rules.proofs.Tables.{AtMost}
-use Rattle.core_rules.proofs.Places.{has_both}
+use Rattle.import_rounds.proofs.KnownRounds.{has_both}
 use Rattle.core_rules.proofs.SameCommands.{SameSources}
 
 -- the ids of commands

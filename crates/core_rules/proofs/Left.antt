@@ -5,7 +5,7 @@ use Rattle.core_rules.specs.declared.event.Event.{Event}
 use Rattle.core_rules.specs.declared.event.Event.TheVariants.{Claimed, Finished}
 use Rattle.core_rules.specs.Parts.{same_part}
 use Rattle.core_rules.specs.Standing.{Held, Done, standing, is_done, is_finished}
-use Rattle.core_rules.proofs.Holders.{part_is}
+use Rattle.core_rules.proofs.KnownParts.{part_is}
 use Rattle.core_rules.proofs.FirstReady.{among}
 
 -- how many of these parts are unfinished

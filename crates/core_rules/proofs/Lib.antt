@@ -1,4 +1,6 @@
-mod Numbers
+pub mod KnownNumbers
+pub mod KnownParts
+pub mod KnownStays
 mod Tables
 mod HomedRows
 mod Made
@@ -43,7 +45,6 @@ mod Blocked
 mod RestLaw
 mod SettledLaw
 mod AloneLaw
-mod StaysLaw
 mod TipLaw
 mod LiveAssigns
 mod Left
@@ -52,3 +53,8 @@ mod AssignedRows
 mod EvalParts
 mod LiveWithin
 mod LegalExample
+mod RowSources
+mod HomesLaw
+mod BegunParts
+mod PlacedOnce
+mod NamedRows

@@ -13,7 +13,7 @@ use Rattle.core_rules.specs.Parts.{same_part}
 use Rattle.core_rules.specs.Standing.{Standing, is_done}
 use Rattle.core_rules.specs.Doc.{Doc}
 use Rattle.core_rules.specs.FromScratch.{PrintIs, IsFromScratch}
-use Rattle.core_rules.proofs.Numbers.{numbered_within}
+use Rattle.core_rules.proofs.KnownNumbers.{numbered_within}
 use Rattle.core_rules.proofs.Facts.{Facts}
 use Rattle.core_rules.proofs.Sound.{IsSound}
 use Rattle.core_rules.proofs.SoundDoc.{IsSoundDoc}

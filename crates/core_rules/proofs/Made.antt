@@ -11,7 +11,7 @@ use Rattle.exec_rules.specs.Kept.{BlobList}
 use Rattle.exec_rules.specs.Homes.{home}
 use Rattle.core_rules.specs.Numbered.{numbered, grown}
 use Rattle.core_rules.specs.Parts.{sources_of}
-use Rattle.core_rules.proofs.Numbers.{numbered_newest, numbered_grown}
+use Rattle.core_rules.proofs.KnownNumbers.{numbered_newest, numbered_grown}
 use Rattle.core_rules.proofs.Tables.{AtMost, OlderFrom}
 use Rattle.core_rules.proofs.HomedRows.{Homes, EvalsHomed}
 

@@ -11,7 +11,7 @@ use Rattle.core_rules.specs.Numbered.{numbered}
 use Rattle.core_rules.specs.Parts.{sources_of, evaluation}
 use Rattle.core_rules.specs.Standing.{is_finished}
 use Rattle.core_rules.specs.Stuck.{is_marked, stuck_marks}
-use Rattle.core_rules.proofs.Numbers.{numbered_more, numbered_newest, numbered_within}
+use Rattle.core_rules.proofs.KnownNumbers.{numbered_more, numbered_newest, numbered_within}
 use Rattle.core_rules.proofs.Tables.{AtMost, AreOlder}
 
 -- what an execution takes up is older than it

@@ -10,7 +10,7 @@ use Rattle.import_rounds.specs.Rounds.{has}
 use Rattle.doc_nodes.specs.declared.node.Node.{Node}
 use Rattle.doc_nodes.specs.Names.{equal}
 use Rattle.doc_nodes.specs.Imports.{NodeList, place_of, aims_of}
-use Rattle.core_rules.proofs.SameCommands.{name_is}
+use Rattle.exec_rules.proofs.KnownNames.{name_is}
 
 -- the node of a name stands at its place
 pub record FoundAt (nodes : NodeList) (name : List ℕ) (q : ℕ) : Type 0 where
@@ -48,10 +48,6 @@ module _ {A : Type 0} where
 
 pub has_itself : (xs : List ℕ) (q : ℕ) → has (q ∷ xs) q ≡ true
 has_itself xs q = ap (λ b. b || has xs q) (eq-eqb q q refl)
-
-pub has_both : (xs ys : List ℕ) (q : ℕ) → has (xs ++ ys) q ≡ (has xs q || has ys q)
-has_both [] ys q = refl
-has_both (x ∷ xs) ys q = ap (λ b. (q == x) || b) (has_both xs ys q) ∙ sym (or_assoc (q == x) (has xs q) (has ys q))
 
 -- the places of the imports of the node at a place
 pub aims_found : (nodes all : NodeList) (p : ℕ) (pair : List ℕ × Node) → slice_get nodes p ≡ Some pair

@@ -13,14 +13,9 @@ use Rattle.exec_rules.specs.declared.row.Row.{Row}
 use Rattle.exec_rules.specs.declared.home.Input.{Input}
 use Rattle.exec_rules.specs.Kept.{Times, agree, blob_of, same_blob, keeps, kept}
 use Rattle.exec_rules.specs.Homes.{home}
+use Rattle.exec_rules.proofs.KnownNames.{name_is}
 use Rattle.core_rules.specs.Updates.{source_in}
 use Rattle.core_rules.proofs.KeptRows.{SameHome, SameFront}
-
-pub name_is : (xs ys : List ℕ) → equal xs ys ≡ true → xs ≡ ys
-name_is xs ys e = grind (arith, bytes_eq-Decides xs ys, is_eq-slice_cmp xs ys)
-
-pub name_itself : (xs : List ℕ) → equal xs xs ≡ true
-name_itself xs = grind (arith, bytes_eq-Decides xs xs, is_eq-slice_cmp xs xs)
 
 agree_is : (a b : Option (List ℕ)) → agree a b ≡ true → a ≡ b
 agree_is None None e = refl
@@ -62,22 +57,3 @@ module _ (node old : Node) (times : Times) where
   same_front (e ∷ es) (b ∷ bs) [] same = tt
   same_front (e ∷ es) (b ∷ bs) (r ∷ rs) same =
       by (keeps times e b r) e b r es bs (kept times es bs rs) refl same.0 (same_front es bs rs same.1)
-
-within_by : (k : Bool) (n m : ℕ) → n ≤ m → cond k (suc n) 0 ≤ suc m
-within_by true n m le = omega arith
-within_by false n m le = omega arith
-
--- no more are kept than there are commands, or rows before
-pub kept_commands : (t : Times) (es bs : List Entry) (rs : List Row) → kept t es bs rs ≤ length es
-kept_commands t [] bs rs = omega arith
-kept_commands t (e ∷ es) [] rs = omega arith
-kept_commands t (e ∷ es) (b ∷ bs) [] = omega arith
-kept_commands t (e ∷ es) (b ∷ bs) (r ∷ rs) =
-    within_by (keeps t e b r) (kept t es bs rs) (length es) (kept_commands t es bs rs)
-
-pub kept_rows : (t : Times) (es bs : List Entry) (rs : List Row) → kept t es bs rs ≤ length rs
-kept_rows t [] bs rs = omega arith
-kept_rows t (e ∷ es) [] rs = omega arith
-kept_rows t (e ∷ es) (b ∷ bs) [] = omega arith
-kept_rows t (e ∷ es) (b ∷ bs) (r ∷ rs) =
-    within_by (keeps t e b r) (kept t es bs rs) (length rs) (kept_rows t es bs rs)

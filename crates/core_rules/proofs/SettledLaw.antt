@@ -26,7 +26,7 @@ use Rattle.core_rules.specs.Stuck.{is_over, is_settled}
 use Rattle.core_rules.proofs.Facts.{Facts}
 use Rattle.core_rules.proofs.Sound.{IsSound}
 use Rattle.core_rules.proofs.SoundDoc.{doc_sound}
-use Rattle.core_rules.proofs.Holders.{part_itself}
+use Rattle.core_rules.proofs.KnownParts.{part_itself}
 use Rattle.core_rules.proofs.Blocked.{IsOver, blocked}
 use Rattle.core_rules.proofs.AssignedRows.{IsIn, RowAt, assigned_at_row}
 use Rattle.core_rules.proofs.RestLaw.{P, from, over, eval_parts_over}

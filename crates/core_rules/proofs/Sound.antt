@@ -14,7 +14,7 @@ use Rattle.core_rules.specs.Assigned.{command_ids}
 use Rattle.core_rules.specs.Doc.{Doc}
 use Rattle.core_rules.specs.FromScratch.{assigned_to, key_from, has_open, head_in}
 use Rattle.core_rules.specs.Updates.{AllDiffer}
-use Rattle.core_rules.proofs.Numbers.{numbered_grown}
+use Rattle.core_rules.proofs.KnownNumbers.{numbered_grown}
 use Rattle.core_rules.proofs.Tables.{AtMost, AreOlder}
 use Rattle.core_rules.proofs.HomedRows.{Extends, rows_on}
 use Rattle.core_rules.proofs.ImportAliases.{IsBare, Stands, ImportStands}

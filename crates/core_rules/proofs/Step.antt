@@ -20,13 +20,15 @@ use Rattle.core_rules.specs.FromScratch.{has_open}
 use Rattle.core_rules.specs.Updates.{FitsNode}
 use Rattle.core_rules.proofs.Tables.{AtMost, AreOlder}
 use Rattle.core_rules.proofs.Facts.{Facts}
-use Rattle.core_rules.proofs.Places.{among_by, has_both}
+use Rattle.core_rules.proofs.Places.{among_by}
+use Rattle.import_rounds.proofs.KnownRounds.{has_both}
 use Rattle.core_rules.proofs.ImportAliases.{Stands}
 use Rattle.core_rules.proofs.Sound.{IsSoundTip, stands_on, extends_grown}
 use Rattle.core_rules.proofs.Progress.{AreInside, IsDone, Progress, key_is, key_rests, assigned_other, assigned_newest, other_place}
 use Rattle.core_rules.proofs.LastWithin.{key_within}
 use Rattle.core_rules.proofs.GivenNode.{given_older, given_homed, given_long, given_next}
-use Rattle.core_rules.proofs.StepNode.{greater_least, greater_most, update, key, kept, inside, stand, before, count_within, shut}
+use Rattle.core_rules.proofs.StepNode.{update, key, kept, inside, stand, before, count_within, shut}
+use Rattle.exec_rules.proofs.KnownCounts.{greater_least, greater_most}
 
 grown_both : (xs ys zs : List Home) → grown xs (ys ++ zs) ≡ grown (grown xs ys) zs
 grown_both xs [] zs = refl

@@ -15,11 +15,12 @@ use Rattle.exec_rules.specs.declared.home.Home.{Home}
 use Rattle.exec_rules.specs.Kept.{BlobList}
 use Rattle.exec_rules.specs.Keys.{assigned_at, key_by, key_of}
 use Rattle.exec_rules.specs.Assigning.{Update, Work, greater, rows_in, kept_of, head_at}
+use Rattle.exec_rules.proofs.KnownCounts.{greater_by, greater_least, greater_most, all_or}
 use Rattle.core_rules.specs.Numbered.{numbered, grown}
 use Rattle.core_rules.specs.Doc.{Doc, update_of}
 use Rattle.core_rules.specs.FromScratch.{last_by, has_open}
 use Rattle.core_rules.specs.Updates.{FitsNode}
-use Rattle.core_rules.proofs.Numbers.{length_grown}
+use Rattle.core_rules.proofs.KnownNumbers.{length_grown}
 use Rattle.core_rules.proofs.NodeMade.{Before}
 use Rattle.core_rules.proofs.Facts.{Facts}
 use Rattle.core_rules.proofs.Places.{place_found}
@@ -30,24 +31,6 @@ use Rattle.core_rules.proofs.WantedImports.{all_shut}
 use Rattle.core_rules.proofs.Progress.{AreInside, Progress, key_is}
 use Rattle.core_rules.proofs.GivenNode.{front_within}
 
-greater_by : (b : Bool) (k n m : ℕ) → k ≤ m → n ≤ m → cond b n k ≤ m
-greater_by true k n m a b = b
-greater_by false k n m a b = a
-
-least_by : (b : Bool) (k n : ℕ) → nat_lt k n ≡ b → k ≤ cond b n k
-least_by true k n e = omega (arith, ltb-true k n e)
-least_by false k n e = omega arith
-
-most_by : (b : Bool) (k n : ℕ) → nat_lt k n ≡ b → n ≤ cond b n k
-most_by true k n e = omega arith
-most_by false k n e = ltb-false k n e
-
-pub greater_least : (k n : ℕ) → k ≤ greater k n
-greater_least k n = least_by (nat_lt k n) k n refl
-
-pub greater_most : (k n : ℕ) → n ≤ greater k n
-greater_most k n = most_by (nat_lt k n) k n refl
-
 -- where the greater of two is positive, one of them is
 pub positive_by : (k n : ℕ) → 0 < greater k n → k ≡ 0 → 0 < n
 positive_by k n lt e = go (nat_lt k n) lt
@@ -55,10 +38,6 @@ positive_by k n lt e = go (nat_lt k n) lt
     go : (b : Bool) → 0 < cond b n k → 0 < n
     go true lt = lt
     go false lt = absurd (omega (arith, e, lt))
-
-all_or : (b : Bool) (n m : ℕ) → n ≤ m → cond b m n ≤ m
-all_or true n m le = omega arith
-all_or false n m le = le
 
 module _ (facts : Facts) (d : Doc) (tip : IsSoundTip d) (nodes : NodeList) (blobs : BlobList) (w : Work)
     (front rest : List ℕ) (p : ℕ) (pair : List ℕ × Node) (at : slice_get nodes p ≡ Some pair) (fits : FitsNode d pair)

@@ -8,7 +8,7 @@ use Rattle.std.specs.Option.{option_and_then}
 use Rattle.exec_rules.specs.declared.home.Home.{Home}
 use Rattle.core_rules.specs.Numbered.{numbered, grown}
 use Rattle.core_rules.specs.Parts.{sources_of}
-use Rattle.core_rules.proofs.Numbers.{numbered_more, numbered_newest, numbered_within}
+use Rattle.core_rules.proofs.KnownNumbers.{numbered_more, numbered_newest, numbered_within}
 
 -- all of these are at most n
 abbrev pub AtMost : ℕ → List ℕ → Type 0

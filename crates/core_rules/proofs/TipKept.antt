@@ -21,7 +21,7 @@ use Rattle.core_rules.specs.Updates.{FitsNode}
 use Rattle.core_rules.proofs.Tables.{AreOlder}
 use Rattle.core_rules.proofs.HomedRows.{evals, Extends, evals_on, prints_on}
 use Rattle.core_rules.proofs.NodeMade.{Before}
-use Rattle.core_rules.proofs.SameCommands.{kept_rows}
+use Rattle.exec_rules.proofs.KnownKept.{kept_rows}
 use Rattle.core_rules.proofs.Facts.{Facts}
 use Rattle.core_rules.proofs.ImportAliases.{ImportStands}
 use Rattle.core_rules.proofs.Sound.{IsSoundAt, IsSoundTip}

@@ -18,9 +18,10 @@ use Rattle.core_rules.specs.Standing.{Free, Held, Done, standing, is_done, is_fi
 use Rattle.core_rules.specs.Doc.{Doc, dropped, assignment_of, version_of, doc}
 use Rattle.core_rules.specs.Legal.{IsLegal}
 use Rattle.core_rules.specs.Ready.{is_wanted}
-use Rattle.core_rules.proofs.Places.{has_both}
-use Rattle.core_rules.proofs.Holders.{part_is, first_free, tells_all}
-use Rattle.core_rules.proofs.StaysLaw.{parts_grown}
+use Rattle.import_rounds.proofs.KnownRounds.{has_both}
+use Rattle.core_rules.proofs.Holders.{first_free, tells_all}
+use Rattle.core_rules.proofs.KnownParts.{part_is}
+use Rattle.core_rules.proofs.KnownStays.{parts_grown}
 use Rattle.core_rules.proofs.Facts.{Facts}
 use Rattle.core_rules.proofs.SoundDoc.{doc_sound}
 use Rattle.core_rules.proofs.LiveAssigns.{pushed_assigns, filtered_assigns, has_filter}

@@ -19,11 +19,12 @@ use Rattle.core_rules.specs.Numbered.{numbered}
 use Rattle.core_rules.specs.Doc.{Doc, update_of}
 use Rattle.core_rules.specs.FromScratch.{assigned_to, key_from, has_open, head_in}
 use Rattle.core_rules.specs.Updates.{node_in, KeepsHeader, FitsNode}
-use Rattle.core_rules.proofs.Numbers.{numbered_within}
+use Rattle.core_rules.proofs.KnownNumbers.{numbered_within}
 use Rattle.core_rules.proofs.Tables.{AtMost, AreOlder}
 use Rattle.core_rules.proofs.HomedRows.{EvalsHomed, Extends}
 use Rattle.core_rules.proofs.KeptRows.{SameFront}
-use Rattle.core_rules.proofs.SameCommands.{same_front, kept_rows}
+use Rattle.core_rules.proofs.SameCommands.{same_front}
+use Rattle.exec_rules.proofs.KnownKept.{kept_rows}
 use Rattle.core_rules.proofs.KnownCommands.{same_sources, differ_at, most_at}
 use Rattle.core_rules.proofs.Facts.{Facts}
 use Rattle.core_rules.proofs.Places.{FoundAt, place_found}

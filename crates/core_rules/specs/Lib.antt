@@ -11,6 +11,8 @@ pub mod Legal
 pub mod Scratch
 pub mod Shown
 pub mod FromScratch
+pub mod Sources
+pub mod Placed
 pub mod Alone
 pub mod Small
 pub mod Worked

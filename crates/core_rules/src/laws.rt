@@ -1,23 +1,28 @@
 //! What holds of every document.
 
-ghost use Rattle.std.specs.Prelude.{◌≡◌, ◌↔◌, ℕ, ◌≤◌, true, false, List, ◌∷◌, length, slice_get, Some, None};
+ghost use Rattle.std.specs.Prelude.{◌≡◌, ◌↔◌, ℕ, ◌<◌, ◌≤◌, true, false, List, ◌∷◌, length, slice_get, Some, None};
 ghost use Rattle.import_rounds.specs.Rounds.{has};
 ghost use Rattle.pide_base.specs.declared.part.Part.{Part};
 ghost use Rattle.doc_nodes.specs.declared.node.Node.{Node};
 ghost use Rattle.doc_nodes.specs.Wanted.{wanted_at};
 ghost use Rattle.doc_versions.specs.declared.versions.Live.{Live};
+ghost use Rattle.exec_rules.specs.declared.row.Row.{Row};
 ghost use Rattle.exec_rules.specs.declared.version.Version.{Version};
+ghost use Rattle.exec_rules.specs.Assigning.{rows_in};
+ghost use Rattle.exec_rules.specs.Listed.{executions};
 ghost use Rattle.core_rules.specs.declared.event.Event.{Event};
 ghost use Rattle.core_rules.specs.declared.event.Event.TheVariants.{Update};
-ghost use Rattle.core_rules.specs.Assigned.{assigns};
+ghost use Rattle.core_rules.specs.Assigned.{assigns, is_assigned};
 ghost use Rattle.core_rules.specs.Settings.{Setting, setting};
-ghost use Rattle.core_rules.specs.Standing.{standing, Held, held, is_open, has_ended};
+ghost use Rattle.core_rules.specs.Standing.{standing, Free, Held, held, is_free, is_open, has_ended};
 ghost use Rattle.core_rules.specs.Doc.{doc};
-ghost use Rattle.core_rules.specs.Ready.{is_wanted, is_ready, IsFirst, all_parts, first_ready};
+ghost use Rattle.core_rules.specs.Ready.{is_wanted, has_inputs, is_ready, IsFirst, all_parts, first_ready};
 ghost use Rattle.core_rules.specs.Stuck.{is_settled};
 ghost use Rattle.core_rules.specs.Alone.{alone, IsAlone};
 ghost use Rattle.core_rules.specs.FromScratch.{assigned_to, AllFromScratch};
 ghost use Rattle.core_rules.specs.Legal.{IsLegal};
+ghost use Rattle.core_rules.specs.Sources.{HasHome};
+ghost use Rattle.core_rules.specs.Placed.{RowOf};
 ghost use Rattle.core_rules.specs.Shown.{parts_shown, scratch_shown};
 
 use doc_nodes::{aliases_law, order_law, prefix_law, wanted_law};
@@ -126,3 +131,49 @@ pub fn alone_law<L: Language>()
     ensures one_way { (h k : List Event) (who n : ℕ) → IsLegal L.lang k → IsAlone who h n k
         → k ≡ alone L.lang who n h }
 {}
+
+/// An execution that a live version assigns goes by something and works on something. What it takes
+/// up are older evaluations, which the version assigns as well; and a node that has no commands, and
+/// hands on how it begins, is one of the version's. Nobody works on what was not made. A
+/// part that somebody holds, or has finished, waits for nothing.
+pub fn homes_law<L: Language>()
+    ensures live { (h : List Event) (k : ℕ) (one : Live Version) (e : ℕ) → IsLegal L.lang h
+        → slice_get (doc L.lang h).live k ≡ Some one → assigns one.version e ≡ true
+        → HasHome L.lang (doc L.lang h) one.version e }
+    ensures tip { (h : List Event) (e : ℕ) → IsLegal L.lang h
+        → assigns (doc L.lang h).tip e ≡ true
+        → HasHome L.lang (doc L.lang h) (doc L.lang h).tip e }
+    ensures made { (h : List Event) (e : ℕ) → IsLegal L.lang h
+        → is_assigned (doc L.lang h).live e ≡ true → e ≤ length (doc L.lang h).homes }
+    ensures unmade { (h : List Event) (p : Part) → IsLegal L.lang h
+        → length (doc L.lang h).homes < p.exec → standing h p ≡ Free }
+    ensures begun { (h : List Event) (p : Part) → IsLegal L.lang h → is_free (standing h p) ≡ false
+        → has_inputs h (doc L.lang h).homes p ≡ true }
+{
+    order_law();
+    prefix_law();
+    wanted_law();
+    aliases_law();
+    key_law();
+}
+
+/// An execution that the tip assigns stands in one row of one node, and what stands in a row of a
+/// version is assigned.
+pub fn places_law<L: Language>()
+    ensures found { (h : List Event) (e : ℕ) → IsLegal L.lang h
+        → assigns (doc L.lang h).tip e ≡ true → RowOf (doc L.lang h).tip e }
+    ensures there { (v : Version) (name : List ℕ) (i e : ℕ) (row : Row)
+        → slice_get (rows_in v name) i ≡ Some row → has (executions row) e ≡ true
+        → assigns v e ≡ true }
+    ensures once { (h : List Event) (name other : List ℕ) (i j e : ℕ) (r s : Row)
+        → IsLegal L.lang h → slice_get (rows_in (doc L.lang h).tip name) i ≡ Some r
+        → slice_get (rows_in (doc L.lang h).tip other) j ≡ Some s
+        → has (executions r) e ≡ true → has (executions s) e ≡ true
+        → (name ≡ other) × (i ≡ j) }
+{
+    order_law();
+    prefix_law();
+    wanted_law();
+    aliases_law();
+    key_law();
+}

@@ -15,6 +15,7 @@ mod worked;
 
 pub use event::Event;
 pub use laws::{
-    alone_law, cancelled_law, core_law, covers_law, first_law, holders_law, rest_law, tip_law,
+    alone_law, cancelled_law, core_law, covers_law, first_law, holders_law, homes_law, places_law,
+    rest_law, tip_law,
 };
 pub use worked::worked_examples;

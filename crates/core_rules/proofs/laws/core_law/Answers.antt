@@ -1,6 +1,6 @@
 use Rattle.core_rules.proofs.Facts.{facts_from}
 use Rattle.core_rules.proofs.CoreLaw.{all_from_scratch, all_shown}
-use Rattle.core_rules.proofs.StaysLaw.{setting_stays}
+use Rattle.core_rules.proofs.KnownStays.{setting_stays}
 use Rattle.core_rules.proofs.laws.core_law.Goals as goal
 
 pub returns-clause-each : goal.returns-clause-each

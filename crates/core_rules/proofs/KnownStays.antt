@@ -9,14 +9,14 @@ use Rattle.core_rules.specs.Numbered.{numbered, grown}
 use Rattle.core_rules.specs.Settings.{Setting, made_of, setting_by, settings, setting}
 use Rattle.core_rules.specs.Parts.{forks, kinds_by, parts_of}
 use Rattle.core_rules.specs.Doc.{assignment_of, doc}
-use Rattle.core_rules.proofs.Numbers.{numbered_more, numbered_within}
+use Rattle.core_rules.proofs.KnownNumbers.{numbered_more, numbered_within}
 
 module _ {S : Type 0} (l : Lang S) where
-  length_settings : (homes : List Home) → length (settings l homes) ≡ length homes
+  pub length_settings : (homes : List Home) → length (settings l homes) ≡ length homes
   length_settings [] = refl
   length_settings (h ∷ hs) = ap suc (length_settings hs)
 
-  setting_more : (hs : List Home) (h : Home) (e : ℕ) → e ≤ length hs → setting l (h ∷ hs) e ≡ setting l hs e
+  pub setting_more : (hs : List Home) (h : Home) (e : ℕ) → e ≤ length hs → setting l (h ∷ hs) e ≡ setting l hs e
   setting_more hs h e le = ap (λ o. option_and_then (λ s. s) o)
       (numbered_more (settings l hs) (setting_by l (settings l hs) h) e (omega (arith, le, length_settings hs)))
 
@@ -24,7 +24,7 @@ module _ {S : Type 0} (l : Lang S) where
   setting_grown hs [] e le = refl
   setting_grown hs (h ∷ more) e le = setting_grown (h ∷ hs) more e (omega (arith, le)) ∙ setting_more hs h e le
 
-  number_grown : (hs more : List Home) (e : ℕ) → e ≤ length hs → numbered (grown hs more) e ≡ numbered hs e
+  pub number_grown : (hs more : List Home) (e : ℕ) → e ≤ length hs → numbered (grown hs more) e ≡ numbered hs e
   number_grown hs [] e le = refl
   number_grown hs (h ∷ more) e le = number_grown (h ∷ hs) more e (omega (arith, le)) ∙ numbered_more hs h e le
 

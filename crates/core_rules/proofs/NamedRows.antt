@@ -1,0 +1,117 @@
+-- Where executions stand, by the names of nodes.
+use Rattle.std.proofs.Common.{◌≡◌, ◌⊎◌, inl, inr, ℕ, zero, suc, ◌+◌, ◌<◌, Bool, true, false, cond, not, List, [], ◌∷◌, length, Option, Some, None, refl, ap, sym, subst, ◌∙◌, arith}
+use Rattle.std.proofs.lemmas.Bool.{lt-ltb, or_left, or_right, or_cases, eq-eqb, eqb-true, false≢true}
+use Rattle.std.proofs.lemmas.Option.{slice_get_within}
+use Rattle.text_words.proofs.KnownTests.{both-parts, both-hold}
+use Rattle.std.specs.Prelude.{◌==◌, ◌&&◌, slice_get, nat_lt, zip, flat_map}
+use Rattle.std.specs.List.{list_any, position_or_len}
+use Rattle.std.specs.Option.{option_map_or, option_and_then}
+use Rattle.std.specs.Ordering.{is_eq}
+use Rattle.std.specs.declared.cmp.Ordering.TheVariants.{Less}
+use Rattle.import_rounds.specs.Rounds.{has}
+use Rattle.shared_map.specs.Pairs.{IsSorted}
+use Rattle.doc_nodes.specs.declared.node.Entry.{Entry}
+use Rattle.doc_nodes.specs.declared.node.Node.{Node}
+use Rattle.doc_nodes.specs.Names.{in_order, equal}
+use Rattle.doc_nodes.specs.Imports.{NodeList, place_of}
+use Rattle.exec_rules.specs.declared.row.Row.{Row}
+use Rattle.exec_rules.specs.declared.row.Assigned.{Assigned}
+use Rattle.exec_rules.specs.declared.version.Version.{Version}
+use Rattle.exec_rules.specs.Keys.{nothing}
+use Rattle.exec_rules.specs.Assigning.{entries_at, entries_in, rows_in}
+use Rattle.exec_rules.specs.Listed.{executions, print_list}
+use Rattle.core_rules.specs.Assigned.{assigns, assigned_commands, is_visible}
+use Rattle.language.specs.Lang.{Lang}
+use Rattle.core_rules.specs.Doc.{Doc}
+use Rattle.core_rules.specs.FromScratch.{assigned_to, AllFromScratch}
+use Rattle.core_rules.specs.Placed.{RowOf}
+use Rattle.core_rules.proofs.Places.{FoundAt, place_found, get_within, get_there}
+use Rattle.exec_rules.proofs.KnownNames.{name_itself}
+use Rattle.core_rules.proofs.AssignedRows.{IsIn, RowAt, assigned_at_row, node_in}
+use Rattle.core_rules.proofs.CoreLaw.{rows_found}
+use Rattle.core_rules.proofs.PlacedOnce.{each_at, stands_once}
+
+-- names that rise: none before a node has its name
+first_named : (nodes : NodeList) (p : ℕ) (pair : List ℕ × Node) → IsSorted in_order nodes → slice_get nodes p ≡ Some pair
+    → position_or_len (λ other. equal other.0 pair.0) nodes ≡ p
+first_named [] p pair sorted at = absurd (cc)
+first_named (n ∷ ns) zero pair sorted at =
+    let same : n ≡ pair = cc in
+    ap (λ (x : List ℕ × Node). cond (not (equal n.0 x.0)) (1 + position_or_len (λ other. equal other.0 x.0) ns) 0) (sym same)
+    ∙ ap (λ b. cond (not b) (1 + position_or_len (λ other. equal other.0 n.0) ns) 0) (name_itself n.0)
+first_named (n ∷ ns) (suc p) pair sorted at =
+    let less : in_order n.0 pair.0 ≡ Less = each_at (λ other. in_order n.0 other.0 ≡ Less) ns p pair sorted.0 at in
+    let rest : 1 + position_or_len (λ other. equal other.0 pair.0) ns ≡ suc p = omega (arith, first_named ns p pair sorted.1 at) in
+    ap (λ o. cond (not (is_eq o)) (1 + position_or_len (λ other. equal other.0 pair.0) ns) 0) less ∙ rest
+
+-- so a node's place is that of its name
+pub place_named : (nodes : NodeList) (p : ℕ) (pair : List ℕ × Node) → IsSorted in_order nodes → slice_get nodes p ≡ Some pair
+    → place_of nodes pair.0 ≡ Some p
+place_named nodes p pair sorted at =
+    ap (λ i. cond (nat_lt i (length nodes)) (Some i) None) (first_named nodes p pair sorted at)
+    ∙ ap (λ b. cond b (Some p) None) (lt-ltb p (length nodes) (slice_get_within nodes p pair at))
+
+in_executions : (row : Row) (e : ℕ) → IsIn row e → has (executions row) e ≡ true
+in_executions row e (inl same) = or_left (e == row.evaluation) _ (eq-eqb e row.evaluation same)
+in_executions row e (inr printed) = or_right (e == row.evaluation) (has (print_list row.print) e)
+    (ap (λ o. has (print_list o) e) printed ∙ or_left (e == e) false (eq-eqb e e refl))
+
+-- an execution stands in a row of the node of a name
+pub found_row : (v : Version) (e : ℕ) → IsSorted in_order v.nodes → length v.assigned ≡ length v.nodes → assigns v e ≡ true → RowOf v e
+found_row v e sorted long is = record {
+  name = r.pair.0;
+  place = r.index;
+  row = r.row;
+  stands = ap (λ rows. slice_get rows r.index) (rows_found v r.pair.0 r.place (place_named v.nodes r.place r.pair sorted r.node)) ∙ r.at;
+  has_it = in_executions r.row e r.is;
+}
+  where
+    r : RowAt v (λ row. IsIn row e)
+    r = assigned_at_row v e long is
+
+-- where the rows of a name stand
+pub record RowPlace (v : Version) (name : List ℕ) (i : ℕ) (row : Row) : Type 0 where
+  pub place : ℕ
+  pub placed : place_of v.nodes name ≡ Some place
+  pub at : slice_get (assigned_to v place).rows i ≡ Some row
+
+pub row_place : (v : Version) (name : List ℕ) (i : ℕ) (row : Row) → slice_get (rows_in v name) i ≡ Some row → RowPlace v name i row
+row_place v name i row at = go (place_of v.nodes name) refl at
+  where
+    go : (o : Option ℕ) → place_of v.nodes name ≡ o
+        → slice_get (option_map_or (λ (a : Assigned). a.rows) (option_and_then (slice_get v.assigned) o) []) i ≡ Some row
+        → RowPlace v name i row
+    go None is at = absurd (cc)
+    go (Some q) is at = record {
+      place = q;
+      placed = is;
+      at = ap (λ rows. slice_get rows i) (same (slice_get v.assigned q)) ∙ at;
+    }
+      where
+        same : (o : Option Assigned) → (option_map_or (λ (a : Assigned). a) o nothing).rows ≡ option_map_or (λ (a : Assigned). a.rows) o []
+        same None = refl
+        same (Some a) = refl
+
+-- what stands in a row of a name is assigned
+pub there_row : (v : Version) (name : List ℕ) (i e : ℕ) (row : Row) → slice_get (rows_in v name) i ≡ Some row
+    → has (executions row) e ≡ true → assigns v e ≡ true
+there_row v name i e row at is =
+    let r = row_place v name i row at in node_in v.assigned r.place i row e r.at is
+
+module _ {S : Type 0} (l : Lang S) (d : Doc) (v : Version) (sorted : IsSorted in_order v.nodes) (all : AllFromScratch l d v) where
+  -- an execution stands once
+  pub named_once : (name other : List ℕ) (i j e : ℕ) (r s : Row) → slice_get (rows_in v name) i ≡ Some r
+      → slice_get (rows_in v other) j ≡ Some s → has (executions r) e ≡ true → has (executions s) e ≡ true
+      → (name ≡ other) × (i ≡ j)
+  named_once name other i j e r s at on here there =
+      let a = row_place v name i r at in
+      let b = row_place v other j s on in
+      let x = place_found v.nodes name a.place a.placed in
+      let y = place_found v.nodes other b.place b.placed in
+      let same = stands_once l d v sorted all a.place b.place i j e x.pair y.pair r s x.stands y.stands a.at b.at here there in
+      let pairs : x.pair ≡ y.pair = one_pair (slice_get v.nodes b.place) x.pair y.pair
+      (ap (slice_get v.nodes) (sym same.0) ∙ x.stands) y.stands in
+      (sym x.named ∙ ap (λ (z : List ℕ × Node). z.0) pairs ∙ y.named, same.1)
+    where
+      one_pair : (o : Option (List ℕ × Node)) (m n : List ℕ × Node) → o ≡ Some m → o ≡ Some n → m ≡ n
+      one_pair o m n p q = cc
