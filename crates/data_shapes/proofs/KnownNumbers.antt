@@ -1,7 +1,8 @@
 -- Numbers and the texts that write them.
-use Rattle.std.proofs.Common.{◌≡◌, ◌≢◌, ℕ, ◌<◌, ◌^◌, ◌&&◌, IfSome, IfNone, nat_lt, bytes_eq, if◌then◌else◌, List, Option, Some, None, decimal, refl, sym, ap, subst, ◌∙◌, arith}
+use Rattle.std.proofs.Common.{◌≡◌, ◌≢◌, ℕ, ◌<◌, ◌≤◌, ◌^◌, ◌&&◌, IfSome, IfNone, nat_lt, bytes_eq, if◌then◌else◌, List, Option, Some, None, decimal, refl, sym, ap, subst, ◌∙◌, arith}
 use Rattle.std.specs.Str.Parse.{digits_value}
 use Rattle.std.proofs.lemmas.Fmt.{decimal_is_IsNumeral}
+use Rattle.std.proofs.lemmas.Option.{same_Some}
 use Rattle.text_words.proofs.KnownTests.{both-parts, both-hold}
 use Rattle.xml_codec.specs.Data.{int_end}
 use Rattle.data_shapes.specs.Numbers.{number_of}
@@ -39,7 +40,19 @@ index_sound text n e = below_sound (2 ^ 64) (digits_value 10 text) n text e
 pub index_complete : (n : ℕ) → n < 2 ^ 64 → index_of (decimal n) ≡ Some n
 index_complete n low = below_complete (2 ^ 64) n low low
 
--- what a reader of numbers tells is the number
-pub number_told : (r : Option ℕ) (text : List ℕ) → IfSome r (λ n. (n < int_end) × (text ≡ decimal n)) → IfNone r ((n : ℕ) → n < int_end → text ≢ decimal n) → r ≡ number_of text
-number_told (Some n) text some none = sym (ap number_of some.1 ∙ number_complete n some.0)
-number_told None text some none = sym (none_found (number_of text) (λ n e. none n (number_sound text n e).0 (number_sound text n e).1))
+-- what a reader of numbers tells is the number that is printed so
+pub index_told : (r : Option ℕ) (text : List ℕ) → IfSome r (λ n. text ≡ decimal n) → IfSome r (λ n. n < 2 ^ 64)
+    → IfNone r ((n : ℕ) → n < 2 ^ 64 → text ≢ decimal n) → r ≡ index_of text
+index_told (Some n) text some small none = sym (ap index_of some ∙ index_complete n small)
+index_told None text some small none = sym (none_found (index_of text) (λ n e. none n (index_sound text n e).0 (index_sound text n e).1))
+
+same_decimals : (m n : ℕ) → m < 2 ^ 64 → n < 2 ^ 64 → decimal m ≡ decimal n → m ≡ n
+same_decimals m n small low e = same_Some m n (sym (index_complete m small) ∙ ap index_of e ∙ index_complete n low)
+
+-- a number of too many digits
+pub number_great : (text : List ℕ) (m : ℕ) → text ≡ decimal m → m < 2 ^ 64 → int_end ≤ m → None ≡ number_of text
+number_great text m e small great = sym (none_found (number_of text) (λ n found.
+    let s = number_sound text n found in
+    let low : n < int_end = s.0 in
+    let same = same_decimals m n small (omega (arith, low)) (sym e ∙ s.1) in
+    omega (arith, low, great, same)))

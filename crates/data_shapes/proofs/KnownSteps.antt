@@ -1,5 +1,5 @@
 -- Steps that found something.
-use Rattle.std.proofs.Common.{◌≡◌, Bool, true, false, if◌then◌else◌, List, [], ◌∷◌, ◌++◌, map, Option, Some, None, refl, ap, ◌∙◌, append_assoc}
+use Rattle.std.proofs.Common.{◌≡◌, Bool, true, false, if◌then◌else◌, List, [], ◌∷◌, map, Option, Some, None, refl, ap, ◌∙◌}
 use Rattle.data_shapes.specs.Each.{◌>>=◌, each}
 
 -- two steps found something, so each did
@@ -46,40 +46,3 @@ each_complete f g complete [] = refl
 each_complete f g complete (y ∷ ys) =
     ap (λ o. o >>= λ z. each f (map g ys) >>= λ zs. Some (z ∷ zs)) (complete y)
     ∙ ap (λ o. o >>= λ zs. Some (y ∷ zs)) (each_complete f g complete ys)
-
--- each of a list and one more
-pub each_with_last : {A B : Type 0} (f : A → Option B) (xs : List A) (x : A)
-    → each f (xs ++ x ∷ []) ≡ (each f xs >>= λ ys. f x >>= λ y. Some (ys ++ y ∷ []))
-each_with_last f [] x = go (f x) where
-  go : {B : Type 0} (o : Option B) → (o >>= λ y. Some (y ∷ [])) ≡ (o >>= λ y. Some ([] ++ y ∷ []))
-  go None = refl
-  go (Some y) = refl
-each_with_last f (w ∷ xs) x = ap (λ o. f w >>= λ v. o >>= λ vs. Some (v ∷ vs)) (each_with_last f xs x) ∙ go (f w) (each f xs) (f x) where
-  go : {B : Type 0} (o : Option B) (os : Option (List B)) (p : Option B)
-      → (o >>= λ v. (os >>= λ ys. p >>= λ y. Some (ys ++ y ∷ [])) >>= λ vs. Some (v ∷ vs))
-      ≡ ((o >>= λ v. os >>= λ vs. Some (v ∷ vs)) >>= λ ys. p >>= λ y. Some (ys ++ y ∷ []))
-  go None os p = refl
-  go (Some v) None p = refl
-  go (Some v) (Some ys) None = refl
-  go (Some v) (Some ys) (Some y) = refl
-
--- with one more read before what has been read
-pub each_step : {A B : Type 0} (f : A → Option B) (all xs : List A) (x : A) (y : B) (back : List B)
-    → each f all ≡ (each f (xs ++ x ∷ []) >>= λ front. Some (front ++ back)) → f x ≡ Some y
-    → each f all ≡ (each f xs >>= λ front. Some (front ++ y ∷ back))
-each_step {B = B} f all xs x y back e h =
-    e ∙ ap (λ o. o >>= λ front. Some (front ++ back)) (each_with_last f xs x ∙ ap (λ p. each f xs >>= λ ys. p >>= λ z. Some (ys ++ z ∷ [])) h)
-    ∙ go (each f xs) where
-      go : (o : Option (List B)) → ((o >>= λ ys. Some (ys ++ y ∷ [])) >>= λ front. Some (front ++ back)) ≡ (o >>= λ front. Some (front ++ y ∷ back))
-      go None = refl
-      go (Some ys) = ap (λ zs. Some zs) (append_assoc ys (y ∷ []) back)
-
--- one has nothing, so not all have
-pub each_missing : {A B : Type 0} (f : A → Option B) (all xs : List A) (x : A) (back : List B)
-    → each f all ≡ (each f (xs ++ x ∷ []) >>= λ front. Some (front ++ back)) → f x ≡ None → each f all ≡ None
-each_missing {B = B} f all xs x back e h =
-    e ∙ ap (λ o. o >>= λ front. Some (front ++ back)) (each_with_last f xs x ∙ ap (λ p. each f xs >>= λ ys. p >>= λ z. Some (ys ++ z ∷ [])) h)
-    ∙ go (each f xs) where
-      go : (o : Option (List B)) → ((o >>= λ ys. None >>= λ (z : B). Some (ys ++ z ∷ [])) >>= λ front. Some (front ++ back)) ≡ None
-      go None = refl
-      go (Some ys) = refl

@@ -3,8 +3,10 @@ pub mod KnownFaults
 pub mod KnownFinds
 pub mod KnownFound
 pub mod KnownItems
+pub mod KnownLent
 pub mod KnownNumbers
 pub mod KnownSteps
 pub mod KnownTexts
 pub mod KnownTrees
+pub mod KnownVariants
 pub mod KnownWords

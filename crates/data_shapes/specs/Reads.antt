@@ -1,7 +1,5 @@
 -- What a reader answers.
 use Rattle.std.specs.Prelude.{◌≡◌, Option, Some, None, Result, Ok, Err}
-use Rattle.xml_codec.specs.declared.fault.DataFault.{DataFault}
-use Rattle.xml_codec.specs.declared.fault.DataFault.TheVariants.{Wrong, NoMemory as NoRoom}
 use Rattle.data_shapes.specs.declared.fault.ShapeFault.{ShapeFault}
 use Rattle.data_shapes.specs.declared.fault.ShapeFault.TheVariants.{WrongShape, NoMemory}
 
@@ -10,8 +8,3 @@ abbrev pub Reads : {A : Type 0} → Result A ShapeFault → Option A → Type 0
 Reads (Ok value) found = found ≡ Some value
 Reads (Err WrongShape) found = found ≡ None
 Reads (Err NoMemory) found = Unit {0}
-
--- a fault without its place
-abbrev pub placeless : DataFault → ShapeFault
-placeless (Wrong path) = WrongShape
-placeless NoRoom = NoMemory

@@ -1,7 +1,6 @@
 //! Why a body was not read.
 
 use std::alloc::AllocError;
-use xml_codec::DataFault;
 
 /// Why a body was not read.
 #[derive(Clone, Copy, Debug, PartialEq, Eq)]
@@ -20,19 +19,5 @@ impl From<AllocError> for ShapeFault {
 
     fn from(_refused: AllocError) -> ShapeFault {
         ShapeFault::NoMemory
-    }
-}
-
-impl From<DataFault> for ShapeFault {
-    ghost use Rattle.data_shapes.specs.Reads.{placeless};
-    ghost use Rattle.std.specs.Prelude.{◌≡◌};
-
-    ghost from_gives = { λ placed fault. fault ≡ placeless placed };
-
-    fn from(fault: DataFault) -> ShapeFault {
-        match fault {
-            DataFault::Wrong { .. } => ShapeFault::WrongShape,
-            DataFault::NoMemory => ShapeFault::NoMemory,
-        }
     }
 }

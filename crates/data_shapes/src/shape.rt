@@ -1,14 +1,12 @@
 //! What a shape is, and lists of one shape.
-ghost use Rattle.data_shapes.specs.Each.{each};
 ghost use Rattle.data_shapes.specs.Reads.{Reads};
 ghost use Rattle.data_shapes.specs.Shapes.{items_in, optional_in};
 
 use crate::fault::ShapeFault;
-use crate::leaf::option_of;
+use crate::leaf::{option_of, take_node};
+use lent_bodies::LentBody;
 use sqlite_items::Items;
-use std::alloc::{AllocError, Global};
-use xml_codec::{a_faulty_body_encodes_no_value, get_list};
-use xml_tree::Body;
+use std::alloc::Global;
 
 /// A value that a body can encode.
 pub trait Shape: Drop {
@@ -20,39 +18,32 @@ pub trait Shape: Drop {
     ghost shape: { List Tree → Option Self };
 
     /// The value that the body encodes.
-    fn read(alloc: Global, body: Body) -> Result<Self, ShapeFault>
-        ensures { Reads result (shape body) };
+    fn read(alloc: Global, body: LentBody<'_>) -> Result<Self, ShapeFault>
+        ensures { Reads result (shape body.entry) };
 }
 
 /// The list whose body this is.
-pub fn list_of<T: Shape>(alloc: Global, body: Body) -> Result<Items<T>, ShapeFault>
-    ensures { Reads result (items_in T.shape body) }
+pub fn list_of<T: Shape>(alloc: Global, body: LentBody<'_>) -> Result<Items<T>, ShapeFault>
+    ensures { Reads result (items_in T.shape body.entry) }
 {
-    a_faulty_body_encodes_no_value();
-    let bodies = get_list(alloc, body)?;
-    each_of(alloc, bodies)
+    let mut body = body;
+    let mut items = Items::new(alloc);
+    'items: while !body.is_empty() {
+        let Some(item) = take_node(&mut body) else {
+            return Err(ShapeFault::WrongShape);
+        };
+        let value = T::read(alloc, item)?;
+        items.push(value)?;
+    }
+    Ok(items)
 }
 
 /// The option whose body this is.
-pub fn optional_of<T: Shape>(alloc: Global, body: Body) -> Result<Option<T>, ShapeFault>
-    ensures { Reads result (optional_in T.shape body) }
+pub fn optional_of<T: Shape>(alloc: Global, body: LentBody<'_>) -> Result<Option<T>, ShapeFault>
+    ensures { Reads result (optional_in T.shape body.entry) }
 {
-    match option_of(alloc, body)? {
+    match option_of(body)? {
         Some(item) => Ok(Some(T::read(alloc, item)?)),
         None => Ok(None),
     }
-}
-
-/// The values that the bodies encode.
-fn each_of<T: Shape>(alloc: Global, bodies: Items<Body>) -> Result<Items<T>, ShapeFault>
-    ensures { Reads result (each T.shape bodies) }
-{
-    let mut bodies = bodies;
-    let mut reversed = Vec::new(alloc);
-    'items: while let Some(item) = bodies.pop() {
-        let value = T::read(alloc, item)?;
-        reversed.push(value).map_err(AllocError::from)?;
-    }
-    reversed.reverse();
-    Ok(Items::from_vec(reversed))
 }

@@ -4,24 +4,24 @@ ghost use Rattle.data_shapes.specs.Reads.{Reads};
 ghost use Rattle.data_shapes.specs.Words.{edit_of, start_of};
 
 use crate::fault::ShapeFault;
-use crate::leaf::{number_in, pair_of, string_of};
+use crate::leaf::{bool_in, number_in, pair_of, string_of};
 use crate::number::number_of;
 use crate::shape::Shape;
 use crate::variant::variant_of;
+use lent_bodies::LentBody;
 use pide_base::{CommandId, ExecId, NodeName, Range, VersionId};
 use sqlite_items::Items;
 use std::alloc::Global;
 use text_edits::{Edit, Text};
-use xml_codec::get_bool;
-use xml_tree::{Body, XmlString};
+use xml_tree::XmlString;
 
 impl Shape for bool {
     ghost use Rattle.data_shapes.specs.Shapes.{bool_in};
 
     ghost shape = { bool_in };
 
-    fn read(alloc: Global, body: Body) -> Result<bool, ShapeFault> {
-        Ok(get_bool(alloc, body)?)
+    fn read(alloc: Global, body: LentBody<'_>) -> Result<bool, ShapeFault> {
+        bool_in(alloc, body)
     }
 }
 
@@ -30,7 +30,7 @@ impl Shape for VersionId {
 
     ghost shape = { id_in };
 
-    fn read(alloc: Global, body: Body) -> Result<VersionId, ShapeFault> {
+    fn read(alloc: Global, body: LentBody<'_>) -> Result<VersionId, ShapeFault> {
         let number = number_in(alloc, body)?;
         VersionId::new(number).ok_or(ShapeFault::WrongShape)
     }
@@ -41,7 +41,7 @@ impl Shape for CommandId {
 
     ghost shape = { id_in };
 
-    fn read(alloc: Global, body: Body) -> Result<CommandId, ShapeFault> {
+    fn read(alloc: Global, body: LentBody<'_>) -> Result<CommandId, ShapeFault> {
         let number = number_in(alloc, body)?;
         CommandId::new(number).ok_or(ShapeFault::WrongShape)
     }
@@ -52,7 +52,7 @@ impl Shape for ExecId {
 
     ghost shape = { id_in };
 
-    fn read(alloc: Global, body: Body) -> Result<ExecId, ShapeFault> {
+    fn read(alloc: Global, body: LentBody<'_>) -> Result<ExecId, ShapeFault> {
         let number = number_in(alloc, body)?;
         ExecId::new(number).ok_or(ShapeFault::WrongShape)
     }
@@ -63,7 +63,7 @@ impl Shape for NodeName {
 
     ghost shape = { name_in };
 
-    fn read(alloc: Global, body: Body) -> Result<NodeName, ShapeFault> {
+    fn read(alloc: Global, body: LentBody<'_>) -> Result<NodeName, ShapeFault> {
         let text = string_of(alloc, body)?;
         match NodeName::new(text.into_string()) {
             Ok(name) => Ok(name),
@@ -77,7 +77,7 @@ impl Shape for Text {
 
     ghost shape = { text_in };
 
-    fn read(alloc: Global, body: Body) -> Result<Text, ShapeFault> {
+    fn read(alloc: Global, body: LentBody<'_>) -> Result<Text, ShapeFault> {
         let text = string_of(alloc, body)?;
         Ok(Text::from_str(alloc, text.as_str())?)
     }
@@ -88,8 +88,8 @@ impl Shape for Range {
 
     ghost shape = { range_in };
 
-    fn read(alloc: Global, body: Body) -> Result<Range, ShapeFault> {
-        let (start, stop) = pair_of(alloc, body)?;
+    fn read(alloc: Global, body: LentBody<'_>) -> Result<Range, ShapeFault> {
+        let (start, stop) = pair_of(body)?;
         let start = number_in(alloc, start)? as usize;
         let stop = number_in(alloc, stop)? as usize;
         Ok(Range { start, stop })
@@ -122,7 +122,7 @@ impl Shape for Edit {
 
     ghost shape = { edit_in };
 
-    fn read(alloc: Global, body: Body) -> Result<Edit, ShapeFault> {
+    fn read(alloc: Global, body: LentBody<'_>) -> Result<Edit, ShapeFault> {
         let variant = variant_of(alloc, body)?;
         let Some(start) = start_of(variant.values.as_slice()) else {
             return Err(ShapeFault::WrongShape);

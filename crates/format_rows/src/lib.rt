@@ -8,6 +8,8 @@ mod asked;
 #[cfg(test)]
 mod frames;
 #[cfg(test)]
+mod lent;
+#[cfg(test)]
 mod shown;
 #[cfg(test)]
 mod spellings;

@@ -36,7 +36,7 @@ fn an_element_and_a_text_are_read_and_written(rt: HostRuntime) -> Result<(), Fai
 }
 
 /// Texts, and the first fault of each.
-const FAULTS: &[(&str, YxmlFault)] = &[
+pub(crate) const FAULTS: &[(&str, YxmlFault)] = &[
     ("\u{5}\u{6}\u{5}", YxmlFault::Unbalanced { at: 1 }),
     ("\u{5}\u{6}a\u{5}", YxmlFault::Unbalanced { at: 4 }),
     ("\u{5}\u{6}\u{6}a=b\u{5}", YxmlFault::BadTag { at: 1 }),
@@ -97,7 +97,7 @@ fn a_doubled_byte_and_a_split_text_are_read_as_one_text(rt: HostRuntime) -> Resu
 }
 
 /// So many elements, one inside the other.
-fn nested(alloc: Global, depth: usize) -> Result<String, AllocError> {
+pub(crate) fn nested(alloc: Global, depth: usize) -> Result<String, AllocError> {
     let mut text = String::new(alloc);
     for _ in 0..depth {
         text.push_str("\u{5}\u{6}a\u{5}")?;

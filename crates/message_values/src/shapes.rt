@@ -7,17 +7,17 @@ ghost use Rattle.message_values.specs.Items.{edited_in, change_of};
 use crate::item::{BlobChange, Change, Item, Perspective};
 use data_shapes::{Shape, ShapeFault, list_of, optional_of, pair_of, string_of, variant_of};
 use doc_nodes::BlobName;
+use lent_bodies::LentBody;
 use pide_base::NodeName;
 use std::alloc::Global;
-use xml_tree::Body;
 
 impl Shape for Perspective {
     ghost use Rattle.message_values.specs.Items.{perspective_in};
 
     ghost shape = { perspective_in };
 
-    fn read(alloc: Global, body: Body) -> Result<Perspective, ShapeFault> {
-        let (required, ranges) = pair_of(alloc, body)?;
+    fn read(alloc: Global, body: LentBody<'_>) -> Result<Perspective, ShapeFault> {
+        let (required, ranges) = pair_of(body)?;
         let required = bool::read(alloc, required)?;
         let ranges = list_of(alloc, ranges)?;
         Ok(Perspective { required, ranges })
@@ -25,18 +25,18 @@ impl Shape for Perspective {
 }
 
 /// Edits and a perspective, if there is one.
-fn edited(alloc: Global, body: Body) -> Result<Change, ShapeFault>
-    ensures { Reads result (edited_in body) }
+fn edited(alloc: Global, body: LentBody<'_>) -> Result<Change, ShapeFault>
+    ensures { Reads result (edited_in body.entry) }
 {
-    let (edits, perspective) = pair_of(alloc, body)?;
+    let (edits, perspective) = pair_of(body)?;
     let edits = list_of(alloc, edits)?;
     let perspective = optional_of(alloc, perspective)?;
     Ok(Change::Edit { edits, perspective })
 }
 
 /// A change of this kind: 0 edits, 1 closes.
-fn change_of(alloc: Global, kind: u64, argument: Body) -> Result<Change, ShapeFault>
-    ensures { Reads result (change_of kind [] argument) }
+fn change_of(alloc: Global, kind: u64, argument: LentBody<'_>) -> Result<Change, ShapeFault>
+    ensures { Reads result (change_of kind [] argument.entry) }
 {
     match kind {
         0 => edited(alloc, argument),
@@ -50,7 +50,7 @@ impl Shape for Change {
 
     ghost shape = { change_in };
 
-    fn read(alloc: Global, body: Body) -> Result<Change, ShapeFault> {
+    fn read(alloc: Global, body: LentBody<'_>) -> Result<Change, ShapeFault> {
         let variant = variant_of(alloc, body)?;
         if !variant.values.is_empty() {
             return Err(ShapeFault::WrongShape);
@@ -64,8 +64,8 @@ impl Shape for Item {
 
     ghost shape = { item_in };
 
-    fn read(alloc: Global, body: Body) -> Result<Item, ShapeFault> {
-        let (node, change) = pair_of(alloc, body)?;
+    fn read(alloc: Global, body: LentBody<'_>) -> Result<Item, ShapeFault> {
+        let (node, change) = pair_of(body)?;
         let node = NodeName::read(alloc, node)?;
         let change = Change::read(alloc, change)?;
         Ok(Item { node, change })
@@ -73,8 +73,8 @@ impl Shape for Item {
 }
 
 /// The name of a blob.
-fn blob_name(alloc: Global, body: Body) -> Result<BlobName, ShapeFault>
-    ensures { Reads result (name_in body) }
+fn blob_name(alloc: Global, body: LentBody<'_>) -> Result<BlobName, ShapeFault>
+    ensures { Reads result (name_in body.entry) }
 {
     let text = string_of(alloc, body)?;
     match BlobName::new(text.into_string()) {
@@ -88,8 +88,8 @@ impl Shape for BlobChange {
 
     ghost shape = { blob_in };
 
-    fn read(alloc: Global, body: Body) -> Result<BlobChange, ShapeFault> {
-        let (name, text) = pair_of(alloc, body)?;
+    fn read(alloc: Global, body: LentBody<'_>) -> Result<BlobChange, ShapeFault> {
+        let (name, text) = pair_of(body)?;
         let name = blob_name(alloc, name)?;
         let text = optional_of(alloc, text)?;
         Ok(BlobChange { name, text })

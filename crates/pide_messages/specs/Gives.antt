@@ -2,10 +2,8 @@
 use Rattle.std.specs.Prelude.{◌≡◌, Result, Ok, Err}
 use Rattle.data_shapes.specs.declared.fault.ShapeFault.{ShapeFault}
 use Rattle.data_shapes.specs.declared.fault.ShapeFault.TheVariants as shape
-use Rattle.yxml.specs.declared.fault.YxmlFault.{YxmlFault}
-use Rattle.yxml.specs.declared.fault.YxmlFault.TheVariants as yxml
 use Rattle.message_values.specs.declared.refusal.Refusal.{Refusal}
-use Rattle.message_values.specs.declared.refusal.Refusal.TheVariants.{BadYxml, BadData}
+use Rattle.message_values.specs.declared.refusal.Refusal.TheVariants.{BadData}
 use Rattle.pide_messages.specs.declared.error.ReadError.{ReadError}
 use Rattle.pide_messages.specs.declared.error.ReadError.TheVariants.{Refused, NoMemory}
 
@@ -19,8 +17,3 @@ Gives (Err NoMemory) told = Unit {0}
 abbrev pub shape_error : ShapeFault → ReadError
 shape_error shape.WrongShape = Refused BadData
 shape_error shape.NoMemory = NoMemory
-
--- a fault of the spelling is bad YXML
-abbrev pub spelling_error : YxmlFault → ReadError
-spelling_error yxml.NoMemory = NoMemory
-spelling_error _ = Refused BadYxml

@@ -9,11 +9,10 @@ ghost use Rattle.pide_messages.specs.Gives.{Gives};
 
 use crate::error::ReadError;
 use data_shapes::number_of;
+use lent_bodies::LentBody;
 use message_values::{Protocol, Refusal, Worker};
 use pide_base::{ExecId, NodeName, VersionId};
 use std::alloc::Global;
-use xml_tree::Body;
-use yxml::{each_text_has_one_answer, parse_body};
 
 /// The number that the text writes.
 pub(crate) fn number_at(text: &str) -> Result<u64, ReadError>
@@ -79,10 +78,12 @@ pub(crate) fn node_of(alloc: Global, text: &str) -> Result<NodeName, ReadError>
     }
 }
 
-/// The body that the text spells.
-pub(crate) fn body_of(alloc: Global, text: &str) -> Result<Body, ReadError>
+/// The body that the text spells, lent from it.
+pub(crate) fn body_of(text: &str) -> Result<LentBody<'_>, ReadError>
     ensures { Gives result (or_refused BadYxml (spelled text.now)) }
 {
-    each_text_has_one_answer();
-    Ok(parse_body(alloc, text)?)
+    match LentBody::of(text) {
+        Ok(body) => Ok(body),
+        Err(_) => Err(ReadError::Refused(Refusal::BadYxml)),
+    }
 }

@@ -3,7 +3,6 @@
 use data_shapes::ShapeFault;
 use message_values::Refusal;
 use std::alloc::AllocError;
-use yxml::YxmlFault;
 
 /// Why a message was not read.
 #[derive(Clone, Copy, Debug, PartialEq, Eq)]
@@ -36,20 +35,6 @@ impl From<ShapeFault> for ReadError {
         match fault {
             ShapeFault::WrongShape => ReadError::Refused(Refusal::BadData),
             ShapeFault::NoMemory => ReadError::NoMemory,
-        }
-    }
-}
-
-impl From<YxmlFault> for ReadError {
-    ghost use Rattle.pide_messages.specs.Gives.{spelling_error};
-    ghost use Rattle.std.specs.Prelude.{◌≡◌};
-
-    ghost from_gives = { λ fault error. error ≡ spelling_error fault };
-
-    fn from(fault: YxmlFault) -> ReadError {
-        match fault {
-            YxmlFault::NoMemory => ReadError::NoMemory,
-            _ => ReadError::Refused(Refusal::BadYxml),
         }
     }
 }

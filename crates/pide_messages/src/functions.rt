@@ -16,7 +16,7 @@ use text_edits::Text;
 pub(crate) fn update(alloc: Global, version: &str, items: &str) -> Result<EditorMessage, ReadError>
     ensures { Gives result (with_texts Update (version.now ∷ items.now ∷ [])) }
 {
-    let items = body_of(alloc, items)?;
+    let items = body_of(items)?;
     let version = version_of(version)?;
     let items = list_of(alloc, items)?;
     let blobs = Items::new(alloc);
@@ -35,8 +35,8 @@ pub(crate) fn update_with_blobs(
 ) -> Result<EditorMessage, ReadError>
     ensures { Gives result (with_texts Update (version.now ∷ items.now ∷ blobs.now ∷ [])) }
 {
-    let items = body_of(alloc, items)?;
-    let blobs = body_of(alloc, blobs)?;
+    let items = body_of(items)?;
+    let blobs = body_of(blobs)?;
     let version = version_of(version)?;
     let items = list_of(alloc, items)?;
     let blobs = list_of(alloc, blobs)?;
@@ -55,7 +55,7 @@ pub(crate) fn snapshot(
 ) -> Result<EditorMessage, ReadError>
     ensures { Gives result (with_texts Snapshot (version.now ∷ node.now ∷ edits.now ∷ [])) }
 {
-    let edits = body_of(alloc, edits)?;
+    let edits = body_of(edits)?;
     let version = version_of(version)?;
     let node = node_of(alloc, node)?;
     let edits = list_of(alloc, edits)?;
@@ -76,7 +76,7 @@ pub(crate) fn cancel(exec: &str) -> Result<EditorMessage, ReadError>
 pub(crate) fn remove_versions(alloc: Global, versions: &str) -> Result<EditorMessage, ReadError>
     ensures { Gives result (with_texts RemoveVersions (versions.now ∷ [])) }
 {
-    let versions = body_of(alloc, versions)?;
+    let versions = body_of(versions)?;
     let versions = list_of(alloc, versions)?;
     Ok(EditorMessage::RemoveVersions { versions })
 }

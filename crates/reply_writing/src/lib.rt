@@ -9,8 +9,13 @@
 
 mod chunk;
 mod data;
+mod message;
+mod nodes;
+mod parts;
 mod reply;
 mod told;
+mod total;
+mod versions;
 mod writing;
 
 pub use reply::{AssignedNode, AssignedRow, Executions, Reply, Reports};

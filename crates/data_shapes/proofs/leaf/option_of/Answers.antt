@@ -1,8 +1,13 @@
--- A body at fault encodes no option.
-use Rattle.data_shapes.proofs.KnownFound.{option_sound}
-use Rattle.data_shapes.proofs.KnownFaults.{fault_passed}
+-- By whether a node stands first, and whether more does.
+use Rattle.data_shapes.proofs.KnownLent.{says_no, option_without, option_there, option_with_more}
 use Rattle.data_shapes.proofs.leaf.option_of.Goals as goal
 
-pub returns-in_err-get_option : goal.returns-in_err-get_option
-returns-in_err-get_option c = fault_passed _ c.in_err-get_option.field-0.0 _ c.from_residual.ensures.1
-    (λ some item e. c.a_faulty_body_encodes_no_value.ensures.option c.args.body _ some c.in_err-get_option.ensures.place item (option_sound _ _ e))
+pub returns-in_default : goal.returns-in_default
+returns-in_default c = option_without c.args.body (says_no c.is_empty.result c.is_empty.ensures c.if-is_empty.false) c.in_default.ensures
+
+pub returns-then-is_empty-2 : goal.returns-then-is_empty-2
+returns-then-is_empty-2 c = option_there c.args.body c.in-Some.item c.take_node.new.body c.in-Some.ensures (c.is_empty-2.ensures.0 c.if-is_empty-2.true)
+
+pub returns-else-is_empty-2 : goal.returns-else-is_empty-2
+returns-else-is_empty-2 c = option_with_more c.args.body c.in-Some.item c.take_node.new.body c.in-Some.ensures
+    (says_no c.is_empty-2.result c.is_empty-2.ensures c.if-is_empty-2.false)

@@ -1,8 +1,10 @@
--- A body at fault encodes no text.
-use Rattle.data_shapes.proofs.KnownFound.{string_sound}
-use Rattle.data_shapes.proofs.KnownFaults.{fault_passed}
+-- It is the text that the body is.
+use Rattle.std.proofs.Common.{sym, ◌∙◌}
+use Rattle.data_shapes.proofs.KnownLent.{string_told}
 use Rattle.data_shapes.proofs.leaf.string_of.Goals as goal
 
-pub returns-in_err-text : goal.returns-in_err-text
-returns-in_err-text c = fault_passed _ c.in_err-text.field-0.0 _ c.from_residual.ensures.1
-    (λ some text e. c.in_err-text.ensures.none some text (string_sound _ _ e))
+pub returns-in-Some : goal.returns-in-Some
+returns-in-Some c = sym (string_told c.args.body c.in_ok-text.field-0 c.in_ok-text.ensures) ∙ c.in-Some.is
+
+pub returns-in-None : goal.returns-in-None
+returns-in-None c = sym (string_told c.args.body c.in_ok-text.field-0 c.in_ok-text.ensures) ∙ c.in-None.is

@@ -1,19 +1,26 @@
--- The variant is the one that the body encodes.
-use Rattle.std.proofs.Common.{ap, sym, ◌∙◌}
-use Rattle.xml_codec.specs.Data.{variant_body}
-use Rattle.data_shapes.specs.Shapes.{variant_in}
-use Rattle.data_shapes.proofs.KnownFound.{variant_sound}
-use Rattle.data_shapes.proofs.KnownFinds.{variant_complete}
-use Rattle.data_shapes.proofs.KnownFaults.{fault_passed}
+-- By the one element that stands in the body.
+use Rattle.std.proofs.Common.{◌≡◌, [], Some, None, rules, sym, ◌∙◌}
+use Rattle.data_shapes.specs.Shapes.{index_of}
+use Rattle.data_shapes.proofs.KnownVariants.{variant_without, variant_unnumbered, variant_valueless, variant_there}
 use Rattle.data_shapes.proofs.variant.variant_of.Goals as goal
 
-pub returns-in_err-index : goal.returns-in_err-index
-returns-in_err-index c = fault_passed _ c.in_err-index.field-0.0 _ c.from_residual.ensures.1
-    (λ some v e. let s = variant_sound _ v e in c.in_err-index.ensures.none some v.index s.small v.values v.argument s.same)
+pub returns-in_default : goal.returns-in_default
+returns-in_default c = variant_without c.args.body c.in_default.ensures
 
-pub returns : goal.returns
-returns c =
-    let m = c.made.ensures in
-    ap variant_in (c.in_ok-index.ensures.value ∙ ap (λ i. variant_body i c.in_ok-index.values c.in_ok-index.argument) (sym m.index)
-    ∙ ap (λ v. variant_body c.made.result.index v c.in_ok-index.argument) (sym m.values) ∙ ap (variant_body c.made.result.index c.made.result.values) (sym m.argument))
-    ∙ variant_complete c.made.result m.small
+pub returns-in_default-index_of : goal.returns-in_default-index_of
+returns-in_default-index_of c =
+    let none : c.take_element.new.self ≡ [] = search rules in
+    let e : index_of c.in-Some.element.name.now ≡ None = search rules in
+    variant_unnumbered c.args.body c.take_element.new.self _ _ _ c.in-Some.ensures none e
+
+pub returns-in-Some-2 : goal.returns-in-Some-2
+returns-in-Some-2 c =
+    let none : c.take_element.new.self ≡ [] = search rules in
+    let e : index_of c.in-Some.element.name.now ≡ Some c.in-Some-index_of.index = search rules in
+    variant_there c.args.body c.take_element.new.self _ _ _ c.in-Some.ensures none _ _ e (sym c.in_ok-values.ensures ∙ c.in-Some-2.is)
+
+pub returns-in-None : goal.returns-in-None
+returns-in-None c =
+    let none : c.take_element.new.self ≡ [] = search rules in
+    let e : index_of c.in-Some.element.name.now ≡ Some c.in-Some-index_of.index = search rules in
+    variant_valueless c.args.body c.take_element.new.self _ _ _ c.in-Some.ensures none _ e (sym c.in_ok-values.ensures ∙ c.in-None.is)

@@ -1,0 +1,84 @@
+-- Texts side by side are one text, which makes no difference to the elements around them.
+use Rattle.std.proofs.Common.{◌≡◌, ◌≢◌, ℕ, ◌+◌, ◌-◌, List, [], ◌∷◌, ◌++◌, refl, sym, ap, ◌∙◌, append_assoc}
+use Rattle.xml_tree.specs.Bodies.{ClosesOpen}
+use Rattle.xml_tree.specs.Marks.{Mark, opening, closing, words, open_after}
+use Rattle.yxml.specs.Spelling.{onto, merged}
+
+opens-onto : (d : ℕ) (s : List ℕ) (ms : List Mark) → open_after d (onto (words s) ms) ≡ open_after d ms
+opens-onto d s [] = refl
+opens-onto d s (words t ∷ ms) = refl
+opens-onto d s (opening name attributes ∷ ms) = refl
+opens-onto d s (closing ∷ ms) = refl
+
+pub opens-merged : (d : ℕ) (ms : List Mark) → open_after d (merged ms) ≡ open_after d ms
+opens-merged d [] = refl
+opens-merged d (opening name attributes ∷ ms) = opens-merged (d + 1) ms
+opens-merged d (closing ∷ ms) = opens-merged (d - 1) ms
+opens-merged d (words s ∷ ms) = opens-onto d s (merged ms) ∙ opens-merged d ms
+
+closes-onto : (d : ℕ) (s : List ℕ) (ms : List Mark) → ClosesOpen d ms → ClosesOpen d (onto (words s) ms)
+closes-onto d s [] h = tt
+closes-onto d s (words t ∷ ms) h = h
+closes-onto d s (opening name attributes ∷ ms) h = h
+closes-onto d s (closing ∷ ms) h = h
+
+pub closes-merged : (d : ℕ) (ms : List Mark) → ClosesOpen d ms → ClosesOpen d (merged ms)
+closes-merged d [] h = tt
+closes-merged d (opening name attributes ∷ ms) h = closes-merged (d + 1) ms h
+closes-merged d (closing ∷ ms) h = (h.0, closes-merged (d - 1) ms h.1)
+closes-merged d (words s ∷ ms) h = closes-onto d s (merged ms) (closes-merged d ms h)
+
+onto-closing : (m : Mark) (ms rest : List Mark) → onto m (ms ++ closing ∷ rest) ≡ onto m ms ++ closing ∷ rest
+onto-closing (opening name attributes) ms rest = refl
+onto-closing closing ms rest = refl
+onto-closing (words s) [] rest = refl
+onto-closing (words s) (words t ∷ ms) rest = refl
+onto-closing (words s) (opening name attributes ∷ ms) rest = refl
+onto-closing (words s) (closing ∷ ms) rest = refl
+
+-- no text joins another one over an end tag
+pub merged-closing : (ms rest : List Mark) → merged (ms ++ closing ∷ rest) ≡ merged ms ++ closing ∷ merged rest
+merged-closing [] rest = refl
+merged-closing (m ∷ ms) rest = ap (onto m) (merged-closing ms rest) ∙ onto-closing m (merged ms) (merged rest)
+
+-- a text before others stays one
+pub words_first : (s name : List ℕ) (attributes : List _) (ms rest : List Mark) → onto (words s) ms ≢ opening name attributes ∷ rest
+words_first s name attributes [] rest e = absurd (cc)
+words_first s name attributes (words t ∷ ms) rest e = absurd (cc)
+words_first s name attributes (opening n more ∷ ms) rest e = absurd (cc)
+words_first s name attributes (closing ∷ ms) rest e = absurd (cc)
+
+pub words_some : (s : List ℕ) (ms : List Mark) → onto (words s) ms ≢ []
+words_some s [] e = absurd (cc)
+words_some s (words t ∷ ms) e = absurd (cc)
+words_some s (opening n more ∷ ms) e = absurd (cc)
+words_some s (closing ∷ ms) e = absurd (cc)
+
+-- marks behind a text that has been read so far
+abbrev pub joined : List ℕ → List Mark → List Mark
+joined [] ms = merged ms
+joined (b ∷ bs) ms = onto (words (b ∷ bs)) (merged ms)
+
+onto-twice : (s t : List ℕ) (ms : List Mark) → onto (words s) (onto (words t) ms) ≡ onto (words (s ++ t)) ms
+onto-twice s t [] = refl
+onto-twice s t (opening name attributes ∷ ms) = refl
+onto-twice s t (closing ∷ ms) = refl
+onto-twice s t (words u ∷ ms) = ap (λ x. words x ∷ ms) (sym (append_assoc s t u))
+
+-- more of the text
+pub joined-more : (s t : List ℕ) (ms : List Mark) → t ≢ [] → joined s (words t ∷ ms) ≡ joined (s ++ t) ms
+joined-more s [] ms some = absurd (some refl)
+joined-more [] (b ∷ bs) ms some = refl
+joined-more (a ∷ more) (b ∷ bs) ms some = onto-twice (a ∷ more) (b ∷ bs) (merged ms)
+
+closes-unjoined : (d : ℕ) (s : List ℕ) (ms : List Mark) → ClosesOpen d (onto (words s) ms) → ClosesOpen d ms
+closes-unjoined d s [] h = tt
+closes-unjoined d s (words t ∷ ms) h = h
+closes-unjoined d s (opening name attributes ∷ ms) h = h
+closes-unjoined d s (closing ∷ ms) h = h
+
+pub closes-unmerged : (d : ℕ) (ms : List Mark) → ClosesOpen d (merged ms) → ClosesOpen d ms
+closes-unmerged d [] h = tt
+closes-unmerged d (opening name attributes ∷ ms) h = closes-unmerged (d + 1) ms h
+closes-unmerged d (closing ∷ ms) h = (h.0, closes-unmerged (d - 1) ms h.1)
+closes-unmerged d (words s ∷ ms) h = closes-unmerged d ms (closes-unjoined d s (merged ms) h)

@@ -1,0 +1,4 @@
+pub mod Attributes
+pub mod Chunks
+pub mod Inside
+pub mod LentMarks

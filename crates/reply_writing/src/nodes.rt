@@ -1,0 +1,54 @@
+//! Replies about nodes: the markup of one, in a version or in a build.
+ghost use Rattle.std.specs.Prelude.{◌≡◌, IfOk};
+ghost use Rattle.byte_message.specs.Stream.{plain_spelling};
+ghost use Rattle.reply_writing.specs.declared.told.Told.TheVariants.{Markup, Built};
+ghost use Rattle.reply_writing.specs.Lent.{reports_of};
+ghost use Rattle.reply_writing.specs.Replies.{reply_chunks};
+
+use crate::chunk::{Chunk, flag_word};
+use crate::message::spelled;
+use crate::reply::Reports;
+use pide_base::{ExecId, NodeName, VersionId};
+use std::alloc::{AllocError, Global};
+
+pub(crate) fn markup<'a>(
+    alloc: Global,
+    version: VersionId,
+    node: &'a NodeName,
+    reports: Reports<'a>,
+    pending: &'a [ExecId],
+    outdated: bool,
+) -> Result<Vec<u8>, AllocError>
+    ensures { IfOk result (λ bytes. bytes.items ≡ plain_spelling (reply_chunks
+        (Markup version node.now (reports_of reports.entry) pending.now outdated))) }
+{
+    spelled(
+        alloc,
+        &[
+            Chunk::Word("markup"),
+            Chunk::Number(version.number()),
+            Chunk::Word(node.as_str()),
+            Chunk::Reports(reports),
+            Chunk::Execs(pending),
+            Chunk::Word(flag_word(outdated)),
+        ],
+    )
+}
+
+pub(crate) fn built<'a>(
+    alloc: Global,
+    node: &'a NodeName,
+    reports: Reports<'a>,
+) -> Result<Vec<u8>, AllocError>
+    ensures { IfOk result (λ bytes. bytes.items
+        ≡ plain_spelling (reply_chunks (Built node.now (reports_of reports.entry)))) }
+{
+    spelled(
+        alloc,
+        &[
+            Chunk::Word("built"),
+            Chunk::Word(node.as_str()),
+            Chunk::Reports(reports),
+        ],
+    )
+}
