@@ -1,0 +1,86 @@
+//! Axioms, and the beginnings of lemmas.
+ghost use Rattle.std.specs.Prelude.{◌≡◌, ◌∷◌, [], IfOk};
+ghost use Rattle.isar_rules.specs.Reports.{def_report, formula_report};
+ghost use Rattle.isar_rules.specs.Theories.{axiom_made, lemma_made};
+ghost use Rattle.command_reports.specs.Tries.{Tries};
+ghost use Rattle.theory_steps.specs.Stated.{stated_formula};
+
+use crate::effect::{Effect, makes};
+use crate::facts::{has_fact, name_of, with_fact};
+use command_reports::{Halt, def_report, formula_in, formula_report, named_refusal};
+use isar_rules::{Place, Spot, Theory};
+use nj_formula::{Formula, Name};
+use proof_state::Proof;
+use report_markup::Report;
+use sqlite_items::Items;
+use std::alloc::{AllocError, Global};
+
+/// A new fact's name and what it says, unless its formula is bad or the name taken.
+fn stated(
+    alloc: Global,
+    theory: &Theory,
+    name: &Spot,
+    quoted: &Spot,
+) -> Result<(Name, Formula), Halt>
+    ensures { Tries (stated_formula theory.now name.now quoted.now) result }
+{
+    let formula = formula_in(alloc, quoted.text.as_slice())?;
+    let own = name_of(alloc, name.text.as_slice())?;
+    if has_fact(theory, own.as_str()) {
+        let name = name.text.as_slice();
+        return Err(named_refusal(alloc, "name taken ", name));
+    }
+    Ok((own, formula))
+}
+
+/// The reports of a new fact: its name, and its formula.
+fn stated_reports(
+    alloc: Global,
+    theory: &Theory,
+    name: &Spot,
+    quoted: &Spot,
+    formula: &Formula,
+) -> Result<Items<Report>, AllocError>
+    ensures { IfOk result (λ reports. reports ≡ def_report theory.now.name name.now
+        ∷ formula_report quoted.now formula.now ∷ []) }
+{
+    let mut reports = Items::new(alloc);
+    reports.push(def_report(alloc, theory.name.as_str(), name)?)?;
+    reports.push(formula_report(alloc, quoted, formula)?)?;
+    Ok(reports)
+}
+
+/// `axiom`: the theory has the fact. The error is the first that holds: a bad formula, a taken name.
+pub fn axiom_made(
+    alloc: Global,
+    theory: &Theory,
+    name: &Spot,
+    quoted: &Spot,
+) -> Result<Effect, Halt>
+    ensures { Tries (axiom_made theory.now name.now quoted.now) result }
+{
+    let (own, formula) = stated(alloc, theory, name, quoted)?;
+    let reports = stated_reports(alloc, theory, name, quoted, &formula)?;
+    let more = with_fact(alloc, theory, own.as_str(), formula)?;
+    Ok(makes(Place::Theory(more), reports))
+}
+
+/// `lemma`: its proof begins. The errors are those of `axiom`.
+pub fn lemma_made(
+    alloc: Global,
+    theory: &Theory,
+    name: &Spot,
+    quoted: &Spot,
+) -> Result<Effect, Halt>
+    ensures { Tries (lemma_made theory.now name.now quoted.now) result }
+{
+    let (own, goal) = stated(alloc, theory, name, quoted)?;
+    let reports = stated_reports(alloc, theory, name, quoted, &goal)?;
+    let place = Place::Proof {
+        theory: theory.copy(alloc)?,
+        name: own,
+        proof: Proof::start(goal.copy(alloc)?),
+        goal,
+    };
+    Ok(makes(place, reports))
+}
