@@ -1,7 +1,7 @@
 //! One node as the editor has it (`sheet_edits`), and its commands (`node_commands`).
 use buffer_rules::Sheet;
 use doc_nodes::{Aliases, Entry, Shared};
-use node_commands::{OldCommands, command_ranges, entries_of, is_seen, kept_runs, sources};
+use node_commands::{OldCommands, command_ranges, entries_of, kept_runs, sources};
 use pide_base::Range;
 use sheet_edits::{OpenNode, uncut};
 use sqlite_items::Items;
@@ -24,8 +24,6 @@ fn the_front_is_kept_before_the_back(rt: HostRuntime) -> Result<(), Fail> {
     let kept = kept_runs(&before, &now);
     assert!(rt; kept.front() == 1);
     assert!(rt; kept.back() == 1);
-    assert!(rt; is_seen(&each, Range { start: 0, stop: 1 }));
-    assert!(rt; !is_seen(&each, Range { start: 3, stop: 4 }));
     Ok(())
 }
 

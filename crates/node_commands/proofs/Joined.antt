@@ -11,6 +11,7 @@ use Rattle.buffer_rules.specs.Cuts.{source}
 use Rattle.buffer_rules.specs.Numbers.{Command, Kept, kept, with_kept, ids_of}
 use Rattle.buffer_rules.specs.Nodes.{entry}
 use Rattle.node_commands.specs.Commands.{sources_in, commands_in}
+use Rattle.node_commands.proofs.KnownCommands.{firsts, seconds}
 
 zip-append : {A B : Type 0} (ks ls : List A) (vs ws : List B) → length ks ≡ length vs → zip (ks ++ ls) (vs ++ ws) ≡ zip ks vs ++ zip ls ws
 zip-append [] ls [] ws e = refl
@@ -90,13 +91,5 @@ ids_by old new es rs next k e =
     let ids = map (λ (x : Entry). x.command) es in
     ap (λ (j : Kept). with_kept j ids (length rs) next) e
     ∙ ap (λ n. with_kept (kept (sources_in old es) (map (source new) rs)) ids n next) (sym (length-map rs (source new)))
-    ∙ ap (λ js. with_kept (kept (sources_in old es) (map (source new) rs)) js (length (map (source new) rs)) next) (sym (firsts es))
-    ∙ ap (λ xs. with_kept (kept xs (map (source new) rs)) (map (λ (c : Command). c.0) (commands_in old es)) (length (map (source new) rs)) next) (sym (seconds es))
-  where
-    firsts : (xs : List Entry) → map (λ (c : Command). c.0) (commands_in old xs) ≡ map (λ (x : Entry). x.command) xs
-    firsts [] = refl
-    firsts (x ∷ xs) = ap (λ ys. x.command ∷ ys) (firsts xs)
-
-    seconds : (xs : List Entry) → map (λ (c : Command). c.1) (commands_in old xs) ≡ sources_in old xs
-    seconds [] = refl
-    seconds (x ∷ xs) = ap (λ ys. source old x.range ∷ ys) (seconds xs)
+    ∙ ap (λ js. with_kept (kept (sources_in old es) (map (source new) rs)) js (length (map (source new) rs)) next) (sym (firsts old es))
+    ∙ ap (λ xs. with_kept (kept xs (map (source new) rs)) (map (λ (c : Command). c.0) (commands_in old es)) (length (map (source new) rs)) next) (sym (seconds old es))

@@ -1,2 +1,5 @@
+pub mod KnownCommands
 mod Joined
 mod KeptSources
+mod Spreading
+mod LastReached

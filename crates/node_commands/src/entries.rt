@@ -8,11 +8,12 @@ ghost use Rattle.buffer_rules.specs.Cuts.{source};
 ghost use Rattle.buffer_rules.specs.Numbers.{kept, ids_of};
 ghost use Rattle.buffer_rules.specs.Nodes.{entry};
 ghost use Rattle.node_commands.specs.Commands.{sources_in, commands_in, AsksFor, AskUnder};
+ghost use Rattle.node_commands.specs.Spread.{ShowAlike};
 
 use crate::asking::asked_by;
 use crate::old::OldCommands;
-use crate::places::is_seen;
 use crate::runs::KeptRuns;
+use crate::seen::Seen;
 use buffer_rules::{Sheet, kept_law};
 use doc_blobs::needs;
 use doc_nodes::{Aliases, Entry};
@@ -25,12 +26,14 @@ use std::alloc::{AllocError, Global};
 fn kept_entry(
     alloc: Global,
     sheet: &Sheet,
+    seen: &Seen,
     aliases: &Aliases,
     old: &Entry,
     same: bool,
     range: Range,
 ) -> Result<Entry, AllocError>
-    requires { IsTrue same → AsksFor aliases.now (source sheet.now.text range) old.now }
+    requires seen { ShowAlike seen.now sheet.now.ranges }
+    requires asked { IsTrue same → AsksFor aliases.now (source sheet.now.text range) old.now }
     ensures { IfOk result (λ made. made ≡ entry sheet.now aliases.now (old.now.command, range)) }
 {
     let source = scalars(sheet.text.get().as_slice(), range);
@@ -38,7 +41,7 @@ fn kept_entry(
     Ok(Entry {
         command: old.command,
         range,
-        visible: is_seen(sheet.ranges.get().as_slice(), range),
+        visible: seen.shows(range),
         needs,
     })
 }
@@ -47,10 +50,12 @@ fn kept_entry(
 fn new_entry(
     alloc: Global,
     sheet: &Sheet,
+    seen: &Seen,
     aliases: &Aliases,
     command: CommandId,
     range: Range,
 ) -> Result<Entry, AllocError>
+    requires { ShowAlike seen.now sheet.now.ranges }
     ensures { IfOk result (λ made. made ≡ entry sheet.now aliases.now (command, range)) }
 {
     let source = scalars(sheet.text.get().as_slice(), range);
@@ -58,7 +63,7 @@ fn new_entry(
     Ok(Entry {
         command,
         range,
-        visible: is_seen(sheet.ranges.get().as_slice(), range),
+        visible: seen.shows(range),
         needs,
     })
 }
@@ -67,13 +72,15 @@ fn new_entry(
 fn push_kept(
     alloc: Global,
     sheet: &Sheet,
+    seen: &Seen,
     aliases: &Aliases,
     before: &[Entry],
     same: bool,
     ranges: &[Range],
     entries: &mut Items<Entry>,
 ) -> Result<(), AllocError>
-    requires { IsTrue same → AllZip (λ e r. AsksFor aliases.now (source sheet.now.text r) e)
+    requires seen { ShowAlike seen.now sheet.now.ranges }
+    requires asked { IsTrue same → AllZip (λ e r. AsksFor aliases.now (source sheet.now.text r) e)
         before.now ranges.now }
     ensures { OnOk result (entries.new ≡ entries.old ++ map (entry sheet.now aliases.now)
         (zip (map (λ e. e.command) before.now) ranges.now)) }
@@ -84,7 +91,7 @@ fn push_kept(
         let [range, others @ ..] = rest else {
             return Ok(());
         };
-        entries.push(kept_entry(alloc, sheet, aliases, old, same, *range)?)?;
+        entries.push(kept_entry(alloc, sheet, seen, aliases, old, same, *range)?)?;
         olds = more;
         rest = others;
     }
@@ -95,11 +102,13 @@ fn push_kept(
 fn push_new(
     alloc: Global,
     sheet: &Sheet,
+    seen: &Seen,
     aliases: &Aliases,
     next: u64,
     ranges: &[Range],
     entries: &mut Items<Entry>,
 ) -> Result<(), AllocError>
+    requires seen { ShowAlike seen.now sheet.now.ranges }
     requires first { 1 ≤ next }
     requires last { next + length ranges.now ≤ id_end }
     ensures { OnOk result (entries.new ≡ entries.old ++ map (entry sheet.now aliases.now)
@@ -108,7 +117,7 @@ fn push_new(
     let mut id = next;
     let mut rest = ranges;
     'new: while let [range, more @ ..] = rest {
-        entries.push(new_entry(alloc, sheet, aliases, CommandId::numbered(id), *range)?)?;
+        entries.push(new_entry(alloc, sheet, seen, aliases, CommandId::numbered(id), *range)?)?;
         id += 1;
         rest = more;
     }
@@ -144,10 +153,12 @@ pub fn entries_of(
     let first = &old.entries[..front];
     let last = &old.entries[old.entries.len() - back..];
     let same = old.same_aliases;
+    let seen = Seen::of(alloc, sheet.ranges.get().as_slice())?;
     let mut entries = Items::new(alloc);
     push_kept(
         alloc,
         sheet,
+        &seen,
         aliases,
         first,
         same,
@@ -158,6 +169,7 @@ pub fn entries_of(
     push_new(
         alloc,
         sheet,
+        &seen,
         aliases,
         next,
         &ranges[front..stop],
@@ -166,6 +178,7 @@ pub fn entries_of(
     push_kept(
         alloc,
         sheet,
+        &seen,
         aliases,
         last,
         same,

@@ -12,10 +12,11 @@ mod entries;
 mod old;
 mod places;
 mod runs;
+mod seen;
 mod source;
 
 pub use entries::entries_of;
 pub use old::OldCommands;
-pub use places::{command_ranges, is_seen};
+pub use places::command_ranges;
 pub use runs::{KeptRuns, kept_runs};
 pub use source::{Source, sources};

@@ -1,6 +1,6 @@
-//! Where the commands of a text stand, and which of them are seen.
+//! Where the commands of a text stand.
 ghost use Rattle.std.specs.Prelude.{◌≡◌, IfOk};
-ghost use Rattle.buffer_rules.specs.Cuts.{is_command, command_ranges, share, is_seen};
+ghost use Rattle.buffer_rules.specs.Cuts.{is_command, command_ranges};
 
 use command_spans::{SpanKind, Spans};
 use pide_base::Range;
@@ -26,25 +26,4 @@ pub fn command_ranges(alloc: Global, spans: &Spans) -> Result<Vec<Range>, AllocE
         rest = more;
     }
     Ok(ranges)
-}
-
-/// Whether two ranges have a scalar in common.
-fn share(one: Range, other: Range) -> bool
-    ensures { result ≡ share one other }
-{
-    one.start.max(other.start) < one.stop.min(other.stop)
-}
-
-/// Whether a range has a scalar in common with one of these.
-pub fn is_seen(ranges: &[Range], range: Range) -> bool
-    ensures { result ≡ is_seen ranges.now range }
-{
-    let mut rest = ranges;
-    'each: while let [one, more @ ..] = rest {
-        if share(range, *one) {
-            return true;
-        }
-        rest = more;
-    }
-    false
 }

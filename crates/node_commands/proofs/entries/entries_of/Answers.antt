@@ -11,8 +11,8 @@ use Rattle.node_commands.proofs.Joined.{joined_at, ids_by}
 use Rattle.node_commands.proofs.KeptSources.{asked_front, asked_back}
 use Rattle.node_commands.proofs.entries.entries_of.Goals as goal
 
-pub push_kept-requires : goal.push_kept-requires
-push_kept-requires c =
+pub push_kept-requires-clause-asked : goal.push_kept-requires-clause-asked
+push_kept-requires-clause-asked c =
     let es = c.args.old.now.entries.now in
     let rs = c.args.ranges.now in
     let olds = sources_in c.args.old.now.text.now es in
@@ -23,8 +23,8 @@ push_kept-requires c =
     λ same. subst P (sym c.front-front.ensures)
     (asked_front c.args.aliases.now c.args.old.now.text.now c.args.sheet.now.text es rs c.args.runs.now (c.requires.asked same) so c.requires.old c.requires.now)
 
-pub push_kept-requires-2 : goal.push_kept-requires-2
-push_kept-requires-2 c =
+pub push_kept-requires-2-clause-asked : goal.push_kept-requires-2-clause-asked
+push_kept-requires-2-clause-asked c =
     let es = c.args.old.now.entries.now in
     let rs = c.args.ranges.now in
     let k = c.args.runs.now in

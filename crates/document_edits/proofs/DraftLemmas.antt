@@ -1,0 +1,141 @@
+-- What items make of open nodes, and of the nodes that come of them.
+use Rattle.std.proofs.Common.{◌≡◌, ℕ, ◌≤◌, Bool, true, false, cond, List, [], ◌∷◌, length, drop, get_or, map, arith, Option, Some, None, Result, Ok, Err, refl, sym, ap, subst, ◌∙◌}
+use Rattle.std.specs.Option.{option_map, option_map_or, is_some}
+use Rattle.std.specs.List.{AllZip}
+use Rattle.std.proofs.lemmas.Bool.{false≢true}
+use Rattle.shared_map.specs.Pairs.{found}
+use Rattle.shared_map.specs.Changes.{put, without}
+use Rattle.doc_nodes.specs.declared.node.Node.{Node}
+use Rattle.doc_nodes.specs.Names.{in_order}
+use Rattle.doc_nodes.specs.Imports.{NodeList}
+use Rattle.text_edits.specs.declared.edit.Edit.{Edit}
+use Rattle.message_values.specs.declared.item.Item.{Item}
+use Rattle.message_values.specs.declared.item.Perspective.{Perspective}
+use Rattle.message_values.specs.declared.item.Change.TheVariants as change
+use Rattle.message_values.specs.declared.refusal.Refusal.{Refusal}
+use Rattle.message_values.specs.declared.refusal.Refusal.TheVariants.{UnknownNode}
+use Rattle.buffer_rules.specs.declared.sheet.Sheet.{Sheet}
+use Rattle.buffer_rules.specs.Trying.{◌>>=◌, steps}
+use Rattle.buffer_rules.specs.Sheets.{SheetList, blank, sheet_of, sheet_after, change_one, item_once}
+use Rattle.buffer_rules.specs.Nodes.{uncut}
+use Rattle.sheet_edits.specs.declared.fault.PrepareError.{PrepareError}
+use Rattle.sheet_edits.specs.OpenSheet.{OpenSheet}
+use Rattle.sheet_edits.specs.declared.fault.PrepareError.TheVariants.{Refused, NoMemory}
+use Rattle.sheet_edits.specs.Telling.{Tells, TellsError}
+use Rattle.document_edits.specs.Standing.{OpenList, sheets_of, bare, DraftedUnder, Drafted}
+use Rattle.document_edits.proofs.KeyLists.{found-over, over-put, over-without}
+use Rattle.document_edits.proofs.PairLists.{AllZip-put, AllZip-without}
+
+abbrev pub sheet : OpenSheet → Sheet
+sheet o = o.sheet
+
+pub sheets_put : (opened : OpenList) (name : List ℕ) (o : OpenSheet) → sheets_of (put in_order (name, o) opened) ≡ put in_order (name, o.sheet) (sheets_of opened)
+sheets_put opened name o = over-put sheet in_order name o opened
+
+sheets_without : (opened : OpenList) (name : List ℕ) → sheets_of (without in_order name opened) ≡ without in_order name (sheets_of opened)
+sheets_without opened name = over-without sheet in_order name opened
+
+sheets_found : (opened : OpenList) (name : List ℕ) → found in_order name (sheets_of opened) ≡ option_map sheet (found in_order name opened)
+sheets_found opened name = found-over sheet in_order name opened
+
+-- the sheet of a name: that of its node, or a blank one
+pub sheet_there : (opened : OpenList) (name : List ℕ) (o : OpenSheet) → found in_order name opened ≡ Some o → sheet_of name (sheets_of opened) ≡ o.sheet
+sheet_there opened name o e = ap (λ (s : Option Sheet). option_map_or (λ (t : Sheet). t) s blank) (sheets_found opened name ∙ ap (option_map sheet) e)
+
+pub sheet_blank : (opened : OpenList) (name : List ℕ) → found in_order name opened ≡ None → sheet_of name (sheets_of opened) ≡ blank
+sheet_blank opened name e = ap (λ (s : Option Sheet). option_map_or (λ (t : Sheet). t) s blank) (sheets_found opened name ∙ ap (option_map sheet) e)
+
+-- a node that is closed goes, unless it isn't there
+pub closed : (opened : OpenList) (name : List ℕ) → is_some (found in_order name opened) ≡ true
+    → change_one name change.Close (sheets_of opened) ≡ Ok (sheets_of (without in_order name opened))
+closed opened name there =
+    ap (λ (s : Option Sheet). answer s) (sheets_found opened name) ∙ go (found in_order name opened) there
+  where
+    answer : Option Sheet → Result SheetList Refusal
+    answer s = option_map_or (λ (t : Sheet). Ok (without in_order name (sheets_of opened))) s (Err UnknownNode)
+
+    go : (o : Option OpenSheet) → is_some o ≡ true → option_map_or (λ (t : Sheet). Ok (without in_order name (sheets_of opened))) (option_map sheet o) (Err UnknownNode)
+        ≡ Ok (sheets_of (without in_order name opened))
+    go None e = absurd (false≢true e)
+    go (Some x) e = ap (λ ss. Ok ss) (sym (sheets_without opened name))
+
+pub unknown : (opened : OpenList) (name : List ℕ) → is_some (found in_order name opened) ≡ false
+    → change_one name change.Close (sheets_of opened) ≡ Err UnknownNode
+unknown opened name none =
+    ap (λ (s : Option Sheet). option_map_or (λ (t : Sheet). Ok (without in_order name (sheets_of opened))) s (Err UnknownNode)) (sheets_found opened name)
+    ∙ go (found in_order name opened) none
+  where
+    go : (o : Option OpenSheet) → is_some o ≡ false → option_map_or (λ (t : Sheet). Ok (without in_order name (sheets_of opened))) (option_map sheet o) (Err UnknownNode)
+        ≡ Err UnknownNode
+    go None e = refl
+    go (Some x) e = absurd (false≢true (sym e))
+
+-- a node that has to be cut is put
+pub drafted_put : (tip : NodeList) (opened : OpenList) (nodes : NodeList) (name : List ℕ) (o : OpenSheet) (node : Node)
+    → o.cut_under ≡ None → node ≡ uncut o.sheet → AllZip (Drafted tip) opened nodes
+    → AllZip (Drafted tip) (put in_order (name, o) opened) (put in_order (name, node) nodes)
+drafted_put tip opened nodes name o node none made all =
+    AllZip-put (Drafted tip) (λ x y q. q.0) in_order name o node opened nodes
+    (refl, subst (λ u. DraftedUnder tip u name o.sheet node) (sym none) (ap bare made)) all
+
+pub drafted_without : (tip : NodeList) (opened : OpenList) (nodes : NodeList) (name : List ℕ) → AllZip (Drafted tip) opened nodes
+    → AllZip (Drafted tip) (without in_order name opened) (without in_order name nodes)
+drafted_without tip opened nodes name all = AllZip-without (Drafted tip) (λ x y q. q.0) in_order name opened nodes all
+
+-- what is told of the sheet of a node is told of the sheet of its name
+pub sheet_told : (opened : OpenList) (name : List ℕ) (o : OpenSheet) (edits : List Edit) (told : Option Perspective) (r : Result OpenSheet PrepareError)
+    → found in_order name opened ≡ Some o → Tells sheet r (sheet_after edits told o.sheet) → Tells sheet r (sheet_after edits told (sheet_of name (sheets_of opened)))
+sheet_told opened name o edits told r there is = subst (λ s. Tells sheet r (sheet_after edits told s)) (sym (sheet_there opened name o there)) is
+
+pub blank_told : (opened : OpenList) (name : List ℕ) (o : OpenSheet) (edits : List Edit) (told : Option Perspective) (r : Result OpenSheet PrepareError)
+    → found in_order name opened ≡ None → o ≡ record { sheet = blank; cut_under = None }
+    → Tells sheet r (sheet_after edits told o.sheet) → Tells sheet r (sheet_after edits told (sheet_of name (sheets_of opened)))
+blank_told opened name o edits told r none made is =
+    subst (λ s. Tells sheet r (sheet_after edits told s)) (ap sheet made ∙ sym (sheet_blank opened name none)) is
+
+-- the same where a key is a copy of the name
+pub sheets_put_so : (opened new : OpenList) (name key : List ℕ) (o : OpenSheet) → key ≡ name → new ≡ put in_order (key, o) opened
+    → sheets_of new ≡ put in_order (name, o.sheet) (sheets_of opened)
+sheets_put_so opened new name key o same e =
+    ap sheets_of (e ∙ ap (λ k. put in_order (k, o) opened) same) ∙ sheets_put opened name o
+
+pub drafted_put_so : (tip : NodeList) (opened new : OpenList) (nodes more : NodeList) (name key other : List ℕ) (o : OpenSheet) (node : Node)
+    → o.cut_under ≡ None → key ≡ name → other ≡ name → node ≡ uncut o.sheet → new ≡ put in_order (key, o) opened → more ≡ put in_order (other, node) nodes
+    → AllZip (Drafted tip) opened nodes → AllZip (Drafted tip) new more
+drafted_put_so tip opened new nodes more name key other o node none same twin made e f all =
+    subst (λ os. AllZip (Drafted tip) os more) (sym (e ∙ ap (λ k. put in_order (k, o) opened) same))
+    (subst (λ ns. AllZip (Drafted tip) (put in_order (name, o) opened) ns) (sym (f ∙ ap (λ k. put in_order (k, node) nodes) twin))
+    (drafted_put tip opened nodes name o node none made all))
+
+pub closed_so : (opened new : OpenList) (name : List ℕ) → new ≡ without in_order name opened → is_some (found in_order name opened) ≡ true
+    → change_one name change.Close (sheets_of opened) ≡ Ok (sheets_of new)
+closed_so opened new name e there = closed opened name there ∙ ap (λ (os : OpenList). Ok (sheets_of os)) (sym e)
+
+pub drafted_without_so : (tip : NodeList) (opened new : OpenList) (nodes more : NodeList) (name : List ℕ)
+    → new ≡ without in_order name opened → more ≡ without in_order name nodes
+    → AllZip (Drafted tip) opened nodes → AllZip (Drafted tip) new more
+drafted_without_so tip opened new nodes more name e f all =
+    subst (λ os. AllZip (Drafted tip) os more) (sym e)
+    (subst (λ ns. AllZip (Drafted tip) (without in_order name opened) ns) (sym f) (drafted_without tip opened nodes name all))
+
+-- an item that edits a node
+pub item_edited : (name : List ℕ) (edits : List Edit) (told : Option Perspective) (sheets new : SheetList) (s : Sheet)
+    → sheet_after edits told (sheet_of name sheets) ≡ Ok s → new ≡ put in_order (name, s) sheets
+    → change_one name (change.Edit edits told) sheets ≡ Ok new
+item_edited name edits told sheets new s made e =
+    ap (λ r. r >>= λ sheet. Ok (put in_order (name, sheet) sheets)) made ∙ ap (λ (ss : SheetList). Ok ss) (sym e)
+
+-- a refusal of the first step is that of both
+pub told_then : {A B : Type 0} (e : PrepareError) (r : Result A Refusal) (f : A → Result B Refusal) → TellsError e r → TellsError e (r >>= f)
+told_then (Refused refusal) r f told = ap (λ s. s >>= f) told
+told_then NoMemory r f told = tt
+
+-- a list that has an item, taken apart at its first
+pub head_tail : {X : Type 0} (xs : List X) (x : X) → 1 ≤ length xs → x ≡ get_or xs 0 x → xs ≡ x ∷ drop 1 xs
+head_tail [] x some is = absurd (omega arith)
+head_tail (y ∷ xs) x some is = ap (λ z. z ∷ xs) (sym is)
+
+-- one item and then the others
+pub next_item : (item : Item) (more : List Item) (sheets after : SheetList) (whole : Result SheetList Refusal)
+    → steps item_once (item ∷ more) sheets ≡ whole → item_once item sheets ≡ Ok after → steps item_once more after ≡ whole
+next_item item more sheets after whole same once = sym (ap (λ r. r >>= steps item_once more) once) ∙ same

@@ -1,0 +1,4 @@
+pub mod KeyLists
+pub mod PairLists
+mod DraftLemmas
+mod NameSets

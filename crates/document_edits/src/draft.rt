@@ -1,0 +1,125 @@
+//! Open nodes while the items of an update are made.
+ghost use Rattle.std.specs.Prelude.{◌≡◌, None, IfOk};
+ghost use Rattle.std.specs.List.{AllZip};
+ghost use Rattle.shared_map.specs.Changes.{put};
+ghost use Rattle.doc_nodes.specs.Names.{in_order};
+ghost use Rattle.doc_nodes.specs.Imports.{NodeList};
+ghost use Rattle.message_values.specs.declared.item.Change.{Change};
+ghost use Rattle.buffer_rules.specs.Trying.{steps};
+ghost use Rattle.buffer_rules.specs.Sheets.{sheet_of, sheet_after, change_one, item_once};
+ghost use Rattle.sheet_edits.specs.Telling.{Tells};
+ghost use Rattle.document_edits.specs.Standing.{sheets_of, Drafted};
+
+use doc_nodes::Nodes;
+use message_values::{Change, Item, Perspective, Refusal};
+use pide_base::NodeName;
+use shared_map::SharedMap;
+use sheet_edits::{OpenNode, PrepareError, uncut};
+use std::alloc::{AllocError, Global};
+use text_edits::Edit;
+
+/// The open nodes, by name.
+pub type OpenNodes = SharedMap<NodeName, OpenNode>;
+
+/// The open nodes while an update is made, and the nodes of the version that comes of it. A node
+/// that an item names is there without commands, and its commands have to be cut; another is the
+/// node of the version before.
+#[derive(Drop)]
+pub struct Draft {
+    pub opened: OpenNodes,
+    pub nodes: Nodes,
+}
+
+/// The node of the name after edits and a perspective, if there is one. It begins blank.
+#[tactic(auto, using(crate::proofs::DraftLemmas::sheet_told, crate::proofs::DraftLemmas::blank_told))]
+fn edited_node(
+    alloc: Global,
+    opened: &OpenNodes,
+    name: &NodeName,
+    edits: &[Edit],
+    told: &Option<Perspective>,
+) -> Result<OpenNode, PrepareError>
+    ensures node { Tells (λ node. node.sheet) result
+        (sheet_after edits.now told.now (sheet_of name.now (sheets_of opened.now))) }
+    ensures uncut { IfOk result (λ node. node.cut_under ≡ None) }
+{
+    match opened.get(name) {
+        Some(node) => node.edited(alloc, edits, told),
+        None => OpenNode::blank(alloc)?.edited(alloc, edits, told),
+    }
+}
+
+impl Draft {
+    /// With an open node in the place of the one of its name.
+    #[tactic(auto, using(crate::proofs::DraftLemmas::sheets_put_so, crate::proofs::DraftLemmas::drafted_put_so))]
+    fn with_node(self, alloc: Global, name: &NodeName, node: OpenNode) -> Result<Draft, AllocError>
+        requires { node.cut_under ≡ None }
+        ensures opened { IfOk result (λ draft. sheets_of draft.opened
+            ≡ put in_order (name.now, node.sheet) (sheets_of self.opened)) }
+        ensures drafted { (tip : NodeList) → AllZip (Drafted tip) self.opened self.nodes
+            → IfOk result (λ draft. AllZip (Drafted tip) draft.opened draft.nodes) }
+    {
+        let Draft {
+            mut opened,
+            mut nodes,
+        } = self;
+        let made = uncut(alloc, node.sheet())?;
+        nodes.set(alloc, name.clone()?, made)?;
+        opened.set(alloc, name.clone()?, node)?;
+        Ok(Draft { opened, nodes })
+    }
+
+    /// Without the node of the name.
+    #[tactic(auto, using(crate::proofs::DraftLemmas::closed_so, crate::proofs::DraftLemmas::unknown, crate::proofs::DraftLemmas::drafted_without_so))]
+    fn without_node(self, alloc: Global, name: &NodeName) -> Result<Draft, PrepareError>
+        ensures opened { Tells (λ draft. sheets_of draft.opened) result
+            (change_one name.now Change.Close (sheets_of self.opened)) }
+        ensures drafted { (tip : NodeList) → AllZip (Drafted tip) self.opened self.nodes
+            → IfOk result (λ draft. AllZip (Drafted tip) draft.opened draft.nodes) }
+    {
+        let Draft {
+            mut opened,
+            mut nodes,
+        } = self;
+        if !opened.remove(alloc, name)? {
+            return Err(PrepareError::Refused(Refusal::UnknownNode));
+        }
+        nodes.remove(alloc, name)?;
+        Ok(Draft { opened, nodes })
+    }
+
+    /// After one item. At an error all is let go.
+    #[tactic(auto, using(crate::proofs::DraftLemmas::item_edited, crate::proofs::DraftLemmas::told_then))]
+    fn with_item(self, alloc: Global, item: &Item) -> Result<Draft, PrepareError>
+        ensures opened { Tells (λ draft. sheets_of draft.opened) result
+            (item_once item.now (sheets_of self.opened)) }
+        ensures drafted { (tip : NodeList) → AllZip (Drafted tip) self.opened self.nodes
+            → IfOk result (λ draft. AllZip (Drafted tip) draft.opened draft.nodes) }
+    {
+        match &item.change {
+            Change::Close => self.without_node(alloc, &item.node),
+            Change::Edit { edits, perspective } => {
+                let edits = edits.as_slice();
+                let node = edited_node(alloc, &self.opened, &item.node, edits, perspective)?;
+                Ok(self.with_node(alloc, &item.node, node)?)
+            }
+        }
+    }
+
+    /// After the items, one after the other. `UnknownNode`, `EditOutOfRange`, `RemoveDiffers` and
+    /// `PerspectiveOutOfRange` come with the first item that is refused. At an error all is let go.
+    pub fn with_items(self, alloc: Global, items: &[Item]) -> Result<Draft, PrepareError>
+        ensures opened { Tells (λ draft. sheets_of draft.opened) result
+            (steps item_once items.now (sheets_of self.opened)) }
+        ensures drafted { (tip : NodeList) → AllZip (Drafted tip) self.opened self.nodes
+            → IfOk result (λ draft. AllZip (Drafted tip) draft.opened draft.nodes) }
+    {
+        let mut draft = self;
+        let mut rest = items;
+        'each: while let [item, more @ ..] = rest {
+            draft = draft.with_item(alloc, item)?;
+            rest = more;
+        }
+        Ok(draft)
+    }
+}

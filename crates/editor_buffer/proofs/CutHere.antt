@@ -1,0 +1,41 @@
+-- What is told of the node at a place.
+use Rattle.std.proofs.Common.{◌≡◌, ℕ, List, Some, Result, Ok, Err, sym, subst, ◌∙◌}
+use Rattle.std.specs.Prelude.{slice_get}
+use Rattle.std.specs.Result.{IfErr, IsErrAnd}
+use Rattle.doc_nodes.specs.declared.node.Node.{Node}
+use Rattle.doc_nodes.specs.Imports.{NodeList}
+use Rattle.doc_nodes.specs.Aliases.{aliases_at}
+use Rattle.buffer_rules.specs.Sheets.{SheetList}
+use Rattle.buffer_rules.specs.Nodes.{Numbered, uncut_all}
+use Rattle.sheet_edits.specs.OpenSheet.{OpenSheet}
+use Rattle.sheet_edits.specs.declared.fault.PrepareError.{PrepareError}
+use Rattle.sheet_edits.specs.declared.fault.PrepareError.TheVariants.{Refused, NoMemory}
+use Rattle.document_edits.specs.Standing.{Drafted}
+use Rattle.editor_buffer.specs.Cutting.{GivesRemade, PassesLast, whole, IsCutUpTo}
+use Rattle.editor_buffer.specs.declared.cutting.Cutting.{Cutting}
+use Rattle.editor_buffer.proofs.CutSteps.{passes}
+use Rattle.editor_buffer.proofs.CutPlaces.{IsHere}
+
+module _ (tip : NodeList) (sheets : SheetList) (first place : ℕ) (c : Cutting) (is : IsCutUpTo tip sheets first place c)
+    (at : IsHere tip c place is.rest_open is.rest) where
+  -- what is found at the place is drafted
+  pub drafted_here : (o : List ℕ × OpenSheet) (n : List ℕ × Node) → Some o ≡ slice_get c.opened place → Some n ≡ slice_get c.nodes place → Drafted tip o n
+  drafted_here o n e f =
+      let both : Some o ≡ Some at.opened = e ∙ at.open_at in
+      let all : Some n ≡ Some at.node = f ∙ at.node_at in
+      let one : at.opened ≡ o = cc in
+      let other : at.node ≡ n = cc in
+      subst (λ q. Drafted tip q n) one (subst (λ m. Drafted tip at.opened m) other at.drafted)
+
+  -- where it is refused, all are
+  pub refused_here : (e : PrepareError)
+      → GivesRemade tip at.opened.0 at.opened.1 at.node.1 (aliases_at (uncut_all sheets) place).pairs c.next (Err e)
+      → PassesLast (whole tip sheets first) e
+  refused_here (Refused refusal) so = (so.0, passes tip sheets first place c is at.opened.0 at.opened.1 at.open_more at.open_is so.1)
+  refused_here NoMemory so = tt
+
+-- an error that is passed on
+pub err_passed : {T : Type 0} (r : Result T PrepareError) (e : PrepareError) (n : Numbered) → IsErrAnd r (λ shown. shown ≡ e) → PassesLast n e
+    → IfErr r (PassesLast n)
+err_passed (Ok made) e n is passed = tt
+err_passed (Err shown) e n is passed = subst (PassesLast n) (sym is) passed

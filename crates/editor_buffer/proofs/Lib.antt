@@ -1,0 +1,10 @@
+mod SameLists
+mod BareNodes
+mod CutLemmas
+mod CutParts
+mod CutSteps
+mod CutPlaces
+mod CutStart
+mod CutHere
+mod FirstDraft
+mod StandingNodes

@@ -1,0 +1,3 @@
+pub mod CutNodes
+pub mod Cutting
+pub mod Preparation

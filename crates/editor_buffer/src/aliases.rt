@@ -1,0 +1,46 @@
+//! Aliases compared.
+ghost use Rattle.std.specs.Prelude.{◌≡◌, Some, slice_get};
+ghost use Rattle.std.specs.Option.{option_copied, option_and_then};
+ghost use Rattle.std.specs.Bool.{OnTrue};
+
+use doc_nodes::Aliases;
+use sheet_edits::OpenNode;
+
+/// Whether both have the same alias at the place.
+fn same_at(aliases: &Aliases, others: &Aliases, place: usize) -> bool
+    ensures { OnTrue result (slice_get aliases.now place ≡ slice_get others.now place) }
+{
+    match (aliases.at(place), others.at(place)) {
+        (Some((name, target)), Some((other, aim))) => name == other && target == aim,
+        _ => false,
+    }
+}
+
+/// Whether both have the same aliases in the same order.
+fn same_aliases(aliases: &Aliases, others: &Aliases) -> bool
+    ensures { OnTrue result (aliases.now ≡ others.now) }
+{
+    if aliases.len() != others.len() {
+        return false;
+    }
+    'pairs: for place in 0..aliases.len() {
+        if !same_at(aliases, others, place) {
+            return false;
+        }
+    }
+    true
+}
+
+/// Whether the commands of the node were cut under these aliases.
+pub(crate) fn is_cut_under(opened: Option<&OpenNode>, aliases: &Aliases) -> bool
+    ensures { OnTrue result
+        (option_and_then (λ o. o.cut_under) (option_copied opened.entry) ≡ Some aliases.now) }
+{
+    let Some(opened) = opened else {
+        return false;
+    };
+    let Some(under) = opened.cut_under() else {
+        return false;
+    };
+    same_aliases(under.get(), aliases)
+}
