@@ -1,0 +1,14 @@
+pub mod Services
+pub mod Session
+pub mod Heard
+pub mod Updating
+pub mod Looking
+pub mod Accepting
+pub mod History
+pub mod Steps
+pub mod Legal
+pub mod Alone
+pub mod Shown
+pub mod Replies
+pub mod Small
+pub mod Worked

@@ -1,0 +1,51 @@
+-- Small sessions: a language whose commands are said again, and messages (this project's own).
+use Rattle.std.specs.Prelude.{ℕ, List, [], ◌∷◌, codes, Ok}
+use Rattle.text_edits.specs.declared.edit.Edit.{Edit}
+use Rattle.message_values.specs.declared.editor_message.EditorMessage.TheVariants as asks
+use Rattle.message_values.specs.declared.item.Item.{Item}
+use Rattle.message_values.specs.declared.item.Change.TheVariants as change
+use Rattle.buffer_rules.specs.Examples.{all_wanted}
+use Rattle.text_edits.specs.declared.edit.Edit.TheVariants.{Insert}
+use Rattle.reply_writing.specs.declared.told.Told.{Told}
+use Rattle.core_rules.specs.Small.{small}
+use Rattle.session_rules.specs.declared.service.Service.{Service}
+use Rattle.session_rules.specs.declared.service.Service.TheVariants.{Workers, Script}
+use Rattle.session_rules.specs.Heard.{Heard, Message}
+use Rattle.session_rules.specs.Replies.{told}
+
+-- messages: an update of nodes, a settle, a snapshot, a cancellation, a removal
+abbrev pub update : ℕ → List Item → Heard
+update version items = Message (Ok (asks.Update version items []))
+
+abbrev pub settle : ℕ → Heard
+settle version = Message (Ok (asks.Settle version))
+
+abbrev pub snapshot : ℕ → List ℕ → List Edit → Heard
+snapshot version node edits = Message (Ok (asks.Snapshot version node edits))
+
+abbrev pub cancel : ℕ → Heard
+cancel exec = Message (Ok (asks.Cancel exec))
+
+abbrev pub remove : List ℕ → Heard
+remove versions = Message (Ok (asks.RemoveVersions versions))
+
+-- what a worker is told to do
+abbrev pub claim : ℕ → Heard
+claim worker = Message (Ok (asks.Claim worker))
+
+abbrev pub finish : ℕ → Heard
+finish worker = Message (Ok (asks.Finish worker))
+
+-- a required node of two commands, one that is put in
+abbrev pub two_commands : Item
+two_commands = record {
+  node = codes "A";
+  change = change.Edit (Insert 0 (codes "theory A begin end") ∷ []) all_wanted;
+}
+
+-- what is told of an entry by a session without workers, and by one that follows a script
+abbrev pub alone : List Heard → Heard → List Told
+alone h e = told small (Workers 0) h e
+
+abbrev pub scripted : List Heard → Heard → List Told
+scripted h e = told small Script h e
