@@ -69,6 +69,13 @@ impl<V> Versions<V> {
         self.live.len()
     }
 
+    /// The live versions, oldest first.
+    pub fn live(&self) -> &[Live<V>]
+        ensures { result.now ≡ self.now.live }
+    {
+        &self.live
+    }
+
     /// The newest version: the one that was pushed last, or the start.
     pub fn tip(&self) -> &Version<V>
         ensures { result.now ≡ tip_of self.now }

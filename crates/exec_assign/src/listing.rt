@@ -111,7 +111,7 @@ fn same_print(print: &Option<ExecId>, had: &Option<ExecId>) -> bool
 
 impl Assignment {
     /// The rows of the node at the place.
-    fn rows_at(&self, place: usize) -> &[Row]
+    pub fn rows_at(&self, place: usize) -> &[Row]
         ensures { result.now ≡ (slice_index_or self.now.assigned place nothing).rows }
     {
         match self.assigned.get(place) {
@@ -121,7 +121,7 @@ impl Assignment {
     }
 
     /// Whether the node at the place is marked as one that has what it had.
-    fn has_stood(&self, place: usize) -> bool
+    pub fn has_stood(&self, place: usize) -> bool
         ensures { result ≡ marked self.now.standing place }
     {
         place < self.standing.len() && self.standing.as_slice()[place]
