@@ -1,6 +1,7 @@
 mod Scanning
 mod Headings
 mod Newlines
+mod Counting
 mod Cutting
 mod Reaching
 mod Spelled

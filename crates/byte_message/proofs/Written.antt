@@ -1,6 +1,6 @@
 -- What is written is a spelling.
-use Rattle.std.proofs.Common.{◌≡◌, ℕ, zero, suc, ◌-◌, ◌≤◌, true, false, ◌==◌, nat_lt, List, [], ◌∷◌, ◌++◌, length, map, Some, None, Ok, inl, inr, refl, ap, sym, ◌∙◌, arith, append_assoc}
-use Rattle.std.proofs.lemmas.List.{length-map}
+use Rattle.std.proofs.Common.{◌≡◌, ℕ, zero, suc, ◌-◌, ◌*◌, ◌≤◌, true, false, ◌==◌, nat_lt, List, [], ◌∷◌, ◌++◌, length, map, Some, None, Ok, inl, inr, refl, ap, sym, ◌∙◌, arith, append_assoc}
+use Rattle.std.proofs.lemmas.List.{length-map, length-append}
 use Rattle.std.specs.Fmt.{decimal}
 use Rattle.std.specs.List.{AllByRecursion, concat, join_with_byte, list_all, slice_index_or}
 use Rattle.byte_message.specs.Line.{is_digit, too_long, judge, judge_numbers}
@@ -77,3 +77,17 @@ written (chunk ∷ chunks) m =
     let split : plain_spelling all ≡ (line ++ 10 ∷ []) ++ body = ap (λ x. join_with_byte 44 x ++ (10 ∷ body)) (in_decimal all) ∙ sym (append_assoc line (10 ∷ []) body) in
     ap heading split ∙ heading-line line body (no_newline line (plain_line (map length all) f))
     ∙ ap (λ r. judged r body) (fit-line (length chunk) (map length chunks) f count)
+
+short_length : (chunks : List (List ℕ)) → AllByRecursion (λ chunk. length chunk ≤ 16777216) chunks → length (concat chunks) ≤ length chunks * 16777216
+short_length [] h = omega arith
+short_length (chunk ∷ chunks) (h, f) =
+    let ih = short_length chunks f in
+    let l = length-append chunk (concat chunks) in
+    omega arith
+
+-- the chunks of a message have at most 2^28 bytes
+pub message_length : (chunks : List (List ℕ)) → IsMessage chunks → length (concat chunks) ≤ 268435456
+message_length chunks m =
+    let few = m.few in
+    let short = short_length chunks m.short in
+    omega arith

@@ -7,5 +7,6 @@ pub mod Kept
 pub mod Parts
 pub mod Begun
 pub mod Scan
+pub mod Counted
 pub mod State
 pub mod Feeding

@@ -2,13 +2,14 @@
 ghost use Rattle.std.specs.Prelude.{◌≡◌, ℕ, List, ◌++◌, ◌+◌, ◌<◌, ◌≤◌, ◌^◌, IfOk, Some, length, sum, take, drop};
 ghost use Rattle.byte_message.specs.Heading.{heading, line_of, after_line};
 ghost use Rattle.byte_message.specs.Heading.Heading.{Fit, Unended};
+ghost use Rattle.byte_message.specs.Line.{judge};
 ghost use Rattle.byte_message.specs.Begun.{BeginsAs};
 
+use crate::lengths::Lengths;
 use crate::line::{LONGEST_LINE, judge, newline};
 use crate::line_fault::LineFault;
 use crate::message::Message;
 use crate::part::Chunks;
-use sqlite_items::Items;
 use std::alloc::{AllocError, Global};
 
 /// What came of it.
@@ -32,24 +33,35 @@ fn total(lengths: &[usize]) -> usize
     lengths.iter().sum()
 }
 
-/// What follows a fit line: the bytes of its chunks, or fewer. Such a line and its newline are
-/// `used` bytes of the piece.
+/// The line that begins with `head` and goes on in the piece for so many bytes.
+fn line_kept(alloc: Global, head: &[u8], piece: &[u8], used: usize) -> Result<Vec<u8>, AllocError>
+    requires { used ≤ length piece.now }
+    ensures { IfOk result (λ line. line.items ≡ head.now ++ take used piece.now) }
+{
+    let mut line = Vec::from_slice(alloc, head)?;
+    line.extend_from_slice(&piece[..used])?;
+    Ok(line)
+}
+
+/// What follows a fit line: the bytes of its chunks, or fewer. Such a line begins with `head`, and
+/// with its newline it has `used` bytes of the piece.
 fn chunks_after(
     alloc: Global,
-    line: Vec<u8>,
-    lengths: Items<usize>,
+    head: &[u8],
+    lengths: Lengths,
     piece: &[u8],
     used: usize,
 ) -> Result<Begun, AllocError>
-    requires headed { (body : List ℕ) → heading (line.items ++ body) ≡ Fit lengths body }
+    requires headed { (body : List ℕ)
+        → heading ((head.now ++ take used piece.now) ++ body) ≡ Fit lengths body }
     requires used { (0 < used) × (used ≤ length piece.now) }
     requires small { sum lengths < 2 ^ 30 }
-    ensures { IfOk result (λ begun. (head : List ℕ)
-        → line.items ≡ head ++ take used piece.now → BeginsAs head piece.now begun) }
+    ensures { IfOk result (BeginsAs head.now piece.now) }
 {
     let whole = total(lengths.as_slice());
     let body = &piece[used..];
     if body.len() < whole {
+        let line = line_kept(alloc, head, piece, used)?;
         let bytes = Vec::from_slice(alloc, body)?;
         Ok(Begun::Within(Chunks {
             line,
@@ -67,6 +79,24 @@ fn chunks_after(
     }
 }
 
+/// Judges the line that begins with `head` and has so many bytes more, up to its newline. It is
+/// copied only where it came in two pieces.
+fn judged(
+    alloc: Global,
+    head: &[u8],
+    piece: &[u8],
+    used: usize,
+) -> Result<Result<Lengths, LineFault>, AllocError>
+    requires { used ≤ length piece.now }
+    ensures { IfOk result (λ verdict. verdict ≡ judge (head.now ++ take used piece.now)) }
+{
+    if head.is_empty() {
+        return Ok(judge(&piece[..used]));
+    }
+    let line = line_kept(alloc, head, piece, used)?;
+    Ok(judge(line.as_slice()))
+}
+
 /// Judges the line of these bytes, which end with a newline that is the first.
 fn at_newline(alloc: Global, head: &[u8], piece: &[u8], used: usize) -> Result<Begun, AllocError>
     requires head { heading head.now ≡ Unended }
@@ -75,14 +105,9 @@ fn at_newline(alloc: Global, head: &[u8], piece: &[u8], used: usize) -> Result<B
     requires after { after_line piece.now ≡ Some (drop (used + 1) piece.now) }
     ensures { IfOk result (BeginsAs head.now piece.now) }
 {
-    let mut line = Vec::from_slice(alloc, head)?;
-    line.extend_from_slice(&piece[..used])?;
-    match judge(alloc, line.as_slice())? {
+    match judged(alloc, head, piece, used)? {
         Err(fault) => Ok(Begun::Bad(fault)),
-        Ok(lengths) => {
-            line.push(b'\n')?;
-            chunks_after(alloc, line, lengths, piece, used + 1)
-        }
+        Ok(lengths) => chunks_after(alloc, head, lengths, piece, used + 1),
     }
 }
 

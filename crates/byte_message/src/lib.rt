@@ -10,6 +10,7 @@ mod fault;
 mod frame_fault;
 mod frames;
 mod laws;
+mod lengths;
 mod line;
 mod line_fault;
 mod message;

@@ -1,21 +1,19 @@
 //! Judging a header line.
-ghost use Rattle.std.specs.Prelude.{◌≡◌, ◌<◌, ◌≤◌, ◌+◌, IfOk, IsTrue, Some, None, take, drop, length, MatchOption};
+ghost use Rattle.std.specs.Prelude.{◌≡◌, ℕ, List, [], ◌∷◌, ◌++◌, ◌<◌, ◌≤◌, ◌+◌, ◌^◌, IsTrue, Some, None, take, drop, length, MatchOption};
 ghost use Rattle.std.specs.Option.{unwrap_or, IfSome};
 ghost use Rattle.byte_message.specs.Limits.{longest_chunk};
 ghost use Rattle.byte_message.specs.Line.{judge, judge_numbers, too_long, without_cr, is_digit};
 ghost use Rattle.byte_message.specs.Scan.{scan, grown};
+ghost use Rattle.byte_message.specs.Counted.{AreCounted};
 ghost use Rattle.byte_message.specs.Heading.{line_of, after_line};
 
+use crate::lengths::{Lengths, MOST_CHUNKS};
 use crate::line_fault::LineFault;
-use sqlite_items::Items;
-use std::alloc::{AllocError, Global};
 
 /// The most bytes before a newline.
 pub(crate) const LONGEST_LINE: usize = 200;
 /// The most bytes of a chunk, 2^24.
 const LONGEST_CHUNK: usize = 16777216;
-/// The most chunks of a message.
-const MOST_CHUNKS: usize = 16;
 
 /// The place of the first newline.
 pub(crate) fn newline(bytes: &[u8]) -> Option<usize>
@@ -59,27 +57,60 @@ fn grown(before: Option<usize>, digit: u8) -> usize
     more.min(LONGEST_CHUNK + 1)
 }
 
+/// Numbers that were read: as many of the first as a message may have chunks, and how many there
+/// are.
+#[derive(Drop)]
+struct FirstNumbers {
+    first: Lengths,
+    count: usize,
+}
+
+impl FirstNumbers {
+    /// No numbers.
+    fn new() -> FirstNumbers
+        ensures { AreCounted result [] }
+    {
+        FirstNumbers {
+            first: Lengths::new(),
+            count: 0,
+        }
+    }
+
+    /// One number more.
+    fn push(&mut self, number: usize)
+        requires { self.old.count < 2 ^ 63 }
+        ensures counted { (all : List ℕ)
+            → AreCounted self.old all → AreCounted self.new (all ++ number ∷ []) }
+        ensures count { self.new.count ≡ self.old.count + 1 }
+    {
+        self.first.push(number);
+        self.count += 1;
+    }
+}
+
 /// The decimal numbers that a text is, joined by commas, as far as they matter.
-fn numbers(alloc: Global, text: &[u8]) -> Result<Option<Items<usize>>, AllocError>
-    ensures { IfOk result (λ found. found ≡ scan None text.now) }
+fn numbers(text: &[u8]) -> Option<FirstNumbers>
+    requires { length text.now < 2 ^ 63 }
+    ensures { MatchOption result (scan None text.now ≡ None)
+        (λ found. (all : List ℕ) × (scan None text.now ≡ Some all) × AreCounted found all) }
 {
-    let mut done = Items::new(alloc);
+    let mut done = FirstNumbers::new();
     let mut before: Option<usize> = None;
     for b in text {
         if b.is_ascii_digit() {
             before = Some(grown(before, *b));
         } else if *b == b',' && before.is_some() {
-            done.push(before.unwrap_or(0))?;
+            done.push(before.unwrap_or(0));
             before = None;
         } else {
-            return Ok(None);
+            return None;
         }
     }
     match before {
-        None => Ok(None),
+        None => None,
         Some(n) => {
-            done.push(n)?;
-            Ok(Some(done))
+            done.push(n);
+            Some(done)
         }
     }
 }
@@ -104,32 +135,29 @@ fn too_long(lengths: &[usize]) -> Option<usize>
 }
 
 /// Judges the numbers of a line.
-fn judge_lengths(lengths: Items<usize>) -> Result<Items<usize>, LineFault>
-    ensures { result ≡ judge_numbers (Some lengths) }
+fn judge_lengths(numbers: FirstNumbers) -> Result<Lengths, LineFault>
+    ensures { (all : List ℕ) → AreCounted numbers all → result ≡ judge_numbers (Some all) }
 {
-    let count = lengths.len();
+    let FirstNumbers { first, count } = numbers;
     if count > MOST_CHUNKS {
         return Err(LineFault::TooMany { count });
     }
-    match too_long(lengths.as_slice()) {
-        None => Ok(lengths),
+    match too_long(first.as_slice()) {
+        None => Ok(first),
         Some(chunk) => Err(LineFault::TooLong { chunk }),
     }
 }
 
 /// Judges a line: the lengths of its chunks, or the first thing that is wrong with it.
 #[tactic(auto, using(crate::proofs::Scanning::scan_judged))]
-pub(crate) fn judge(
-    alloc: Global,
-    line: &[u8],
-) -> Result<Result<Items<usize>, LineFault>, AllocError>
-    ensures { IfOk result (λ verdict. verdict ≡ judge line.now) }
+pub(crate) fn judge(line: &[u8]) -> Result<Lengths, LineFault>
+    ensures { result ≡ judge line.now }
 {
     if line.len() > LONGEST_LINE {
-        return Ok(Err(LineFault::BadHeader));
+        return Err(LineFault::BadHeader);
     }
-    match numbers(alloc, without_cr(line))? {
-        None => Ok(Err(LineFault::BadHeader)),
-        Some(lengths) => Ok(judge_lengths(lengths)),
+    match numbers(without_cr(line)) {
+        None => Err(LineFault::BadHeader),
+        Some(numbers) => judge_lengths(numbers),
     }
 }

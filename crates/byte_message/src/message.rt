@@ -1,12 +1,13 @@
 //! Whole messages.
 
-use sqlite_items::Items;
+use crate::lengths::Lengths;
 use std::marker::Model;
 
-/// A message: its chunks in order. The bytes lie one after the other, as they came.
+/// A message: its chunks in order. The bytes lie one after the other, as they came, in the only
+/// memory that a message takes.
 #[derive(Debug, Drop)]
 pub struct Message {
-    lengths: Items<usize>,
+    lengths: Lengths,
     bytes: Vec<u8>,
 }
 
@@ -27,7 +28,7 @@ impl Message {
     ghost use Rattle.byte_message.specs.Chunks.{cut};
 
     /// The bytes, cut into chunks of these lengths.
-    pub(crate) fn new(lengths: Items<usize>, bytes: Vec<u8>) -> Message
+    pub(crate) fn new(lengths: Lengths, bytes: Vec<u8>) -> Message
         requires { sum lengths ≡ length bytes.items }
         ensures { result ≡ cut lengths bytes.items }
     {
@@ -39,7 +40,7 @@ impl Message {
     pub fn count(&self) -> usize
         ensures { result ≡ length self.now }
     {
-        self.lengths.len()
+        self.lengths.as_slice().len()
     }
 
     /// The chunk of this number, counted from 0.

@@ -4,7 +4,7 @@ ghost use Rattle.byte_message.specs.Heading.{heading};
 ghost use Rattle.byte_message.specs.Heading.Heading.{Fit, Unended};
 
 use crate::frame_fault::FrameFault;
-use sqlite_items::Items;
+use crate::lengths::Lengths;
 
 /// The bytes of a line that hasn't ended.
 #[derive(Debug, Drop)]
@@ -17,7 +17,7 @@ pub struct Line {
 #[derive(Debug, Drop)]
 pub struct Chunks {
     pub(crate) line: Vec<u8>,
-    pub(crate) lengths: Items<usize>,
+    pub(crate) lengths: Lengths,
     pub(crate) whole: usize,
     pub(crate) bytes: Vec<u8>,
     ghost headed: { (body : List ℕ) → heading (line.items ++ body) ≡ Fit lengths body },

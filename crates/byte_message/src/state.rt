@@ -10,7 +10,6 @@ use crate::begin::{Begun, begin};
 use crate::message::Message;
 use crate::part::{Chunks, Part};
 use crate::read::{Reading, read};
-use sqlite_items::Items;
 use std::alloc::{AllocError, Global};
 use std::collections::VecDeque;
 use std::mem;
@@ -141,10 +140,9 @@ fn complete(alloc: Global, chunks: &mut Chunks, front: &[u8]) -> Result<Message,
     ensures err { OnErr result ((chunks.new.line.items ≡ chunks.old.line.items)
         × (chunks.new.bytes.items ≡ chunks.old.bytes.items)) }
 {
-    let lengths = Items::from_slice(alloc, chunks.lengths.as_slice())?;
     let mut bytes = mem::replace(&mut chunks.bytes, Vec::new(alloc));
     match bytes.extend_from_slice(front) {
-        Ok(()) => Ok(Message::new(lengths, bytes)),
+        Ok(()) => Ok(Message::new(chunks.lengths.copy(), bytes)),
         Err(error) => {
             chunks.bytes = bytes;
             Err(error)

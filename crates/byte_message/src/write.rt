@@ -1,9 +1,10 @@
 //! Writing messages.
-ghost use Rattle.std.specs.Prelude.{◌≡◌, [], ◌∷◌, ◌++◌, OnOk, IfOk, length, map};
+ghost use Rattle.std.specs.Prelude.{◌≡◌, [], ◌∷◌, ◌++◌, ◌<◌, ◌^◌, OnOk, IfOk, length, map};
 ghost use Rattle.std.specs.Fmt.{decimal};
 ghost use Rattle.std.specs.List.{concat, join_with_byte};
 ghost use Rattle.byte_message.specs.Stream.{IsMessage, plain_spelling};
 
+use crate::line::LONGEST_LINE;
 use itoa::Buffer;
 use sqlite_items::Items;
 use std::alloc::{AllocError, Global};
@@ -55,13 +56,24 @@ pub fn append_message(out: &mut Vec<u8>, chunks: &[Items<u8>]) -> Result<(), All
     put_chunks(out, chunks)
 }
 
+/// How many bytes the chunks have in all.
+fn body_length(chunks: &[Items<u8>]) -> usize
+    requires { length (concat chunks.now) < 2 ^ 63 }
+    ensures { result ≡ length (concat chunks.now) }
+{
+    match chunks {
+        [] => 0,
+        [first, rest @ ..] => first.len() + body_length(rest),
+    }
+}
+
 /// The bytes of a message of 1 to 16 chunks, of at most 2^24 bytes each, which are read as it was,
-/// whatever follows them (`written_is_read`).
+/// whatever follows them (`written_is_read`). Memory is taken once.
 pub fn write_message(alloc: Global, chunks: &[Items<u8>]) -> Result<Vec<u8>, AllocError>
     requires { IsMessage chunks.now }
     ensures { IfOk result (λ bytes. bytes.items ≡ plain_spelling chunks.now) }
 {
-    let mut out = Vec::new(alloc);
+    let mut out = Vec::with_capacity(alloc, LONGEST_LINE + 1 + body_length(chunks))?;
     append_message(&mut out, chunks)?;
     Ok(out)
 }

@@ -1,13 +1,17 @@
 -- The bytes that the line's lengths ask for are there.
-use Rattle.std.proofs.Common.{◌≡◌, arith, take, drop, sum, ap, ◌∙◌}
+use Rattle.std.proofs.Common.{◌≡◌, ◌++◌, refl, arith, take, drop, sum, ap, ◌∙◌}
 use Rattle.std.proofs.lemmas.List.{take_rest, length-drop}
 use Rattle.byte_message.proofs.Spelled.{whole-chunks}
 use Rattle.byte_message.proofs.begin.chunks_after.Goals as goal
 
 pub returns-in_ok-bytes-2 : goal.returns-in_ok-bytes-2
-returns-in_ok-bytes-2 c = λ head e.
-    let bytes : c.in_ok-bytes-2.bytes.items ≡ take c.total-whole.result (drop c.args.used c.args.piece.now)
-    = c.in_ok-bytes-2.ensures.items ∙ ap (λ x. take c.total-whole.result x) (take_rest c.args.piece.now c.args.used) in
-    let d = length-drop c.args.used c.args.piece.now in
-    whole-chunks head c.args.line.items c.args.piece.now c.args.lengths c.in_ok-bytes-2.bytes.items c.args.used c.total-whole.result
-    _ c.requires.headed (omega arith) (omega arith) (c.total-whole.ensures ∙ ap sum c.as_slice.ensures) (omega arith) e bytes c.new-message.ensures
+returns-in_ok-bytes-2 c =
+    let head = c.args.head.now in
+    let piece = c.args.piece.now in
+    let used = c.args.used in
+    let whole = c.total-whole.result in
+    let bytes : c.in_ok-bytes-2.bytes.items ≡ take whole (drop used piece)
+    = c.in_ok-bytes-2.ensures.items ∙ ap (λ x. take whole x) (take_rest piece used) in
+    let d = length-drop used piece in
+    whole-chunks head (head ++ take used piece) piece c.args.lengths c.in_ok-bytes-2.bytes.items used whole
+    _ c.requires.headed (omega arith) (omega arith) (c.total-whole.ensures ∙ ap sum c.as_slice.ensures) (omega arith) refl bytes c.new-message.ensures

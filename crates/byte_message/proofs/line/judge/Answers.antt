@@ -5,5 +5,6 @@ use Rattle.byte_message.proofs.line.judge.Goals as goal
 
 pub returns-in-Some : goal.returns-in-Some
 returns-in-Some c =
-    c.judge_lengths.ensures
-    ∙ judge_by c.args.line.now c.without_cr.result.now (Some c.in-Some.lengths) (omega arith) c.without_cr.ensures (sym c.in-Some.is ∙ c.in_ok-numbers.ensures)
+    let found = c.in-Some.ensures in
+    c.judge_lengths.ensures found.0 found.2
+    ∙ judge_by c.args.line.now c.without_cr.result.now (Some found.0) (omega arith) c.without_cr.ensures (sym found.1)
