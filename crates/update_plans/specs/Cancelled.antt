@@ -1,0 +1,13 @@
+-- What is cancelled, by a table of executions (this project's own).
+use Rattle.std.specs.Prelude.{ℕ, Bool, false, List, map, filter}
+use Rattle.std.specs.Option.{option_map_or}
+use Rattle.exec_table.specs.declared.execs.Row.{Row}
+use Rattle.exec_table.specs.Rows.{execution_of}
+
+-- the table has the execution, and it is cancelled there
+abbrev pub is_cancelled : {R : Type 0} → List (Row R) → ℕ → Bool
+is_cancelled rows e = option_map_or (λ one. one.cancelled) (execution_of rows e) false
+
+-- the executions of a table that are cancelled
+abbrev pub cancelled_in : {R : Type 0} → List (Row R) → List ℕ
+cancelled_in rows = filter (is_cancelled rows) (map (λ row. row.exec) rows)
