@@ -4,6 +4,8 @@
 #![tactic(auto)]
 
 #[cfg(test)]
+mod before_updates;
+#[cfg(test)]
 mod laws_called;
 #[cfg(test)]
 mod nth_stop;

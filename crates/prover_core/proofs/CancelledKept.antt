@@ -1,0 +1,235 @@
+-- What is kept once an execution is cancelled.
+use Rattle.std.proofs.Common.{◌≡◌, ℕ, ◌≤◌, Bool, true, false, cond, not, ◌&&◌, ◌||◌, List, ◌∷◌, Option, Some, None, refl, ap, sym, subst, ◌∙◌, arith}
+use Rattle.std.proofs.lemmas.Bool.{eqb-true, eq-eqb, false≢true}
+use Rattle.std.specs.Prelude.{◌==◌}
+use Rattle.import_rounds.specs.Rounds.{has}
+use Rattle.pide_base.specs.declared.part.PartKind.{PartKind}
+use Rattle.exec_table.specs.declared.execution.Execution.{Execution}
+use Rattle.exec_table.specs.declared.execs.Cancelling.TheVariants as answer
+use Rattle.exec_table.specs.Progress.{is_done}
+use Rattle.exec_table.specs.Finish.{cancelling, after_cancelling}
+use Rattle.task_queue.specs.declared.task.Standing.{Standing as Task}
+use Rattle.task_queue.specs.Ready.{with_standing}
+use Rattle.language.specs.Lang.{Lang}
+use Rattle.core_rules.specs.declared.event.Event.{Event}
+use Rattle.core_rules.specs.declared.event.Event.TheVariants.{Cancel}
+use Rattle.core_rules.specs.Numbered.{numbered}
+use Rattle.core_rules.specs.Assigned.{assigns, is_assigned}
+use Rattle.core_rules.specs.Settings.{setting}
+use Rattle.core_rules.specs.Standing.{standing, is_open, has_ended}
+use Rattle.core_rules.specs.Doc.{Doc, doc}
+use Rattle.core_rules.specs.Ready.{is_wanted}
+use Rattle.core_jobs.specs.declared.done.Done.{Done}
+use Rattle.prover_core.specs.Progress.{completed_in, next_of, execution_by, row_by, row_of}
+use Rattle.prover_core.specs.Tasks.{AreTasks, HasTask}
+use Rattle.prover_core.specs.Kept.{Tables, IsKept, IsKnown}
+use Rattle.prover_core.proofs.OpenRows.{row_known, row_with_mark, done_closed}
+
+turned_by : (e f : ℕ) (b : Bool) → (f == e) ≡ b → (e == f) ≡ false → b ≡ false
+turned_by e f false x is = refl
+turned_by e f true x is = absurd (false≢true (sym is ∙ eq-eqb e f (sym (eqb-true f e x))))
+
+-- whichever comes first
+pub turned : (e f : ℕ) → (e == f) ≡ false → (f == e) ≡ false
+turned e f is = turned_by e f (f == e) refl is
+
+module _ {S : Type 0} (l : Lang S) (h : List Event) (t : Tables S) (k : IsKept l h t) (e : ℕ) where
+  abbrev d : Doc
+  d = doc l h
+
+  abbrev more : List Event
+  more = Cancel e ∷ h
+
+  abbrev opened : Bool
+  opened = is_open l h d.homes e
+
+  abbrev row : IsKnown l d.homes e → Execution (Done S)
+  row x = execution_by l (has d.cancelled e) e (completed_in h e) x.home x.works_on
+
+  -- where no live version has it
+  pub unknown : cancelling (t.rows e) ≡ answer.Unknown → is_assigned d.live e ≡ false
+  unknown is = go (is_assigned d.live e) refl
+    where
+      some_known : (x : Execution (Done S)) → cancelling (Some x) ≡ answer.Unknown → true ≡ false
+      some_known x same = by (x.cancelled || is_done x.progress) same
+        where
+          by : (b : Bool) → cond b answer.Idle answer.Cancelled ≡ answer.Unknown → true ≡ false
+          by true same = absurd (cc)
+          by false same = absurd (cc)
+
+      go : (b : Bool) → is_assigned d.live e ≡ b → b ≡ false
+      go false x = refl
+      go true x = some_known (row (k.known e x)) (ap cancelling (sym (k.rows e ∙ row_known l h d e (k.known e x) x)) ∙ is)
+
+  -- what the table has, where it has something
+  pub has_row : (is : cancelling (t.rows e) ≡ answer.Unknown → false ≡ true) → is_assigned d.live e ≡ true
+  has_row is = go (is_assigned d.live e) refl
+    where
+      go : (b : Bool) → is_assigned d.live e ≡ b → b ≡ true
+      go true x = refl
+      go false x = is (ap cancelling (k.rows e
+          ∙ ap (λ b. cond b (row_by l (has d.cancelled e) e (completed_in h e) (numbered d.homes e) (setting l d.homes e)) None) x))
+
+  -- it is cancelled or not open, or neither
+  pub told : (live : is_assigned d.live e ≡ true) → cancelling (t.rows e) ≡ cond (has d.cancelled e || not opened) answer.Idle answer.Cancelled
+  told live = ap cancelling (k.rows e ∙ row_known l h d e (k.known e live) live)
+      ∙ ap (λ b. cond (has d.cancelled e || b) answer.Idle answer.Cancelled) (done_closed l h d e (k.known e live))
+
+  pub after_told : (live : is_assigned d.live e ≡ true) → after_cancelling (t.rows e)
+      ≡ Some (cond (has d.cancelled e || not opened) (row (k.known e live)) (record (row (k.known e live)) { cancelled = true }))
+  after_told live = ap after_cancelling (k.rows e ∙ row_known l h d e (k.known e live) live)
+      ∙ ap (λ b. Some (cond (has d.cancelled e || b) (row (k.known e live)) (record (row (k.known e live)) { cancelled = true })))
+      (done_closed l h d e (k.known e live))
+
+  pub idle_so : (live : is_assigned d.live e ≡ true) → (has d.cancelled e || not opened) ≡ true
+      → (is_wanted d e && opened) ≡ false
+  idle_so live is = ap (λ b. (b && not (has d.cancelled e)) && opened) live ∙ go (has d.cancelled e) opened is
+    where
+      go : (a b : Bool) → (a || not b) ≡ true → (not a && b) ≡ false
+      go true b x = refl
+      go false true x = absurd (cc)
+      go false false x = refl
+
+  pub cancels_so : (live : is_assigned d.live e ≡ true) → (has d.cancelled e || not opened) ≡ false
+      → (is_wanted d e && opened) ≡ true
+  cancels_so live is = ap (λ b. (b && not (has d.cancelled e)) && opened) live ∙ go (has d.cancelled e) opened is
+    where
+      go : (a b : Bool) → (a || not b) ≡ false → (not a && b) ≡ true
+      go true b x = absurd (cc)
+      go false true x = refl
+      go false false x = absurd (cc)
+
+  -- what was told
+  pub told_idle : cancelling (t.rows e) ≡ answer.Idle → (is_assigned d.live e ≡ true) × ((has d.cancelled e || not opened) ≡ true)
+  told_idle is = (live, by (has d.cancelled e || not opened) (sym (told live) ∙ is))
+    where
+      live : is_assigned d.live e ≡ true
+      live = has_row (λ none. (let clash : answer.Idle ≡ answer.Unknown = sym is ∙ none in absurd (cc)))
+
+      by : (b : Bool) → cond b answer.Idle answer.Cancelled ≡ answer.Idle → b ≡ true
+      by true x = refl
+      by false x = absurd (cc)
+
+  pub told_cancelled : cancelling (t.rows e) ≡ answer.Cancelled → (is_assigned d.live e ≡ true) × ((has d.cancelled e || not opened) ≡ false)
+  told_cancelled is = (live, by (has d.cancelled e || not opened) (sym (told live) ∙ is))
+    where
+      live : is_assigned d.live e ≡ true
+      live = has_row (λ none. (let clash : answer.Cancelled ≡ answer.Unknown = sym is ∙ none in absurd (cc)))
+
+      by : (b : Bool) → cond b answer.Idle answer.Cancelled ≡ answer.Cancelled → b ≡ false
+      by true x = absurd (cc)
+      by false x = refl
+
+  -- what is cancelled then
+  marked_idle : (f : ℕ) → (has d.cancelled e || not opened) ≡ true → has (doc l more).cancelled f ≡ has d.cancelled f
+  marked_idle f is = go opened is (f == e) refl
+    where
+      go : (b : Bool) → (has d.cancelled e || not b) ≡ true → (same : Bool) → (f == e) ≡ same
+          → has (cond b (e ∷ d.cancelled) d.cancelled) f ≡ has d.cancelled f
+      go false x same y = refl
+      go true x false y = ap (λ b. b || has d.cancelled f) y
+      go true x true y = ap (λ b. b || has d.cancelled f) y ∙ sym (ap (has d.cancelled) (eqb-true f e y) ∙ or_none (has d.cancelled e) x)
+        where
+          or_none : (b : Bool) → (b || false) ≡ true → b ≡ true
+          or_none true z = refl
+          or_none false z = absurd (cc)
+
+  marked : (f : ℕ) → (has d.cancelled e || not opened) ≡ false → has (doc l more).cancelled f ≡ ((f == e) || has d.cancelled f)
+  marked f is = go opened is
+    where
+      go : (b : Bool) → (has d.cancelled e || not b) ≡ false → has (cond b (e ∷ d.cancelled) d.cancelled) f ≡ ((f == e) || has d.cancelled f)
+      go true x = refl
+      go false x = absurd (by (has d.cancelled e) x)
+        where
+          by : (b : Bool) → (b || true) ≡ false → ⊥
+          by true z = absurd (cc)
+          by false z = absurd (cc)
+
+  homed : (f : ℕ) → is_assigned d.live f ≡ true → IsKnown l (doc l more).homes f
+  homed f live = k.known f live
+
+  -- the other tables, where rows and tasks are right
+  pub kept_with : (rows : ℕ → Option (Execution (Done S))) (tasks : ℕ → Option Task) (room : ℕ) → has_ended h ≡ false
+      → is_assigned d.live e ≡ true → ((f : ℕ) → rows f ≡ row_of l more (doc l more) f)
+      → ((f : ℕ) → HasTask l more (doc l more) f (tasks f)) → t.room ≤ room
+      → IsKept l more (record t { rows = rows; tasks = tasks; room = room })
+  kept_with rows tasks room going live are have fits = record {
+    legal = (k.legal, (going, live));
+    start_is = k.start_is;
+    live = k.live;
+    tip = k.tip;
+    rows_fit = k.rows_fit;
+    behind = λ i v at.
+        let was = k.behind i v at in
+        (was.0, was.1, record { within = was.2.within; above = was.2.above; still = was.2.still });
+    behind_live = k.behind_live;
+    next_is = k.next_is;
+    within = k.within;
+    rows = are;
+    homes = k.homes;
+    known = homed;
+    in_order = k.in_order;
+    holders = k.holders;
+    held_next = k.held_next;
+    tasks = have;
+    ended = k.ended;
+    room = omega (arith, fits, k.room);
+  }
+
+  abbrev row_with : ℕ → Bool → Option (Execution (Done S))
+  row_with f b = cond (is_assigned d.live f) (row_by l b f (completed_in h f) (numbered d.homes f) (setting l d.homes f)) None
+
+  abbrev present_with : ℕ → Bool → Option PartKind
+  present_with f b = cond (assigns d.tip f && not b) (next_of l h d f) None
+
+  -- where nothing is left to cancel, all stays
+  pub idle_kept : (rows : ℕ → Option (Execution (Done S))) → has_ended h ≡ false → (live : is_assigned d.live e ≡ true)
+      → (has d.cancelled e || not opened) ≡ true
+      → ((f : ℕ) → rows f ≡ cond (e == f) (after_cancelling (t.rows e)) (t.rows f))
+      → IsKept l more (record t { rows = rows })
+  idle_kept rows going live idle updates = kept_with rows t.tasks t.room going live
+      (λ f. updates f ∙ same f (e == f) refl ∙ k.rows f ∙ ap (row_with f) (sym (marked_idle f idle)))
+      (λ f. subst (λ b. AreTasks (standing h) d.tip d.homes f (present_with f b) (t.tasks f)) (sym (marked_idle f idle)) (k.tasks f))
+      (omega arith)
+    where
+      kept : after_cancelling (t.rows e) ≡ t.rows e
+      kept = after_told live ∙ ap (λ b. Some (cond b (row (k.known e live)) (record (row (k.known e live)) { cancelled = true }))) idle
+          ∙ sym (k.rows e ∙ row_known l h d e (k.known e live) live)
+
+      same : (f : ℕ) (b : Bool) → (e == f) ≡ b → cond b (after_cancelling (t.rows e)) (t.rows f) ≡ t.rows f
+      same f true is = kept ∙ ap t.rows (eqb-true e f is)
+      same f false is = refl
+
+  -- where an unfinished part is cancelled, its task goes
+  pub cancelled_kept : (rows : ℕ → Option (Execution (Done S))) (tasks : ℕ → Option Task) (room : ℕ) → has_ended h ≡ false
+      → (live : is_assigned d.live e ≡ true) → (has d.cancelled e || not opened) ≡ false
+      → ((f : ℕ) → rows f ≡ cond (e == f) (after_cancelling (t.rows e)) (t.rows f))
+      → ((f : ℕ) → tasks f ≡ with_standing t.tasks e None f) → t.room ≤ room
+      → IsKept l more (record t { rows = rows; tasks = tasks; room = room })
+  cancelled_kept rows tasks room going live cancels updates gone fits = kept_with rows tasks room going live
+      (λ f. updates f ∙ row_so f (e == f) refl)
+      (λ f. subst (λ o. HasTask l more (doc l more) f o) (sym (gone f)) (task_so f (e == f) refl)) fits
+    where
+      mine : after_cancelling (t.rows e) ≡ row_with e true
+      mine = after_told live ∙ ap (λ b. Some (cond b (row (k.known e live)) (record (row (k.known e live)) { cancelled = true }))) cancels
+          ∙ sym (row_with_mark l h d e true (k.known e live) live)
+
+      itself : has (doc l more).cancelled e ≡ true
+      itself = marked e cancels ∙ ap (λ b. b || has d.cancelled e) (eq-eqb e e refl)
+
+      others : (f : ℕ) → (e == f) ≡ false → has (doc l more).cancelled f ≡ has d.cancelled f
+      others f is = marked f cancels ∙ ap (λ b. b || has d.cancelled f) (turned e f is)
+
+      row_so : (f : ℕ) (b : Bool) → (e == f) ≡ b → cond b (after_cancelling (t.rows e)) (t.rows f) ≡ row_with f (has (doc l more).cancelled f)
+      row_so f true is = mine ∙ ap (row_with e) (sym itself) ∙ ap (λ x. row_with x (has (doc l more).cancelled x)) (eqb-true e f is)
+      row_so f false is = k.rows f ∙ ap (row_with f) (sym (others f is))
+
+      none : (a : Bool) (o : Option PartKind) → cond (a && not true) o None ≡ None
+      none true o = refl
+      none false o = refl
+
+      task_so : (f : ℕ) (b : Bool) → (e == f) ≡ b → HasTask l more (doc l more) f (cond b None (t.tasks f))
+      task_so f true is = subst (λ x. HasTask l more (doc l more) x None) (eqb-true e f is)
+          (subst (λ o. AreTasks (standing h) d.tip d.homes e o None)
+          (sym (ap (present_with e) itself ∙ none (assigns d.tip e) (next_of l h d e))) tt)
+      task_so f false is = subst (λ b. AreTasks (standing h) d.tip d.homes f (present_with f b) (t.tasks f)) (sym (others f is)) (k.tasks f)

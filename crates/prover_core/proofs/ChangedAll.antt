@@ -1,0 +1,41 @@
+-- Tables that are changed at some numbers, one after the other.
+use Rattle.std.proofs.Common.{◌≡◌, ℕ, Bool, true, false, cond, ◌||◌, List, [], ◌∷◌, ◌++◌, refl, ap, sym, ◌∙◌}
+use Rattle.std.proofs.lemmas.Bool.{eqb-true}
+use Rattle.std.specs.Prelude.{◌==◌}
+use Rattle.import_rounds.specs.Rounds.{has}
+use Rattle.prover_core.proofs.CancelledKept.{turned}
+use Rattle.import_rounds.proofs.KnownRounds.{has_both}
+
+-- what is there at a number, once it is changed at these
+abbrev pub changed_in : {A : Type 0} → (ℕ → A → A) → List ℕ → (ℕ → A) → ℕ → A
+changed_in step ds f e = cond (has ds e) (step e (f e)) (f e)
+
+module _ {A : Type 0} (step : ℕ → A → A) (again : (e : ℕ) (a : A) → step e (step e a) ≡ step e a) where
+  or_none : (b : Bool) → (b || false) ≡ b
+  or_none true = refl
+  or_none false = refl
+
+  -- one more
+  pub changed_more : (ds : List ℕ) (x e : ℕ) (f g k : ℕ → A) → ((n : ℕ) → g n ≡ changed_in step ds f n)
+      → ((n : ℕ) → k n ≡ cond (x == n) (step x (g x)) (g n)) → k e ≡ changed_in step (ds ++ x ∷ []) f e
+  changed_more ds x e f g k was is = is e ∙ go (x == e) refl
+      ∙ ap (λ b. cond b (step e (f e)) (f e)) (sym (has_both ds (x ∷ []) e))
+    where
+      twice : (b : Bool) → has ds e ≡ b → step e (cond b (step e (f e)) (f e)) ≡ cond (b || true) (step e (f e)) (f e)
+      twice true same = again e (f e)
+      twice false same = refl
+
+      here : step e (g e) ≡ cond (has ds e || true) (step e (f e)) (f e)
+      here = ap (step e) (was e) ∙ twice (has ds e) refl
+
+      same_as : (b : Bool) → b ≡ true → cond (has ds e || true) (step e (f e)) (f e) ≡ cond (has ds e || (b || false)) (step e (f e)) (f e)
+      same_as true same = refl
+      same_as false same = absurd (cc)
+
+      go : (b : Bool) → (x == e) ≡ b → cond b (step x (g x)) (g e) ≡ cond (has ds e || ((e == x) || false)) (step e (f e)) (f e)
+      go true same =
+          let it : x ≡ e = eqb-true x e same in
+          ap (λ n. step n (g n)) it ∙ here ∙ same_as (e == x) (ap (λ n. e == n) it ∙ (sym (ap (λ n. n == e) it) ∙ same))
+      go false same = was e
+          ∙ ap (λ b. cond b (step e (f e)) (f e)) (sym (or_none (has ds e)))
+          ∙ ap (λ b. cond (has ds e || (b || false)) (step e (f e)) (f e)) (sym (turned x e same))

@@ -1,0 +1,105 @@
+-- The inputs of new executions, counted, and what is kept once there is room for them.
+use Rattle.std.proofs.Common.{◌≡◌, ℕ, ◌+◌, ◌-◌, ◌<◌, ◌≤◌, List, [], ◌∷◌, ◌++◌, length, take, get_or, reverse, map, Option, refl, ap, sym, subst, ◌∙◌, arith}
+use Rattle.std.proofs.lemmas.List.{take_more, length-append, reverse-append, length-reverse, length-map}
+use Rattle.std.proofs.lemmas.List.Concat.{flat_map-append}
+use Rattle.std.specs.Prelude.{flat_map, min}
+use Rattle.doc_versions.specs.Live.{History, tip_of}
+use Rattle.exec_table.specs.declared.execution.Execution.{Execution}
+use Rattle.task_queue.specs.declared.task.Standing.{Standing as Task}
+use Rattle.exec_rules.specs.declared.home.Home.{Home}
+use Rattle.exec_rules.specs.declared.version.Version.{Version}
+use Rattle.language.specs.Lang.{Lang}
+use Rattle.core_rules.specs.declared.event.Event.{Event}
+use Rattle.core_rules.specs.Doc.{doc}
+use Rattle.core_jobs.specs.declared.done.Done.{Done}
+use Rattle.update_plans.specs.declared.beginning.Fresh.{Fresh}
+use Rattle.update_plans.specs.declared.steps.Steps.{Steps}
+use Rattle.prover_core.specs.Plans.{PlanState, HasRoom}
+use Rattle.prover_core.specs.Planned.{plan_of}
+use Rattle.prover_core.proofs.FreshAll.{links_of}
+use Rattle.prover_core.specs.Tasks.{HasTask}
+use Rattle.prover_core.specs.Kept.{Tables, IsKept}
+
+abbrev pub inputs_of : Fresh → List ℕ
+inputs_of one = one.task.inputs
+
+pub links_next : (fresh : List Fresh) (i : ℕ) (one : Fresh) (n m : ℕ) → i < length fresh → one ≡ get_or fresh i one
+    → m ≡ n + length (inputs_of one) → n ≡ length (flat_map inputs_of (take i fresh)) → m ≡ length (flat_map inputs_of (take (i + 1) fresh))
+links_next fresh i one n m lt is more count =
+    let front = take i fresh in
+    let both : flat_map inputs_of (take (i + 1) fresh) ≡ flat_map inputs_of front ++ flat_map inputs_of (one ∷ []) =
+    ap (flat_map inputs_of) (take_more fresh i one lt)
+    ∙ ap (λ (x : Fresh). flat_map inputs_of (front ++ x ∷ [])) (sym is)
+    ∙ flat_map-append inputs_of front (one ∷ []) in
+    omega (
+      arith,
+      more,
+      count,
+      ap (λ (xs : List ℕ). length xs) both,
+      length-append (flat_map inputs_of front) (flat_map inputs_of (one ∷ [])),
+      length-append (inputs_of one) [],
+    )
+
+-- as many in any order
+pub links_turned : (fresh : List Fresh) → length (flat_map inputs_of (reverse fresh)) ≡ length (flat_map inputs_of fresh)
+links_turned [] = refl
+links_turned (one ∷ fresh) =
+    let turned : flat_map inputs_of (reverse (one ∷ fresh)) ≡ flat_map inputs_of (reverse fresh) ++ flat_map inputs_of (one ∷ []) =
+    ap (flat_map inputs_of) (reverse-append (one ∷ []) fresh) ∙ flat_map-append inputs_of (reverse fresh) (one ∷ []) in
+    omega (
+      arith,
+      ap (λ (xs : List ℕ). length xs) turned,
+      length-append (flat_map inputs_of (reverse fresh)) (flat_map inputs_of (one ∷ [])),
+      length-append (inputs_of one) [],
+      length-append (inputs_of one) (flat_map inputs_of fresh),
+      links_turned fresh,
+    )
+
+-- more room changes nothing of what is kept
+pub roomy_tables : {S : Type 0} (l : Lang S) (h : List Event) (t : Tables S) → IsKept l h t
+    → (versions : History Version) (behind : ℕ → Option ℕ) (rows : ℕ → Option (Execution (Done S))) (homes : ℕ → Option Home) (tasks : ℕ → Option Task) (room : ℕ)
+    → versions.start ≡ t.versions.start → versions.live ≡ t.versions.live → ((id : ℕ) → behind id ≡ t.behind id) → ((e : ℕ) → rows e ≡ t.rows e) → ((e : ℕ) → homes e ≡ t.homes e)
+    → ((e : ℕ) → tasks e ≡ t.tasks e) → t.room ≤ room
+    → IsKept l h (record t { versions = versions; behind = behind; rows = rows; homes = homes; tasks = tasks; room = room })
+roomy_tables l h t k versions behind rows homes tasks room begins lives same_behind same_rows same_homes same_tasks more = record {
+  legal = k.legal;
+  start_is = begins ∙ k.start_is;
+  live = lives ∙ k.live;
+  tip = ap (λ (v : History Version). tip_of v) alike ∙ k.tip;
+  rows_fit = k.rows_fit;
+  behind = λ id version is. let b = k.behind id version is in (b.0, same_behind id ∙ b.1, b.2);
+  behind_live = λ id none. same_behind id ∙ k.behind_live id none;
+  next_is = k.next_is;
+  within = k.within;
+  rows = λ e. same_rows e ∙ k.rows e;
+  homes = λ e. same_homes e ∙ k.homes e;
+  known = k.known;
+  in_order = k.in_order;
+  holders = k.holders;
+  held_next = k.held_next;
+  tasks = λ e. subst (HasTask l h (doc l h) e) (sym (same_tasks e)) (k.tasks e);
+  ended = k.ended;
+  room = omega (arith, more, k.room);
+}
+  where
+    alike : record { start = versions.start; live = versions.live; room = t.versions.room } ≡ t.versions
+    alike = ap (λ s. record { start = s; live = versions.live; room = t.versions.room }) begins
+        ∙ ap (λ ls. record { start = t.versions.start; live = ls; room = t.versions.room }) lives
+
+-- the room is enough for the plan of these steps
+pub room_for : (id : ℕ) (s : Steps) (p : PlanState) (fresh : List Fresh) (versions behind execs known queue held links : ℕ) → p ≡ plan_of id s → fresh ≡ s.fresh.items
+    → 1 ≤ versions → 1 ≤ behind → length fresh ≤ execs → length fresh ≤ known → length fresh + held ≤ queue → length (flat_map inputs_of fresh) ≤ links
+    → HasRoom (record { versions = min versions behind; executions = min execs known; tasks = queue - held; links = links }) p
+room_for id s p fresh versions behind execs known queue held links same are some one fit stay wait link =
+    subst (HasRoom (record { versions = min versions behind; executions = min execs known; tasks = queue - held; links = links })) (sym same) (record {
+      versions = le-min 1 versions behind some one;
+      executions = le-min (length (map (λ (x : Fresh). x.task) (reverse s.fresh.items))) execs known (omega (arith, count, fit)) (omega (arith, count, stay));
+      tasks = omega (arith, count, wait);
+      links = omega (arith, links_of (reverse s.fresh.items), links_turned s.fresh.items, ap (λ (xs : List Fresh). length (flat_map inputs_of xs)) are, link);
+    })
+  where
+    count : length (map (λ (x : Fresh). x.task) (reverse s.fresh.items)) ≡ length fresh
+    count = length-map (reverse s.fresh.items) (λ (x : Fresh). x.task) ∙ length-reverse s.fresh.items ∙ sym (ap (λ (xs : List Fresh). length xs) are)
+
+    le-min : (n a b : ℕ) → n ≤ a → n ≤ b → n ≤ min a b
+    le-min n a b x y = omega (arith, x, y)

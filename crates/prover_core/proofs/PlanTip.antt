@@ -1,0 +1,109 @@
+-- The version that an update makes by the tables of a core succeeds the tip.
+use Rattle.std.proofs.Common.{◌≡◌, ℕ, ◌<◌, ◌≤◌, true, false, cond, List, ◌∷◌, Option, Some, None, ap, sym, subst, ◌∙◌, arith}
+use Rattle.std.specs.Prelude.{slice_get}
+use Rattle.std.specs.Option.{option_map, option_map_or}
+use Rattle.import_rounds.specs.Rounds.{has}
+use Rattle.pide_base.specs.Ids.{id_end}
+use Rattle.doc_nodes.specs.Imports.{NodeList}
+use Rattle.exec_table.specs.declared.execution.Execution.{Execution}
+use Rattle.exec_table.specs.declared.execs.Row.{Row as TableRow}
+use Rattle.exec_table.specs.Rows.{execution_of}
+use Rattle.exec_rules.specs.declared.row.Row.{Row}
+use Rattle.exec_rules.specs.declared.home.Home.{Home}
+use Rattle.exec_rules.specs.declared.version.Version.{Version}
+use Rattle.exec_rules.specs.Kept.{BlobList}
+use Rattle.exec_rules.specs.Assigning.{Update, Assignment, rows_in, assignment}
+use Rattle.exec_assign.specs.Agreeing.{AgreeAt}
+use Rattle.language.specs.Lang.{Lang}
+use Rattle.core_rules.specs.declared.event.Event.{Event}
+use Rattle.core_rules.specs.declared.event.Event.TheVariants as event
+use Rattle.core_rules.specs.Numbered.{numbered, next_number}
+use Rattle.core_rules.specs.Assigned.{assigns, is_assigned}
+use Rattle.core_rules.specs.Settings.{Setting, setting}
+use Rattle.core_rules.specs.Standing.{has_ended}
+use Rattle.core_rules.specs.Doc.{Doc, doc, update_of, assignment_of, version_of}
+use Rattle.core_rules.specs.Legal.{IsLegal}
+use Rattle.core_rules.specs.Updates.{FitsUpdate}
+use Rattle.core_jobs.specs.declared.done.Done.{Done}
+use Rattle.update_plans.specs.Beside.{HasKept}
+use Rattle.update_plans.specs.Cancelled.{cancelled_in}
+use Rattle.update_plans.specs.Steps.{update_by, made_by_update, IsSuccessor, Succeeds}
+use Rattle.update_plans.proofs.KnownCancelled.{has_cancelled}
+use Rattle.prover_core.specs.Progress.{completed_in, execution_by, row_by}
+use Rattle.prover_core.specs.Kept.{Tables, IsKnown, IsKept}
+use Rattle.prover_core.proofs.TipLive.{tip_live}
+use Rattle.prover_core.proofs.PlanSteps.{PlanLaws}
+
+module _ {S : Type 0} (l : Lang S) (h : List Event) (t : Tables S) (k : IsKept l h t) (all : PlanLaws l) (id : ℕ) (nodes : NodeList)
+    (blobs : BlobList) (going : has_ended h ≡ false) (fits : (assignment_of (doc l h) nodes blobs).next ≤ id_end → FitsUpdate (doc l h) id nodes blobs)
+    (rows : List (TableRow (Done S))) (are : (e : ℕ) → execution_of rows e ≡ t.rows e) where
+  abbrev d : Doc
+  d = doc l h
+
+  abbrev more : List Event
+  more = event.Update id nodes blobs ∷ h
+
+  abbrev made : Assignment
+  made = assignment_of d nodes blobs
+
+  abbrev new : Version
+  new = version_of nodes blobs made
+
+  abbrev u : Update
+  u = update_by rows d.tip nodes blobs
+
+  pub live : (e : ℕ) → assigns d.tip e ≡ true → is_assigned d.live e ≡ true
+  live = tip_live l h t k
+
+  row_cancelled : (e : ℕ) (o : Option Home) (s : Option (Setting S)) (x : Home) (y : Setting S) → o ≡ Some x → s ≡ Some y
+      → option_map_or (λ (one : Execution (Done S)). one.cancelled) (row_by l (has d.cancelled e) e (completed_in h e) o s) false ≡ has d.cancelled e
+  row_cancelled e o s x y homed set =
+      ap (λ p. option_map_or (λ (one : Execution (Done S)). one.cancelled) (row_by l (has d.cancelled e) e (completed_in h e) p s) false) homed
+      ∙ ap (λ p. option_map_or (λ (one : Execution (Done S)). one.cancelled) (option_map (execution_by l (has d.cancelled e) e (completed_in h e) x) p) false) set
+
+  -- of what the tip assigns, the table tells what is cancelled
+  agree : AgreeAt d.tip (cancelled_in rows) d.cancelled
+  agree e is =
+      let there = live e is in
+      let known : IsKnown l d.homes e = k.known e there in
+      has_cancelled rows e
+      ∙ ap (λ (o : Option (Execution (Done S))). option_map_or (λ (one : Execution (Done S)). one.cancelled) o false) (are e ∙ k.rows e)
+      ∙ ap (λ b. option_map_or (λ (one : Execution (Done S)). one.cancelled)
+      (cond b (row_by l (has d.cancelled e) e (completed_in h e) (numbered d.homes e) (setting l d.homes e)) None) false) there
+      ∙ row_cancelled e (numbered d.homes e) (setting l d.homes e) known.home known.works_on known.homed known.setting_is
+
+  pub same_made : assignment u (next_number d.homes) ≡ made
+  same_made = all.same d.tip nodes blobs (cancelled_in rows) d.cancelled (next_number d.homes) agree
+
+  pub same_new : made_by_update u (next_number d.homes) ≡ new
+  same_new = ap (λ (a : Assignment). version_of nodes blobs a) same_made
+
+  pub below : (e : ℕ) → assigns d.tip e ≡ true → e < next_number d.homes
+  below e is = let le = all.update.made h e k.legal (live e is) in omega (arith, le)
+
+  legal_then : made.next ≤ id_end → IsLegal l more
+  legal_then le = (k.legal, (going, fits le))
+
+  keeps : (name : List ℕ) (i : ℕ) (row : Row) → slice_get (rows_in new name) i ≡ Some row → HasKept d.tip (slice_get (rows_in d.tip name) i) row
+  keeps name i row at =
+      let so = all.update.held (update_of d nodes blobs) (next_number d.homes) name i row at in
+      record {
+        evaluation = λ is. so.evaluation (below row.evaluation is);
+        print = λ q printed is. so.print q printed (below q is);
+      }
+
+  -- the version that is made succeeds the tip
+  pub succeeds : Succeeds u (next_number d.homes)
+  succeeds le = subst (λ (v : Version). IsSuccessor d.tip v) (sym same_new) (record {
+    had_places = λ e is. all.update.found h e k.legal is;
+    have_places = λ e is. all.update.found more e legal is;
+    stood_once = λ name other i j e r s at on here there. all.once h name other i j e r s k.legal at on here there;
+    stand_once = λ name other i j e r s at on here there. all.once more name other i j e r s legal at on here there;
+    keeps = keeps;
+  })
+    where
+      legal : IsLegal l more
+      legal = legal_then (subst (λ (a : Assignment). a.next ≤ id_end) same_made le)
+
+  pub limit_then : id_end < (assignment u (next_number d.homes)).next → id_end < made.next
+  limit_then lt = subst (λ (a : Assignment). id_end < a.next) same_made lt

@@ -1,0 +1,180 @@
+-- The parts that are ready in the queue are those that are ready in the document.
+use Rattle.std.proofs.Common.{◌≡◌, ℕ, Bool, true, false, cond, not, ◌&&◌, ◌||◌, List, [], ◌∷◌, length, Option, Some, None, refl, ap, sym, subst, ◌∙◌, arith}
+use Rattle.std.proofs.lemmas.Bool.{false≢true, eqb-true, eq-eqb, or_left}
+use Rattle.text_words.proofs.KnownTests.{both-parts, both-hold}
+use Rattle.std.specs.Prelude.{◌==◌}
+use Rattle.std.specs.List.{list_all}
+use Rattle.import_rounds.specs.Rounds.{has}
+use Rattle.pide_base.specs.declared.part.Part.{Part}
+use Rattle.pide_base.specs.declared.part.PartKind.{PartKind}
+use Rattle.pide_base.specs.declared.part.PartKind.TheVariants as kind
+use Rattle.task_queue.specs.declared.task.Standing.{Standing as Task}
+use Rattle.task_queue.specs.Tasks.{has as has_input, is_ready as is_ready_task}
+use Rattle.task_queue.specs.Ready.{IsReadyPart}
+use Rattle.language.specs.Lang.{Lang}
+use Rattle.core_rules.specs.declared.event.Event.{Event}
+use Rattle.core_rules.specs.Assigned.{assigns, is_assigned}
+use Rattle.core_rules.specs.Parts.{waits_for, evaluation}
+use Rattle.core_rules.specs.Standing.{Standing, Free, Held, Done, standing, is_done, is_free, is_finished, is_open}
+use Rattle.core_rules.specs.Doc.{Doc}
+use Rattle.core_rules.specs.Ready.{is_part, is_wanted, has_inputs, is_ready_in, priority_of}
+use Rattle.prover_core.specs.Progress.{part, completed_in, next_of}
+use Rattle.prover_core.specs.Tasks.{present_kind, is_held, IsTaskOf, AreTasks, HasTask}
+use Rattle.prover_core.proofs.NextParts.{next_is_part, next_is_open, open_is_next, next_opens}
+
+not_true : (b : Bool) → not b ≡ true → b ≡ false
+not_true true x = absurd (cc)
+not_true false x = refl
+
+-- a part that nobody holds and that is unfinished is free
+free_by : (s : Standing) → is_held s ≡ false → is_done s ≡ false → is_free s ≡ true
+free_by Free x y = refl
+free_by (Held w) x y = absurd (cc)
+free_by Done x y = absurd (cc)
+
+free_so : (s : Standing) → is_free s ≡ true → (is_held s ≡ false) × (is_done s ≡ false)
+free_so Free x = (refl, refl)
+free_so (Held w) x = absurd (cc)
+free_so Done x = absurd (cc)
+
+-- all that is waited for is finished, where nothing of it is left
+none_left : (done : ℕ → Bool) (es : List ℕ) → ((f : ℕ) → (has es f && not (done f)) ≡ false) → list_all done es ≡ true
+none_left done [] left = refl
+none_left done (e ∷ es) left = both-hold (done e) (list_all done es) (here (e == e) (eq-eqb e e refl) (has es e) (done e) (left e))
+    (none_left done es (λ f. there (f == e) (has es f) (done f) (left f)))
+  where
+    here : (a : Bool) → a ≡ true → (b c : Bool) → ((a || b) && not c) ≡ false → c ≡ true
+    here true x b true y = refl
+    here true x b false y = absurd (cc)
+    here false x b c y = absurd (cc)
+
+    there : (a b c : Bool) → ((a || b) && not c) ≡ false → (b && not c) ≡ false
+    there true false c y = refl
+    there true true c y = y
+    there false b c y = y
+
+-- nothing of it is left, where all is finished
+all_done : (done : ℕ → Bool) (es : List ℕ) → list_all done es ≡ true → (f : ℕ) → (has es f && not (done f)) ≡ false
+all_done done [] all f = refl
+all_done done (e ∷ es) all f = go (f == e) refl (both-parts (done e) (list_all done es) all)
+    (λ rest. all_done done es rest f)
+  where
+    no_left : (a b : Bool) → b ≡ true → ((true || a) && not b) ≡ false
+    no_left a true x = refl
+    no_left a false x = absurd (cc)
+
+    go : (b : Bool) → (f == e) ≡ b → (done e ≡ true) × (list_all done es ≡ true)
+        → (list_all done es ≡ true → (has es f && not (done f)) ≡ false) → ((b || has es f) && not (done f)) ≡ false
+    go true x parts rest = no_left (has es f) (done f) (ap done (eqb-true f e x) ∙ parts.0)
+    go false x parts rest = rest parts.1
+
+no_inputs : (es : List ℕ) → ((f : ℕ) → has_input es f ≡ false) → (length es == 0) ≡ true
+no_inputs [] none = refl
+no_inputs (e ∷ es) none = absurd (false≢true (sym (none e) ∙ or_left (e == e) (has_input es e) (eq-eqb e e refl)))
+
+nothing_waits : (es : List ℕ) → (length es == 0) ≡ true → (f : ℕ) → has_input es f ≡ false
+nothing_waits [] none f = refl
+nothing_waits (e ∷ es) none f = let same = eqb-true (length (e ∷ es)) 0 none in absurd (omega (arith, same))
+
+module _ {S : Type 0} (l : Lang S) (h : List Event) (d : Doc) (all : ℕ → Option Task) where
+  -- the table of tasks is that of the document, all that is wanted and unfinished is in the tip, and
+  -- the tip is live
+  pub record AreInTip : Type 0 where
+    pub tasks : (e : ℕ) → HasTask l h d e (all e)
+    pub wanted : (e : ℕ) → is_wanted d e ≡ true → is_open l h d.homes e ≡ true → assigns d.tip e ≡ true
+    pub live : (e : ℕ) → assigns d.tip e ≡ true → is_assigned d.live e ≡ true
+
+  module _ (so : AreInTip) where
+    -- what is present is wanted, and unfinished
+    pub present_wanted : (e : ℕ) (k : PartKind) → present_kind l h d e ≡ Some k
+        → (is_wanted d e ≡ true) × (next_of l h d e ≡ Some k)
+    present_wanted e k is = go (assigns d.tip e) (has d.cancelled e) refl refl is
+      where
+        go : (a b : Bool) → assigns d.tip e ≡ a → has d.cancelled e ≡ b → cond (a && not b) (next_of l h d e) None ≡ Some k
+            → (is_wanted d e ≡ true) × (next_of l h d e ≡ Some k)
+        go true false x y is = (both-hold (is_assigned d.live e) (not (has d.cancelled e)) (so.live e x) (ap not y), is)
+        go true true x y is = absurd (cc)
+        go false b x y is = absurd (cc)
+
+    -- and the other way round
+    pub wanted_present : (e : ℕ) (k : PartKind) → is_wanted d e ≡ true → next_of l h d e ≡ Some k
+        → present_kind l h d e ≡ Some k
+    wanted_present e k want next = go (assigns d.tip e) (has d.cancelled e) (so.wanted e want (next_opens l h d e k next))
+        (not_true (has d.cancelled e) (both-parts (is_assigned d.live e) (not (has d.cancelled e)) want).1)
+      where
+        go : (a b : Bool) → a ≡ true → b ≡ false → cond (a && not b) (next_of l h d e) None ≡ Some k
+        go true false x y = next
+        go true true x y = absurd (cc)
+        go false b x y = absurd (cc)
+
+    -- its task
+    pub task_of : (e : ℕ) (k : PartKind) → present_kind l h d e ≡ Some k
+        → (t : Task) × (all e ≡ Some t) × IsTaskOf (standing h) d.tip d.homes e k t
+    task_of e k is = go (all e) refl (subst (λ o. AreTasks (standing h) d.tip d.homes e o (all e)) is (so.tasks e))
+      where
+        go : (o : Option Task) → all e ≡ o → AreTasks (standing h) d.tip d.homes e (Some k) o → (t : Task) × (all e ≡ Some t) × IsTaskOf (standing h) d.tip d.homes e k t
+        go None x are = absurd (are)
+        go (Some t) x are = (t, x, are)
+
+    pub part_of : (e : ℕ) (t : Task) → all e ≡ Some t
+        → (k : PartKind) × (present_kind l h d e ≡ Some k) × IsTaskOf (standing h) d.tip d.homes e k t
+    part_of e t is = go (present_kind l h d e) refl (subst (λ o. AreTasks (standing h) d.tip d.homes e (present_kind l h d e) o) is (so.tasks e))
+      where
+        go : (o : Option PartKind) → present_kind l h d e ≡ o → AreTasks (standing h) d.tip d.homes e o (Some t)
+            → (k : PartKind) × (present_kind l h d e ≡ Some k) × IsTaskOf (standing h) d.tip d.homes e k t
+        go None x are = absurd (are)
+        go (Some k) x are = (k, x, are)
+
+    ready_by : (e : ℕ) (k : PartKind) (t : Task) → present_kind l h d e ≡ Some k → IsTaskOf (standing h) d.tip d.homes e k t → is_ready_task t ≡ true
+        → is_ready_in l h d (part e k) ≡ true
+    ready_by e k t present task ready =
+        let want = present_wanted e k present in
+        let tests = both-parts (not t.held) (length t.inputs == 0) ready in
+        let free = free_by (standing h (part e k)) (sym task.held ∙ not_true t.held tests.0) (next_is_open l h d e k want.1) in
+        let inputs = none_left (λ f. is_finished h (evaluation f)) (waits_for d.homes (part e k))
+        (λ f. sym (task.waits f) ∙ nothing_waits t.inputs tests.1 f) in
+        both-hold (is_part l d.homes (part e k)) (is_wanted d e && (is_free (standing h (part e k)) && has_inputs h d.homes (part e k)))
+        (next_is_part l h d e k want.1)
+        (both-hold (is_wanted d e) (is_free (standing h (part e k)) && has_inputs h d.homes (part e k)) want.0
+        (both-hold (is_free (standing h (part e k))) (has_inputs h d.homes (part e k)) free inputs))
+
+    -- what is ready in the queue
+    pub ready_sound : (p : Part) → IsReadyPart all p → is_ready_in l h d p ≡ true
+    ready_sound p is =
+        let found = part_of p.exec is.0 is.1 in
+        let same : found.0 ≡ p.kind = sym found.2.same_kind ∙ is.2 in
+        subst (λ k. is_ready_in l h d (part p.exec k) ≡ true) same (ready_by p.exec found.0 is.0 found.1 found.2 is.3)
+
+    -- what is ready in the document
+    pub ready_whole : (p : Part) → is_ready_in l h d p ≡ true
+        → (present_kind l h d p.exec ≡ Some p.kind) × IsReadyPart all p
+    ready_whole p ready =
+        let a = both-parts (is_part l d.homes p) (is_wanted d p.exec && (is_free (standing h p) && has_inputs h d.homes p)) ready in
+        let b = both-parts (is_wanted d p.exec) (is_free (standing h p) && has_inputs h d.homes p) a.1 in
+        let c = both-parts (is_free (standing h p)) (has_inputs h d.homes p) b.1 in
+        let free = free_so (standing h p) c.0 in
+        let next = open_is_next l h d p.exec p.kind a.0 free.1 (behind p.kind p.exec c.1) in
+        let present = wanted_present p.exec p.kind b.0 next in
+        let found = task_of p.exec p.kind present in
+        let none : (f : ℕ) → has_input found.0.inputs f ≡ false = λ f. found.2.waits f
+        ∙ all_done (λ x. is_finished h (evaluation x)) (waits_for d.homes p) c.1 f in (
+          present,
+          (
+            found.0,
+            found.1,
+            found.2.same_kind,
+            both-hold (not found.0.held) (length found.0.inputs == 0)
+                (ap not (found.2.held ∙ free.0)) (no_inputs found.0.inputs none),
+          ),
+        )
+      where
+        behind : (k : PartKind) (e : ℕ) → has_inputs h d.homes (part e k) ≡ true → k ≡ kind.Fork → (completed_in h e).eval ≡ true
+        behind kind.Fork e inputs same = (both-parts (is_finished h (evaluation e)) true inputs).0
+        behind kind.Eval e inputs same = absurd (cc)
+        behind kind.Print e inputs same = absurd (cc)
+
+    pub urgent_by : (p : Part) (is : IsReadyPart all p) → is.0.priority ≡ priority_of d.tip p
+    urgent_by p is =
+        let found = part_of p.exec is.0 is.1 in
+        let same : found.0 ≡ p.kind = sym found.2.same_kind ∙ is.2 in
+        found.2.urgent ∙ ap (λ k. priority_of d.tip (part p.exec k)) same

@@ -1,0 +1,156 @@
+-- What is kept once an update is made.
+use Rattle.std.proofs.Common.{◌≡◌, ◌⊎◌, inl, inr, ℕ, suc, ◌<◌, ◌≤◌, ◌-◌, Bool, true, false, cond, not, ◌&&◌, List, [], ◌∷◌, ◌++◌, length, Option, Some, None, refl, ap, sym, ◌∙◌, arith}
+use Rattle.std.proofs.lemmas.Bool.{cases_lt}
+use Rattle.std.specs.Prelude.{◌==◌, slice_get}
+use Rattle.std.specs.Option.{option_map_or, option_and_then}
+use Rattle.pide_base.specs.Ids.{id_end}
+use Rattle.pide_base.specs.declared.part.PartKind.{PartKind}
+use Rattle.doc_nodes.specs.Imports.{NodeList}
+use Rattle.doc_versions.specs.declared.versions.Live.{Live}
+use Rattle.doc_versions.specs.Live.{History, version_of as found_version, newest}
+use Rattle.exec_table.specs.declared.execution.Execution.{Execution}
+use Rattle.exec_table.specs.Finish.{after_cancelling}
+use Rattle.task_queue.specs.declared.task.Standing.{Standing as Task}
+use Rattle.exec_rules.specs.declared.home.Home.{Home}
+use Rattle.exec_rules.specs.declared.version.Version.{Version}
+use Rattle.exec_rules.specs.Kept.{BlobList}
+use Rattle.exec_assign.specs.Fitting.{RowsFit}
+use Rattle.language.specs.Lang.{Lang}
+use Rattle.core_rules.specs.declared.event.Event.{Event}
+use Rattle.core_rules.specs.declared.event.Event.TheVariants.{Update}
+use Rattle.core_rules.specs.Numbered.{numbered, next_number}
+use Rattle.core_rules.specs.Assigned.{assigns, is_assigned}
+use Rattle.import_rounds.specs.Rounds.{has}
+use Rattle.core_rules.specs.Settings.{setting}
+use Rattle.core_rules.specs.Parts.{forks}
+use Rattle.core_rules.specs.Doc.{Doc, doc, assignment_of, version_of}
+use Rattle.core_rules.specs.Legal.{IsLegal}
+use Rattle.core_jobs.specs.declared.done.Done.{Done}
+use Rattle.prover_core.specs.Progress.{completed_in, next_kind, next_of, row_by, row_of}
+use Rattle.prover_core.specs.Kept.{Tables, IsKept, home_of}
+use Rattle.core_rules.proofs.KnownNumbers.{numbered_within}
+use Rattle.prover_core.proofs.BehindKept.{now_behind, now_behind_live}
+use Rattle.prover_core.proofs.UpdatedDoc.{NewLaws, same_home, old_live, new_live}
+use Rattle.prover_core.proofs.UpdatedRows.{AreRows, known_now, beyond, stays_row, dropped_row, new_row}
+use Rattle.prover_core.proofs.UpdatedTasks.{AreTasksThen, next_old, tasks_now}
+
+last_is : {A : Type 0} (xs : List A) (x : A) → slice_get (xs ++ x ∷ []) (length (xs ++ x ∷ []) - 1) ≡ Some x
+last_is xs x = ap (slice_get (xs ++ x ∷ [])) (long xs) ∙ at xs
+  where
+    long : (ys : List _) → length (ys ++ x ∷ []) - 1 ≡ length ys
+    long ys = omega (arith, counted ys)
+      where
+        counted : (zs : List _) → length (zs ++ x ∷ []) ≡ suc (length zs)
+        counted [] = refl
+        counted (z ∷ zs) = ap suc (counted zs)
+
+    at : (ys : List _) → slice_get (ys ++ x ∷ []) (length ys) ≡ Some x
+    at [] = refl
+    at (y ∷ ys) = at ys
+
+module _ {S : Type 0} (l : Lang S) (h : List Event) (t : Tables S) (k : IsKept l h t) (id : ℕ) (nodes : NodeList) (blobs : BlobList)
+    (laws : NewLaws l h id nodes blobs) (tip_live : (e : ℕ) → assigns (doc l h).tip e ≡ true → is_assigned (doc l h).live e ≡ true) where
+  abbrev d : Doc
+  d = doc l h
+
+  abbrev more : List Event
+  more = Update id nodes blobs ∷ h
+
+  abbrev now : Doc
+  now = doc l more
+
+  abbrev new : Version
+  new = version_of nodes blobs (assignment_of d nodes blobs)
+
+  rows_now : (rows : ℕ → Option (Execution (Done S))) → AreRows l h t k id nodes blobs laws tip_live rows
+      → (e : ℕ) → rows e ≡ row_of l more now e
+  rows_now rows so e = go (cases_lt (length d.homes) e)
+    where
+      old : (b : Bool) → (assigns d.tip e && not (assigns new e)) ≡ b → e ≤ length d.homes
+          → cond b (after_cancelling (t.rows e)) (t.rows e) ≡ row_of l more now e
+      old true is le = dropped_row l h t k id nodes blobs laws tip_live e le is
+      old false is le = stays_row l h t k id nodes blobs laws tip_live e le is
+
+      above : length d.homes < e → (length now.homes < e) ⊎ (e ≤ length now.homes) → rows e ≡ row_of l more now e
+      above past (inl lt) = so.others e lt
+          ∙ sym (ap (λ b. cond b (row_by l (has now.cancelled e) e (completed_in more e) (numbered now.homes e) (setting l now.homes e)) None) (beyond l h t k id nodes blobs laws tip_live e lt))
+      above past (inr le) =
+          let x = laws.homes e (laws.given e past le) in
+          so.fresh e x.home past x.homed ∙ new_row l h t k id nodes blobs laws tip_live e x.home past le x.homed
+
+      go : (length d.homes < e) ⊎ (e ≤ length d.homes) → rows e ≡ row_of l more now e
+      go (inl past) = above past (cases_lt (length now.homes) e)
+      go (inr le) = so.old e le ∙ old (assigns d.tip e && not (assigns new e)) refl le
+
+  -- homes of an update: new ones are put in
+  pub record AreHomes (homes : ℕ → Option Home) : Type 0 where
+    pub old : (e : ℕ) → e ≤ length d.homes → homes e ≡ t.homes e
+    pub fresh : (e : ℕ) (x : Home) → length d.homes < e → numbered now.homes e ≡ Some x → homes e ≡ Some x
+    pub others : (e : ℕ) → length now.homes < e → homes e ≡ None
+
+  homes_now : (homes : ℕ → Option Home) → AreHomes homes → (e : ℕ) → homes e ≡ home_of now e
+  homes_now homes so e = go (cases_lt (length d.homes) e)
+    where
+      above : length d.homes < e → (length now.homes < e) ⊎ (e ≤ length now.homes) → homes e ≡ home_of now e
+      above past (inl lt) = so.others e lt ∙ sym (ap (λ b. cond b (numbered now.homes e) None) (beyond l h t k id nodes blobs laws tip_live e lt))
+      above past (inr le) =
+          let given = laws.given e past le in
+          let x = laws.homes e given in
+          so.fresh e x.home past x.homed
+          ∙ sym (ap (λ b. cond b (numbered now.homes e) None) (new_live l h id nodes blobs laws tip_live e past ∙ given) ∙ x.homed)
+
+      go : (length d.homes < e) ⊎ (e ≤ length d.homes) → homes e ≡ home_of now e
+      go (inl past) = above past (cases_lt (length now.homes) e)
+      go (inr le) = so.old e le ∙ k.homes e
+          ∙ sym (ap (λ b. cond b (numbered now.homes e) None) (old_live l h id nodes blobs laws tip_live e le)
+          ∙ ap (λ o. cond (is_assigned d.live e) o None) (same_home l h id nodes blobs laws tip_live e le))
+
+  made_next : (e : ℕ) (x : PartKind) → next_of l h d e ≡ Some x → e ≤ length d.homes
+  made_next e x is = go (numbered d.homes e) refl is
+    where
+      go : (o : Option Home) → numbered d.homes e ≡ o
+          → option_and_then (λ (y : Home). next_kind y.input (forks l d.homes e) (completed_in h e)) o ≡ Some x → e ≤ length d.homes
+      go None at is = absurd (cc)
+      go (Some y) at is = numbered_within d.homes e y at
+
+  pub updated_kept : IsLegal l more → (versions : History Version) → versions.start ≡ t.versions.start
+      → versions.live ≡ t.versions.live ++ record { id = id; version = new } ∷ [] → RowsFit new
+      → (next : ℕ) → next ≡ next_number now.homes → next ≤ id_end
+      → (rows : ℕ → Option (Execution (Done S))) → AreRows l h t k id nodes blobs laws tip_live rows
+      → (homes : ℕ → Option Home) → AreHomes homes
+      → (tasks : ℕ → Option Task) → AreTasksThen l h t k id nodes blobs laws tip_live tasks
+      → found_version d.live id ≡ None → (behind : ℕ → Option ℕ)
+      → ((i : ℕ) → behind i ≡ cond (id == i) (Some next) (t.behind i)) → (room : ℕ) → t.holding ≤ room
+      → IsKept l more (record t {
+        versions = versions;
+        behind = behind;
+        next = next;
+        rows = rows;
+        homes = homes;
+        tasks = tasks;
+        room = room;
+      })
+  updated_kept legal versions begins lives fits next next_is within rows are_rows homes are_homes tasks are_tasks free behind put room roomy = record {
+    legal = legal;
+    start_is = begins ∙ k.start_is;
+    live = lives ∙ ap (λ xs. xs ++ record { id = id; version = new } ∷ []) k.live;
+    tip = ap (λ xs. option_map_or (λ (x : Live Version). x.version) (newest xs) versions.start) lives
+        ∙ ap (λ o. option_map_or (λ (x : Live Version). x.version) o versions.start)
+        (last_is t.versions.live (record { id = id; version = new }));
+    rows_fit = fits;
+    behind = now_behind l h t k id nodes blobs laws free next next_is behind put;
+    behind_live = now_behind_live l h t k id nodes blobs laws free next next_is behind put;
+    next_is = next_is;
+    within = within;
+    rows = rows_now rows are_rows;
+    homes = homes_now homes are_homes;
+    known = known_now l h t k id nodes blobs laws tip_live;
+    in_order = k.in_order;
+    holders = k.holders;
+    held_next = λ who p is.
+        let was = k.held_next who p is in
+        next_old l h t k id nodes blobs laws tip_live p.exec (made_next p.exec p.kind was) ∙ was;
+    tasks = tasks_now l h t k id nodes blobs laws tip_live tasks are_tasks;
+    ended = k.ended;
+    room = roomy;
+  }

@@ -1,0 +1,154 @@
+-- How far executions are after an update, and what they go by.
+use Rattle.std.proofs.Common.{◌≡◌, ◌⊎◌, inl, inr, ℕ, ◌<◌, ◌≤◌, Bool, true, false, cond, not, ◌&&◌, ◌||◌, List, ◌∷◌, length, Option, Some, None, refl, ap, sym, ◌∙◌, arith}
+use Rattle.std.proofs.lemmas.Bool.{cases_lt}
+use Rattle.text_words.proofs.KnownTests.{both-parts}
+use Rattle.import_rounds.specs.Rounds.{has}
+use Rattle.doc_nodes.specs.Imports.{NodeList}
+use Rattle.exec_table.specs.declared.execution.Execution.{Execution}
+use Rattle.exec_table.specs.Finish.{after_cancelling}
+use Rattle.exec_rules.specs.declared.home.Home.{Home}
+use Rattle.exec_rules.specs.declared.home.Input.{Input}
+use Rattle.exec_rules.specs.declared.home.Input.TheVariants as input
+use Rattle.exec_rules.specs.declared.version.Version.{Version}
+use Rattle.exec_rules.specs.Kept.{BlobList}
+use Rattle.language.specs.Lang.{Lang}
+use Rattle.core_rules.specs.declared.event.Event.{Event}
+use Rattle.core_rules.specs.declared.event.Event.TheVariants.{Update}
+use Rattle.core_rules.specs.Numbered.{numbered}
+use Rattle.core_rules.specs.Assigned.{assigns, is_assigned}
+use Rattle.core_rules.specs.Settings.{Setting, made_of, setting}
+use Rattle.core_rules.specs.Standing.{is_open}
+use Rattle.core_rules.specs.Doc.{Doc, doc, assignment_of, version_of}
+use Rattle.core_jobs.specs.declared.done.Done.{Done}
+use Rattle.prover_core.specs.Progress.{completed_in, progress_by, result, execution_by, row_by, row_of}
+use Rattle.prover_core.specs.Plans.{begun}
+use Rattle.prover_core.specs.Kept.{Tables, IsKept, IsKnown}
+use Rattle.core_rules.proofs.KnownNumbers.{numbered_within}
+use Rattle.prover_core.proofs.OpenRows.{row_known, row_with_mark}
+use Rattle.prover_core.proofs.CancelledKept.{after_told}
+use Rattle.prover_core.proofs.UpdatedDoc.{NewLaws, three, same_home, same_setting, old_live, new_live, cancelled_now, not_cancelled, nothing_done}
+
+module _ {S : Type 0} (l : Lang S) (h : List Event) (t : Tables S) (k : IsKept l h t) (id : ℕ) (nodes : NodeList) (blobs : BlobList)
+    (laws : NewLaws l h id nodes blobs) (tip_live : (e : ℕ) → assigns (doc l h).tip e ≡ true → is_assigned (doc l h).live e ≡ true) where
+  abbrev d : Doc
+  d = doc l h
+
+  abbrev more : List Event
+  more = Update id nodes blobs ∷ h
+
+  abbrev now : Doc
+  now = doc l more
+
+  abbrev new : Version
+  new = version_of nodes blobs (assignment_of d nodes blobs)
+
+  pub known_now : (e : ℕ) → is_assigned now.live e ≡ true → IsKnown l now.homes e
+  known_now e live = go (cases_lt (length d.homes) e)
+    where
+      go : (length d.homes < e) ⊎ (e ≤ length d.homes) → IsKnown l now.homes e
+      go (inl past) =
+          let x = laws.homes e (sym (new_live l h id nodes blobs laws tip_live e past) ∙ live) in
+          record { home = x.home; homed = x.homed; works_on = x.works_on; setting_is = x.setting_is }
+      go (inr le) =
+          let x = k.known e (sym (old_live l h id nodes blobs laws tip_live e le) ∙ live) in record {
+            home = x.home;
+            homed = same_home l h id nodes blobs laws tip_live e le ∙ x.homed;
+            works_on = x.works_on;
+            setting_is = same_setting l h id nodes blobs laws tip_live e le ∙ x.setting_is;
+          }
+
+  -- an older execution's row, with another mark perhaps
+  row_moved : (e : ℕ) → e ≤ length d.homes → row_of l more now e
+      ≡ cond (is_assigned d.live e) (row_by l (has now.cancelled e) e (completed_in h e) (numbered d.homes e) (setting l d.homes e)) None
+  row_moved e le =
+      ap (λ b. cond b (row_by l (has now.cancelled e) e (completed_in h e) (numbered now.homes e) (setting l now.homes e)) None)
+      (old_live l h id nodes blobs laws tip_live e le)
+      ∙ ap (λ o. cond (is_assigned d.live e) (row_by l (has now.cancelled e) e (completed_in h e) o (setting l now.homes e)) None)
+      (same_home l h id nodes blobs laws tip_live e le)
+      ∙ ap (λ o. cond (is_assigned d.live e) (row_by l (has now.cancelled e) e (completed_in h e) (numbered d.homes e) o) None)
+      (same_setting l h id nodes blobs laws tip_live e le)
+
+  mark_same : (e : ℕ) → (assigns d.tip e && not (assigns new e)) ≡ false → has now.cancelled e ≡ has d.cancelled e
+  mark_same e stays = cancelled_now l h id nodes blobs laws tip_live e ∙ go (is_open l h d.homes e) (assigns d.tip e) (assigns new e) stays
+    where
+      go : (a b c : Bool) → (b && not c) ≡ false → (((a && not c) && b) || has d.cancelled e) ≡ has d.cancelled e
+      go true true true x = refl
+      go true true false x = absurd (cc)
+      go true false true x = refl
+      go true false false x = refl
+      go false b c x = refl
+
+  pub stays_row : (e : ℕ) → e ≤ length d.homes → (assigns d.tip e && not (assigns new e)) ≡ false → t.rows e ≡ row_of l more now e
+  stays_row e le stays = k.rows e
+      ∙ ap (λ b. cond (is_assigned d.live e) (row_by l b e (completed_in h e) (numbered d.homes e) (setting l d.homes e)) None)
+      (sym (mark_same e stays))
+      ∙ sym (row_moved e le)
+
+  pub dropped_row : (e : ℕ) → e ≤ length d.homes → (assigns d.tip e && not (assigns new e)) ≡ true
+      → after_cancelling (t.rows e) ≡ row_of l more now e
+  dropped_row e le drops =
+      after_told l h t k e live ∙ ap (λ x. Some x) (marks (has d.cancelled e) (is_open l h d.homes e))
+      ∙ sym (row_with_mark l h d e (((is_open l h d.homes e && true) && true) || has d.cancelled e) x live)
+      ∙ ap (λ b. cond (is_assigned d.live e) (row_by l b e (completed_in h e) (numbered d.homes e) (setting l d.homes e)) None)
+      (sym (cancelled_now l h id nodes blobs laws tip_live e
+      ∙ ap (λ b. ((is_open l h d.homes e && b) && assigns d.tip e) || has d.cancelled e) parts.1
+      ∙ ap (λ b. ((is_open l h d.homes e && true) && b) || has d.cancelled e) parts.0))
+      ∙ sym (row_moved e le)
+    where
+      parts : (assigns d.tip e ≡ true) × (not (assigns new e) ≡ true)
+      parts = both-parts (assigns d.tip e) (not (assigns new e)) drops
+
+      live : is_assigned d.live e ≡ true
+      live = tip_live e parts.0
+
+      x : IsKnown l d.homes e
+      x = k.known e live
+
+      marks : (c o : Bool) → cond (c || not o) (execution_by l c e (completed_in h e) x.home x.works_on)
+          (record (execution_by l c e (completed_in h e) x.home x.works_on) { cancelled = true })
+          ≡ execution_by l (((o && true) && true) || c) e (completed_in h e) x.home x.works_on
+      marks true true = refl
+      marks true false = refl
+      marks false true = refl
+      marks false false = refl
+
+  begins_with : (e : ℕ) (x : Home) (s : Setting S) → execution_by l false e (three false false false) x s ≡ begun x.input
+  begins_with e x s = go x.input
+    where
+      go : (i : Input) → record { cancelled = false; progress = progress_by (result l e s) (made_of l s).forks i (three false false false) }
+          ≡ begun i
+      go (input.First head) = refl
+      go (input.Next f) = refl
+      go (input.Print f) = refl
+
+  pub new_row : (e : ℕ) (x : Home) → length d.homes < e → e ≤ length now.homes → numbered now.homes e ≡ Some x
+      → Some (begun x.input) ≡ row_of l more now e
+  new_row e x past le at =
+      let given = laws.given e past le in
+      let live = new_live l h id nodes blobs laws tip_live e past ∙ given in
+      let known = known_now e live in
+      sym (row_known l more now e known live
+      ∙ ap (λ b. Some (execution_by l b e (completed_in more e) known.home known.works_on))
+      (not_cancelled l h id nodes blobs laws tip_live e given)
+      ∙ ap (λ c. Some (execution_by l false e c known.home known.works_on)) (nothing_done l h id nodes blobs laws tip_live e past)
+      ∙ ap (λ z. Some z) (begins_with e known.home known.works_on)
+      ∙ ap (λ (y : Home). Some (begun y.input)) (same (numbered now.homes e) known.home x known.homed at))
+    where
+      same : (o : Option Home) (a b : Home) → o ≡ Some a → o ≡ Some b → a ≡ b
+      same o a b p q = cc
+
+  pub beyond : (e : ℕ) → length now.homes < e → is_assigned now.live e ≡ false
+  beyond e past = go (is_assigned now.live e) refl
+    where
+      go : (b : Bool) → is_assigned now.live e ≡ b → b ≡ false
+      go false is = refl
+      go true is =
+          let x = known_now e is in
+          let le = numbered_within now.homes e x.home x.homed in absurd (omega (arith, past, le))
+
+  -- rows of an update: those that are dropped are cancelled, and new ones begin
+  pub record AreRows (rows : ℕ → Option (Execution (Done S))) : Type 0 where
+    pub old : (e : ℕ) → e ≤ length d.homes
+        → rows e ≡ cond (assigns d.tip e && not (assigns new e)) (after_cancelling (t.rows e)) (t.rows e)
+    pub fresh : (e : ℕ) (x : Home) → length d.homes < e → numbered now.homes e ≡ Some x → rows e ≡ Some (begun x.input)
+    pub others : (e : ℕ) → length now.homes < e → rows e ≡ None

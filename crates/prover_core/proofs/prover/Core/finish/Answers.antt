@@ -1,0 +1,65 @@
+use Rattle.std.proofs.Common.{◌≡◌, Some, sym, ap, subst, ◌∙◌, arith}
+use Rattle.std.specs.Prelude.{is_some}
+use Rattle.pide_base.specs.declared.part.Part.{Part}
+use Rattle.core_rules.specs.Doc.{doc}
+use Rattle.core_rules.specs.Standing.{held}
+use Rattle.core_jobs.specs.Fits.{IsDoneOf}
+use Rattle.prover_core.specs.States.{CoreState}
+use Rattle.prover_core.proofs.EndedKept.{moved, on_ok}
+use Rattle.prover_core.proofs.TipLive.{laws_of}
+use Rattle.prover_core.proofs.HeldTasks.{counted, wanted_held, there_wanted, gone_unwanted}
+use Rattle.prover_core.proofs.DroppedKept.{dropped_kept}
+use Rattle.prover_core.proofs.FinishKept.{is_taken_in, finish_kept}
+use Rattle.prover_core.proofs.prover.Core.finish.Goals as goal
+
+pub follow-requires-clause-held : goal.follow-requires-clause-held
+follow-requires-clause-held g c =
+    let holds = subst (λ (s : CoreState). held s.past c.args.who ≡ Some c.args.done.part) (sym c.self.view_is) c.requires.holds
+    ∙ ap (λ (q : Part). Some q) (sym c.same-exec.ensures) in
+    let laws = laws_of _ _ _ c.self.invariant c.tip_law.ensures c.holders_law.ensures.told in
+    let wanted = there_wanted _ _ _ c.self.invariant laws c.args.who c.same-exec.result holds (sym c.if-not-is_present.ensures) in
+    wanted_held _ _ _ c.self.invariant laws c.args.who c.same-exec.result holds wanted
+
+pub follow-requires-clause-room : goal.follow-requires-clause-room
+follow-requires-clause-room g c =
+    let holds = subst (λ (s : CoreState). held s.past c.args.who ≡ Some c.args.done.part) (sym c.self.view_is) c.requires.holds in
+    let one = counted _ _ (c.self.invariant.holders c.args.who ∙ holds) in
+    omega (arith, one, c.take_out.ensures.len, c.self.invariant.room)
+
+pub invariant_of-self : goal.invariant_of-self
+invariant_of-self g c =
+    let holds = subst (λ (s : CoreState). held s.past c.args.who ≡ Some c.args.done.part) (sym c.self.view_is) c.requires.holds
+    ∙ ap (λ (q : Part). Some q) (sym c.same-exec.ensures) in
+    let laws = laws_of _ _ _ c.self.invariant c.tip_law.ensures c.holders_law.ensures.told in
+    let unwanted = gone_unwanted _ _ _ c.self.invariant laws c.args.who c.same-exec.result holds (sym c.if-not-is_present.ensures) in
+    moved _ _ _ _ c.add.ensures.items
+    (dropped_kept _ _ _ c.self.invariant laws c.args.who c.same-exec.result holds unwanted _ _ c.take_out.ensures.things
+    (omega (arith, c.take_out.ensures.len)))
+
+pub unreachable-requires : goal.unreachable-requires
+unreachable-requires g c =
+    let holds = subst (λ (s : CoreState). held s.past c.args.who ≡ Some c.args.done.part) (sym c.self.view_is) c.requires.holds
+    ∙ ap (λ (q : Part). Some q) (sym c.same-exec.ensures) in
+    let laws = laws_of _ _ _ c.self.invariant c.tip_law.ensures c.holders_law.ensures.told in
+    let wanted = there_wanted _ _ _ c.self.invariant laws c.args.who c.same-exec.result holds (sym c.if-not-is_present.ensures) in
+    let right = subst (λ (s : CoreState). IsDoneOf g.L.Language.lang (doc g.L.Language.lang s.past).homes c.args.done) (sym c.self.view_is) c.requires.right in
+    let taken = is_taken_in _ _ _ c.self.invariant laws c.args.who c.same-exec.result c.args.done c.same-exec.ensures holds wanted right
+    c.brought.result c.forks_told-forks.result c.brought.ensures c.forks_told-forks.ensures in
+    let ok = c.finish.ensures.finished.1 (ap is_some taken) in
+    let no = c.is_err.ensures.negation in
+    let is = c.if-is_err.true in absurd (cc)
+
+pub invariant_of-self-2 : goal.invariant_of-self-2
+invariant_of-self-2 g c =
+    let holds = subst (λ (s : CoreState). held s.past c.args.who ≡ Some c.args.done.part) (sym c.self.view_is) c.requires.holds
+    ∙ ap (λ (q : Part). Some q) (sym c.same-exec.ensures) in
+    let laws = laws_of _ _ _ c.self.invariant c.tip_law.ensures c.holders_law.ensures.told in
+    let wanted = there_wanted _ _ _ c.self.invariant laws c.args.who c.same-exec.result holds (sym c.if-not-is_present.ensures) in
+    let right = subst (λ (s : CoreState). IsDoneOf g.L.Language.lang (doc g.L.Language.lang s.past).homes c.args.done) (sym c.self.view_is) c.requires.right in
+    let one = counted _ _ (c.self.invariant.holders c.args.who ∙ holds) in
+    let updates = on_ok c.finish.result _ (sym c.if-is_err.ensures.value) c.finish.ensures.ok in
+    moved _ _ _ _ c.add-2.ensures.items
+    (finish_kept _ _ _ c.self.invariant laws c.args.who c.same-exec.result c.args.done c.same-exec.ensures holds wanted right
+    c.brought.result c.forks_told-forks.result c.brought.ensures c.forks_told-forks.ensures _ _ _ _ _
+    updates c.take_out.ensures.things c.follow.ensures.here c.follow.ensures.waiters c.follow.ensures.free c.follow.ensures.others
+    (omega (arith, one, c.take_out.ensures.len, c.follow.ensures.room, c.self.invariant.room)))

@@ -1,0 +1,83 @@
+use Rattle.std.proofs.Common.{◌≡◌, ◌≤◌, ◌<◌, ℕ, false, Some, rules, ap, sym, subst, ◌∙◌}
+use Rattle.std.specs.Prelude.{is_some, filter}
+use Rattle.import_rounds.specs.Rounds.{has}
+use Rattle.exec_table.specs.Rows.{execution_of}
+use Rattle.core_rules.specs.Assigned.{executions_of}
+use Rattle.core_rules.specs.Stuck.{stuck_in}
+use Rattle.prover_core.specs.Results.{is_unfinished}
+use Rattle.pide_base.specs.declared.part.Part.{Part}
+use Rattle.task_queue.specs.Tasks.{standing}
+use Rattle.task_queue.specs.Ready.{IsReadyPart}
+use Rattle.doc_versions.specs.Live.{version_of}
+use Rattle.exec_rules.specs.declared.version.Version.{Version}
+use Rattle.core_rules.specs.Doc.{doc}
+use Rattle.prover_core.specs.States.{CoreState}
+use Rattle.prover_core.specs.Looked.{looked}
+use Rattle.prover_core.specs.Settling.{IsLeft, IsSettled}
+use Rattle.prover_core.proofs.BehindSettled.{ready_is_left, held_is_left, is_settled_so, settled_with}
+use Rattle.prover_core.proofs.EndedKept.{on_err}
+use Rattle.prover_core.proofs.prover.Core.settled.Goals as goal
+
+pub returns-in-Some-ready_below-clause-settled : goal.returns-in-Some-ready_below-clause-settled
+returns-in-Some-ready_below-clause-settled g c =
+    let l = g.L.Language.lang in
+    let v : Version = c.in-Some.version.now in
+    let live : version_of (doc l c.self.inside.past).live c.args.id ≡ Some v =
+    ap (λ lv. version_of lv c.args.id) (sym c.self.invariant.live) ∙ sym c.in-Some.ensures in
+    let number : looked c.self.inside.behind c.args.id ≡ Some c.in-Some-get.behind.now = search rules in
+    let found = c.in-Some-ready_below.ensures.some in
+    subst (λ (s : CoreState). (w : Version) × (version_of (doc l s.past).live c.args.id ≡ Some w) × IsLeft l s.past w c.in-Some-ready_below.part)
+    c.self.view_is (
+      v,
+      live,
+      ready_is_left l _ _ c.self.invariant c.tip_law.ensures c.holders_law.ensures.told c.homes_law.ensures.begun c.args.id v live
+          c.in-Some-get.behind.now number c.in-Some-ready_below.part found.0 found.1,
+    )
+
+pub returns-in-Some-held_below-clause-settled : goal.returns-in-Some-held_below-clause-settled
+returns-in-Some-held_below-clause-settled g c =
+    let l = g.L.Language.lang in
+    let v : Version = c.in-Some.version.now in
+    let live : version_of (doc l c.self.inside.past).live c.args.id ≡ Some v =
+    ap (λ lv. version_of lv c.args.id) (sym c.self.invariant.live) ∙ sym c.in-Some.ensures in
+    let number : looked c.self.inside.behind c.args.id ≡ Some c.in-Some-get.behind.now = search rules in
+    let found = c.in-Some-held_below.ensures.some in
+    subst (λ (s : CoreState). (w : Version) × (version_of (doc l s.past).live c.args.id ≡ Some w) × IsLeft l s.past w c.in-Some-held_below.part)
+    c.self.view_is (
+      v,
+      live,
+      held_is_left l _ _ c.self.invariant c.tip_law.ensures c.holders_law.ensures.told c.homes_law.ensures.begun c.args.id v live
+          c.in-Some-get.behind.now number c.in-Some-held_below.part found.2.0 found.0 found.1 found.2.1,
+    )
+
+pub returns-in_err-open_in-clause-err : goal.returns-in_err-open_in-clause-err
+returns-in_err-open_in-clause-err g c =
+    let l = g.L.Language.lang in
+    let v : Version = c.in-Some.version.now in
+    let live : version_of (doc l c.self.inside.past).live c.args.id ≡ Some v =
+    ap (λ lv. version_of lv c.args.id) (sym c.self.invariant.live) ∙ sym c.in-Some.ensures in
+    let number : looked c.self.inside.behind c.args.id ≡ Some c.in-Some-get.behind.now = search rules in
+    let no_ready : (p : Part) → IsReadyPart (standing c.self.inside.queue) p → c.in-Some-get.behind.now ≤ p.exec = search rules in
+    let no_held : (who : ℕ) (p : Part) → looked c.self.inside.holders who ≡ Some p → p.exec < c.in-Some-get.behind.now
+    → is_some (standing c.self.inside.queue p.exec) ≡ false = search rules in
+    let so = is_settled_so l _ _ c.self.invariant c.tip_law.ensures c.holders_law.ensures.told c.homes_law.ensures.begun c.args.id v live
+    c.in-Some-get.behind.now number c.homes_law.ensures.live no_ready no_held in
+    on_err c.from_residual.result (subst (λ (s : CoreState). IsSettled l s.past c.args.id) c.self.view_is so)
+
+pub returns-clause-settled : goal.returns-clause-settled
+returns-clause-settled g c =
+    let l = g.L.Language.lang in
+    let v : Version = c.in-Some.version.now in
+    let live : version_of (doc l c.self.inside.past).live c.args.id ≡ Some v =
+    ap (λ lv. version_of lv c.args.id) (sym c.self.invariant.live) ∙ sym c.in-Some.ensures in
+    let number : looked c.self.inside.behind c.args.id ≡ Some c.in-Some-get.behind.now = search rules in
+    let no_ready : (p : Part) → IsReadyPart (standing c.self.inside.queue) p → c.in-Some-get.behind.now ≤ p.exec = search rules in
+    let no_held : (who : ℕ) (p : Part) → looked c.self.inside.holders who ≡ Some p → p.exec < c.in-Some-get.behind.now
+    → is_some (standing c.self.inside.queue p.exec) ≡ false = search rules in
+    let so = is_settled_so l _ _ c.self.invariant c.tip_law.ensures c.holders_law.ensures.told c.homes_law.ensures.begun c.args.id v live
+    c.in-Some-get.behind.now number c.homes_law.ensures.live no_ready no_held in
+    subst (λ (s : CoreState). (x : IsSettled l s.past c.args.id) × (c.in_ok-open_in.field-0.items ≡ stuck_in l s.past (doc l s.past) x.version))
+    c.self.view_is (settled_with l _ _ c.self.invariant c.tip_law.ensures c.holders_law.ensures.told c.homes_law.ensures.begun c.args.id v live
+    c.in-Some-get.behind.now number so
+    c.in_ok-open_in.field-0.items c.in_ok-open_in.ensures.rises (λ e. c.in_ok-open_in.ensures.same e
+    ∙ ap (λ (w : Version). has (filter (λ m. is_unfinished (execution_of c.self.inside.execs.rows m)) (executions_of w)) e) c.get-3.ensures))

@@ -1,0 +1,154 @@
+use Rattle.std.proofs.Common.{◌≡◌, ◌<◌, ◌≤◌, ◌-◌, ℕ, Bool, List, ◌∷◌, None, cond, map, false, sym, ap, subst, ◌∙◌, refl, arith, reverse, length}
+use Rattle.std.proofs.lemmas.List.{length-map, length-reverse}
+use Rattle.std.proofs.Math.Nat.{min-le_left, min-le_right}
+use Rattle.std.specs.Prelude.{min, flat_map}
+use Rattle.std.specs.HashMap.{hash_map_len, spare}
+use Rattle.task_queue.specs.declared.task.Task.{Task}
+use Rattle.std.specs.Option.{option_map}
+use Rattle.std.specs.List.{AllByRecursion}
+use Rattle.import_rounds.specs.Rounds.{has}
+use Rattle.exec_table.specs.Rows.{execution_of}
+use Rattle.exec_table.specs.Finish.{after_cancelling}
+use Rattle.task_queue.specs.Tasks.{standing}
+use Rattle.doc_versions.specs.Live.{version_of}
+use Rattle.core_rules.specs.declared.event.Event.{Event}
+use Rattle.core_rules.specs.Standing.{has_ended}
+use Rattle.core_rules.specs.Doc.{doc}
+use Rattle.core_rules.specs.Legal.{IsLegal}
+use Rattle.update_plans.specs.declared.beginning.Fresh.{Fresh}
+use Rattle.update_plans.specs.declared.seeing.Sight.{Sight}
+use Rattle.prover_core.specs.Looked.{looked}
+use Rattle.prover_core.specs.States.{CoreState}
+use Rattle.prover_core.specs.Plans.{PlanState, ranked, IsPlanOf}
+use Rattle.prover_core.proofs.EndedKept.{moved}
+use Rattle.prover_core.proofs.LiveIds.{live_ids, fresh_id}
+use Rattle.prover_core.proofs.FreshAll.{homes_of, links_of}
+use Rattle.prover_core.proofs.PlannedKept.{UpdateLaws, can_add, seen_so, planned_kept, has_room}
+use Rattle.prover_core.proofs.prover.Core.update.Goals as goal
+
+pub add_all-requires-clause-new : goal.add_all-requires-clause-new
+add_all-requires-clause-new g c =
+    let l = g.L.Language.lang in
+    let going = subst (λ (s : CoreState). has_ended s.past ≡ false) (sym c.self.view_is) c.requires.going in
+    let planned = subst (λ (p : PlanState). IsPlanOf l c.self.inside.past p) (sym c.plan.view_is)
+    (subst (λ (s : CoreState). IsPlanOf l s.past c.args.plan) (sym c.self.view_is) c.requires.planned) in
+    let all : UpdateLaws l = record {
+      tip = c.homes_law.ensures.tip;
+      made = c.homes_law.ensures.made;
+      unmade = c.homes_law.ensures.unmade;
+      not_again = c.cancelled_law.ensures.not_again;
+      found = c.places_law.ensures.found;
+      there = c.places_law.ensures.there;
+      held = c.new_numbers_law.ensures.held;
+      new = c.new_numbers_law.ensures.new;
+      numbers = c.numbers_law.ensures;
+    } in
+    let rows = subst (λ (ds : List ℕ). (e : ℕ) → execution_of c.drop_all.new.execs.rows e ≡ cond (has ds e)
+    (after_cancelling (execution_of c.self.inside.execs.rows e)) (execution_of c.self.inside.execs.rows e)) c.deref.ensures.value
+    c.drop_all.ensures.rows in
+    let tasks = subst (λ (ds : List ℕ). (e : ℕ) → standing c.drop_all.new.queue e ≡ cond (has ds e) None (standing c.self.inside.queue e))
+    c.deref.ensures.value c.drop_all.ensures.tasks in
+    can_add l _ _ c.self.invariant all _ (reverse c.plan.inside.fresh.items) refl refl going planned _ _ _ rows (λ e. refl) tasks
+
+pub add_all-requires-clause-executions : goal.add_all-requires-clause-executions
+add_all-requires-clause-executions g c =
+    let here = has_room _ _ _ _ c.self.view_is c.plan.view_is c.requires.room in
+    let len = length-map (reverse c.plan.inside.fresh.items) (λ (x : Fresh). x.task) ∙ length-reverse c.plan.inside.fresh.items in
+    let most : length (map (λ (x : Fresh). x.task) (reverse c.plan.inside.fresh.items)) ≤ min c.self.inside.execs.room (spare c.self.inside.known) = here.executions in
+    omega (arith, most, len, min-le_left c.self.inside.execs.room (spare c.self.inside.known), c.drop_all.ensures.executions)
+
+pub add_all-requires-clause-spare : goal.add_all-requires-clause-spare
+add_all-requires-clause-spare g c =
+    let here = has_room _ _ _ _ c.self.view_is c.plan.view_is c.requires.room in
+    let len = length-map (reverse c.plan.inside.fresh.items) (λ (x : Fresh). x.task) ∙ length-reverse c.plan.inside.fresh.items in
+    let most : length (map (λ (x : Fresh). x.task) (reverse c.plan.inside.fresh.items)) ≤ min c.self.inside.execs.room (spare c.self.inside.known) = here.executions in
+    omega (arith, most, len, min-le_right c.self.inside.execs.room (spare c.self.inside.known))
+
+pub add_all-requires-clause-room : goal.add_all-requires-clause-room
+add_all-requires-clause-room g c =
+    let here = has_room _ _ _ _ c.self.view_is c.plan.view_is c.requires.room in
+    let len = length-map (reverse c.plan.inside.fresh.items) (λ (x : Fresh). x.task) ∙ length-reverse c.plan.inside.fresh.items in
+    let most : length (map (λ (x : Fresh). x.task) (reverse c.plan.inside.fresh.items)) ≤ c.self.inside.queue.room - hash_map_len c.self.inside.holders = here.tasks in
+    omega (arith, most, len, c.drop_all.ensures.room)
+
+pub add_all-requires-clause-links : goal.add_all-requires-clause-links
+add_all-requires-clause-links g c =
+    let here = has_room _ _ _ _ c.self.view_is c.plan.view_is c.requires.room in
+    let most : length (flat_map (λ (x : Task). x.inputs) (map (λ (x : Fresh). x.task) (reverse c.plan.inside.fresh.items))) ≤ c.self.inside.queue.links = here.links in
+    omega (arith, most, links_of (reverse c.plan.inside.fresh.items), c.drop_all.ensures.links)
+
+pub push-requires-clause-room : goal.push-requires-clause-room
+push-requires-clause-room g c =
+    let here = has_room _ _ _ _ c.self.view_is c.plan.view_is c.requires.room in
+    let room : 0 < min c.self.inside.versions.room (spare c.self.inside.behind) = here.versions in
+    omega (arith, room, min-le_left c.self.inside.versions.room (spare c.self.inside.behind))
+
+pub note-requires-clause-room : goal.note-requires-clause-room
+note-requires-clause-room g c =
+    let here = has_room _ _ _ _ c.self.view_is c.plan.view_is c.requires.room in
+    let room : 0 < min c.self.inside.versions.room (spare c.self.inside.behind) = here.versions in
+    omega (arith, room, min-le_right c.self.inside.versions.room (spare c.self.inside.behind))
+
+pub note-requires-clause-new : goal.note-requires-clause-new
+note-requires-clause-new g c =
+    let l = g.L.Language.lang in
+    let planned = subst (λ (p : PlanState). IsPlanOf l c.self.inside.past p) (sym c.plan.view_is)
+    (subst (λ (s : CoreState). IsPlanOf l s.past c.args.plan) (sym c.self.view_is) c.requires.planned) in
+    c.self.invariant.behind_live c.plan.inside.id
+    (fresh_id (doc l c.self.inside.past).last c.plan.inside.id (doc l c.self.inside.past).live
+    (live_ids l c.self.inside.past c.self.invariant.legal) planned.fits.newer)
+
+pub push-requires-clause-fresh : goal.push-requires-clause-fresh
+push-requires-clause-fresh g c =
+    let l = g.L.Language.lang in
+    let planned = subst (λ (p : PlanState). IsPlanOf l c.self.inside.past p) (sym c.plan.view_is)
+    (subst (λ (s : CoreState). IsPlanOf l s.past c.args.plan) (sym c.self.view_is) c.requires.planned) in
+    ap (λ live. version_of live c.plan.inside.id) c.self.invariant.live
+    ∙ fresh_id (doc l c.self.inside.past).last c.plan.inside.id (doc l c.self.inside.past).live
+    (live_ids l c.self.inside.past c.self.invariant.legal) planned.fits.newer
+
+pub invariant_of-self : goal.invariant_of-self
+invariant_of-self g c =
+    let l = g.L.Language.lang in
+    let going = subst (λ (s : CoreState). has_ended s.past ≡ false) (sym c.self.view_is) c.requires.going in
+    let planned = subst (λ (p : PlanState). IsPlanOf l c.self.inside.past p) (sym c.plan.view_is)
+    (subst (λ (s : CoreState). IsPlanOf l s.past c.args.plan) (sym c.self.view_is) c.requires.planned) in
+    let all : UpdateLaws l = record {
+      tip = c.homes_law.ensures.tip;
+      made = c.homes_law.ensures.made;
+      unmade = c.homes_law.ensures.unmade;
+      not_again = c.cancelled_law.ensures.not_again;
+      found = c.places_law.ensures.found;
+      there = c.places_law.ensures.there;
+      held = c.new_numbers_law.ensures.held;
+      new = c.new_numbers_law.ensures.new;
+      numbers = c.numbers_law.ensures;
+    } in
+    let rows = subst (λ (ds : List ℕ). (e : ℕ) → execution_of c.drop_all.new.execs.rows e ≡ cond (has ds e)
+    (after_cancelling (execution_of c.self.inside.execs.rows e)) (execution_of c.self.inside.execs.rows e)) c.deref.ensures.value
+    c.drop_all.ensures.rows in
+    let tasks = subst (λ (ds : List ℕ). (e : ℕ) → standing c.drop_all.new.queue e ≡ cond (has ds e) None (standing c.self.inside.queue e))
+    c.deref.ensures.value c.drop_all.ensures.tasks in
+    let sees = subst (λ (ss : List Sight). (see : ℕ → Bool) → AllByRecursion (λ (s : Sight). see s.exec ≡ s.visible) ss → (e : ℕ)
+    → standing c.see_all.new.queue e ≡ cond (has (map (λ (s : Sight). s.exec) ss) e)
+    (option_map (ranked (see e)) (standing c.add_all.new.queue e)) (standing c.add_all.new.queue e)) c.deref-2.ensures.value
+    c.see_all.ensures.tasks in
+    let here = has_room _ _ _ _ c.self.view_is c.plan.view_is c.requires.room in
+    let len = length-map (reverse c.plan.inside.fresh.items) (λ (x : Fresh). x.task) ∙ length-reverse c.plan.inside.fresh.items in
+    let most : length (map (λ (x : Fresh). x.task) (reverse c.plan.inside.fresh.items)) ≤ c.self.inside.queue.room - hash_map_len c.self.inside.holders = here.tasks in
+    moved _ _ _ _ (c.add.ensures.items ∙ ap (λ (x : Event). x ∷ c.self.inside.past) c.plan.invariant)
+    (planned_kept l _ _ c.self.invariant all _ (reverse c.plan.inside.fresh.items) refl refl going planned c.push.new.self
+    c.push.ensures.start c.push.ensures.live _ _ _ _ _ _ rows c.add_all.ensures.rows
+    (homes_of (reverse c.plan.inside.fresh.items) (λ e. looked c.self.inside.known e) (λ e. looked c.add_all.new.known e) c.add_all.ensures.homes)
+    tasks c.add_all.ensures.tasks
+    (sees _ (seen_so l _ _ c.self.invariant all _ (reverse c.plan.inside.fresh.items) refl refl going planned)) (λ i. looked c.note.new.behind i) c.note.ensures _
+    (omega (arith, most, len, c.drop_all.ensures.room, c.add_all.ensures.room, c.see_all.ensures.room, c.self.invariant.room)))
+
+pub returns-clause-legal : goal.returns-clause-legal
+returns-clause-legal g c =
+    let l = g.L.Language.lang in
+    let going = subst (λ (s : CoreState). has_ended s.past ≡ false) (sym c.self.view_is) c.requires.going in
+    let planned = subst (λ (p : PlanState). IsPlanOf l c.self.inside.past p) (sym c.plan.view_is)
+    (subst (λ (s : CoreState). IsPlanOf l s.past c.args.plan) (sym c.self.view_is) c.requires.planned) in
+    subst (IsLegal l) (sym (c.add.ensures.items ∙ ap (λ (x : Event). x ∷ c.self.inside.past) c.plan.invariant))
+    (c.self.invariant.legal, (going, planned.fits))

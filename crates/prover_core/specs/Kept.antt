@@ -1,0 +1,80 @@
+-- What a core keeps (this project's own): by all that has happened, each table is told.
+use Rattle.std.specs.Prelude.{◌≡◌, ℕ, ◌<◌, ◌≤◌, Bool, true, if◌then◌else◌, List, Option, Some, None}
+use Rattle.pide_base.specs.Ids.{id_end}
+use Rattle.pide_base.specs.declared.part.Part.{Part}
+use Rattle.doc_versions.specs.Live.{History, version_of, tip_of}
+use Rattle.exec_table.specs.declared.execution.Execution.{Execution}
+use Rattle.task_queue.specs.declared.task.Standing.{Standing as Task}
+use Rattle.exec_rules.specs.declared.home.Home.{Home}
+use Rattle.exec_rules.specs.declared.version.Version.{Version}
+use Rattle.exec_assign.specs.Fitting.{RowsFit}
+use Rattle.language.specs.Lang.{Lang}
+use Rattle.core_jobs.specs.declared.done.Done.{Done}
+use Rattle.core_rules.specs.declared.event.Event.{Event}
+use Rattle.core_rules.specs.Numbered.{numbered, next_number}
+use Rattle.core_rules.specs.Assigned.{assigns, is_assigned}
+use Rattle.core_rules.specs.Settings.{Setting, setting}
+use Rattle.core_rules.specs.Standing.{held, has_ended}
+use Rattle.core_rules.specs.Doc.{Doc, doc, start}
+use Rattle.core_rules.specs.Legal.{IsLegal}
+use Rattle.prover_core.specs.Progress.{row_of, next_of, InOrder, completed_in}
+use Rattle.prover_core.specs.Tasks.{HasTask}
+
+-- the tables of a core, each read by its key; how many parts are held, and how many more tasks
+-- there is room for
+pub record Tables (S : Type 0) : Type 0 where
+  pub versions : History Version
+  pub behind : ℕ → Option ℕ
+  pub next : ℕ
+  pub rows : ℕ → Option (Execution (Done S))
+  pub homes : ℕ → Option Home
+  pub holders : ℕ → Option Part
+  pub holding : ℕ
+  pub tasks : ℕ → Option Task
+  pub room : ℕ
+  pub ended : Bool
+
+-- what an execution goes by that a live version assigns
+abbrev pub home_of : Doc → ℕ → Option Home
+home_of d e = if is_assigned d.live e then numbered d.homes e else None
+
+-- the number that came next when a version was made: it has all of the tip's executions below it
+pub record IsBehind (d : Doc) (version : Version) (n : ℕ) : Type 0 where
+  pub within : n ≤ next_number d.homes
+  pub above : (e : ℕ) → assigns version e ≡ true → e < n
+  pub still : (e : ℕ) → assigns d.tip e ≡ true → e < n → assigns version e ≡ true
+
+-- it is known what an execution goes by and works on
+pub record IsKnown {S : Type 0} (l : Lang S) (homes : List Home) (e : ℕ) : Type 0 where
+  pub home : Home
+  pub homed : numbered homes e ≡ Some home
+  pub works_on : Setting S
+  pub setting_is : setting l homes e ≡ Some works_on
+
+-- they are told by all that has happened: the live versions, with the numbers that came next when
+-- they were made; the next execution; of each execution
+-- that a live version assigns how far it is, and what it goes by; who holds what; the tasks of the
+-- tip; whether all has ended
+pub record IsKept {S : Type 0} (l : Lang S) (h : List Event) (t : Tables S) : Type 0 where
+  pub legal : IsLegal l h
+  pub start_is : t.versions.start ≡ start
+  pub live : t.versions.live ≡ (doc l h).live
+  pub tip : tip_of t.versions ≡ (doc l h).tip
+  pub rows_fit : RowsFit (doc l h).tip
+  pub behind : (id : ℕ) (version : Version) → version_of (doc l h).live id ≡ Some version
+      → (n : ℕ) × (t.behind id ≡ Some n) × IsBehind (doc l h) version n
+  pub behind_live : (id : ℕ) → version_of (doc l h).live id ≡ None → t.behind id ≡ None
+  pub next_is : t.next ≡ next_number (doc l h).homes
+  pub within : t.next ≤ id_end
+  pub rows : (e : ℕ) → t.rows e ≡ row_of l h (doc l h) e
+  pub homes : (e : ℕ) → t.homes e ≡ home_of (doc l h) e
+  pub known : (e : ℕ) → is_assigned (doc l h).live e ≡ true → IsKnown l (doc l h).homes e
+  pub in_order : (e : ℕ) → InOrder (completed_in h e)
+  pub holders : (who : ℕ) → t.holders who ≡ held h who
+  -- what is held is the first unfinished part of its execution
+  pub held_next : (who : ℕ) (p : Part) → held h who ≡ Some p
+      → next_of l h (doc l h) p.exec ≡ Some p.kind
+  pub tasks : (e : ℕ) → HasTask l h (doc l h) e (t.tasks e)
+  pub ended : t.ended ≡ has_ended h
+  -- a finished evaluation whose command forks is followed by its fork's task, in room that is there
+  pub room : t.holding ≤ t.room

@@ -1,0 +1,15 @@
+pub mod Looked
+pub mod States
+pub mod Progress
+pub mod Brought
+pub mod Tasks
+pub mod Kept
+pub mod Inputs
+pub mod Answers
+pub mod Plans
+pub mod Fresh
+pub mod Claims
+pub mod Removal
+pub mod Results
+pub mod Settling
+pub mod Planned

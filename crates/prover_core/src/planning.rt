@@ -1,0 +1,144 @@
+//! Planning an update.
+ghost use Rattle.std.specs.Prelude.{◌≡◌, ◌≤◌, ◌<◌, false, Err, IfOk};
+ghost use Rattle.pide_base.specs.Ids.{id_end};
+ghost use Rattle.exec_assign.specs.declared.fault.AssignFault.TheVariants.{Limit};
+ghost use Rattle.exec_assign.specs.Untouched.{AreChanged};
+ghost use Rattle.core_rules.specs.Standing.{has_ended};
+ghost use Rattle.core_rules.specs.Doc.{doc, assignment_of};
+ghost use Rattle.core_rules.specs.Updates.{FitsUpdate};
+ghost use Rattle.update_plans.specs.Alive.{HaveCommands};
+ghost use Rattle.prover_core.specs.Plans.{IsPlanOf, HasRoom};
+ghost use Rattle.prover_core.specs.Planned.{plan_of};
+
+use crate::plan::Plan;
+use crate::prover::Core;
+use crate::spare::make_room;
+use core_rules::{Event, cancelled_law, homes_law, places_law};
+use doc_nodes::Nodes;
+use doc_versions::Version as SharedVersion;
+use exec_assign::{AssignFault, ChangedBlobs, new_numbers_law};
+use exec_rules::{Blobs, numbers_law};
+use language::Language;
+use pide_base::VersionId;
+use std::alloc::{AllocError, Global};
+use update_plans::{Steps, work_out};
+
+/// Why an update can't be planned: the number of a new execution would be no id, or there is not
+/// enough memory.
+pub type PlanFault = AssignFault;
+
+impl<L: Language> Core<L> {
+    /// Works an update out, and makes all room for it: nothing but spare room changes. The names of
+    /// the blobs that changed are told, and by marks, in the order of names, which nodes have the
+    /// commands that they had. `Limit` comes exactly where a new execution would have no id.
+    pub fn plan(
+        &mut self,
+        alloc: Global,
+        id: VersionId,
+        nodes: &Nodes,
+        blobs: &Blobs,
+        changed: &ChangedBlobs,
+        marks: &[bool],
+    ) -> Result<Plan, PlanFault>
+        requires going { has_ended self.old.past ≡ false }
+        requires fits { (assignment_of (doc L.lang self.old.past) nodes.now blobs.now).next ≤ id_end
+            → FitsUpdate (doc L.lang self.old.past) id nodes.now blobs.now }
+        requires changed { AreChanged changed.now (doc L.lang self.old.past).tip.blobs blobs.now }
+        requires commands { HaveCommands (doc L.lang self.old.past).tip nodes.now marks.now }
+        ensures past { self.new.past ≡ self.old.past }
+        ensures version { IfOk result (λ plan. plan.version ≡ id) }
+        ensures nodes { IfOk result (λ plan. plan.nodes ≡ nodes.now) }
+        ensures blobs { IfOk result (λ plan. plan.blobs ≡ blobs.now) }
+        ensures ok { IfOk result (λ plan. IsPlanOf L.lang self.new.past plan) }
+        ensures room { IfOk result (λ plan. HasRoom self.new.room plan) }
+        ensures limit { result ≡ Err Limit
+            → id_end < (assignment_of (doc L.lang self.old.past) nodes.now blobs.now).next }
+    {
+        let steps = self.steps(alloc, id, nodes, blobs, changed, marks)?;
+        make_room(
+            &mut self.versions,
+            &mut self.behind,
+            &mut self.execs,
+            &mut self.known,
+            &mut self.queue,
+            self.holders.len(),
+            &steps.fresh,
+        )?;
+        let plan = planned(alloc, id, steps)?;
+        Ok(plan)
+    }
+
+    /// What the update will do.
+    fn steps(
+        &self,
+        alloc: Global,
+        id: VersionId,
+        nodes: &Nodes,
+        blobs: &Blobs,
+        changed: &ChangedBlobs,
+        marks: &[bool],
+    ) -> Result<Steps, PlanFault>
+        requires going { has_ended self.now.past ≡ false }
+        requires fits { (assignment_of (doc L.lang self.now.past) nodes.now blobs.now).next ≤ id_end
+            → FitsUpdate (doc L.lang self.now.past) id nodes.now blobs.now }
+        requires changed { AreChanged changed.now (doc L.lang self.now.past).tip.blobs blobs.now }
+        requires commands { HaveCommands (doc L.lang self.now.past).tip nodes.now marks.now }
+        ensures nodes { IfOk result (λ steps. steps.version.nodes ≡ nodes.now) }
+        ensures blobs { IfOk result (λ steps. steps.version.blobs ≡ blobs.now) }
+        ensures ok { IfOk result (λ steps. IsPlanOf L.lang self.now.past (plan_of id steps)) }
+        ensures limit { result ≡ Err Limit
+            → id_end < (assignment_of (doc L.lang self.now.past) nodes.now blobs.now).next }
+    {
+        homes_law::<L>();
+        places_law::<L>();
+        cancelled_law::<L>();
+        exec_assign::cancelled_law();
+        new_numbers_law();
+        numbers_law();
+        let tip = self.versions.tip().get();
+        let steps = work_out(
+            alloc,
+            &self.execs,
+            self.next,
+            tip,
+            nodes,
+            blobs,
+            changed,
+            marks,
+        )?;
+        Ok(steps)
+    }
+}
+
+/// The plan of these steps.
+fn planned(alloc: Global, id: VersionId, steps: Steps) -> Result<Plan, AllocError>
+    ensures { IfOk result (λ plan. plan ≡ plan_of id steps) }
+{
+    let Steps {
+        version,
+        next,
+        fresh,
+        dropped,
+        sights,
+        told,
+    } = steps;
+    let event = Event::Update {
+        version: id,
+        nodes: version.nodes.copy()?,
+        blobs: version.blobs.copy()?,
+    };
+    let version = match SharedVersion::new(alloc, version) {
+        Ok(version) => version,
+        Err(_) => return Err(AllocError),
+    };
+    Ok(Plan {
+        id,
+        version,
+        event,
+        next,
+        fresh,
+        dropped,
+        sights,
+        told,
+    })
+}

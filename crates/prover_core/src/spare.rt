@@ -1,0 +1,73 @@
+//! Room for an update.
+ghost use Rattle.std.specs.Prelude.{◌≡◌, ◌≤◌, ◌+◌, ℕ, length, flat_map, IfSome, OnOk};
+ghost use Rattle.std.specs.HashMap.{spare};
+ghost use Rattle.task_queue.specs.Tasks.{standing};
+ghost use Rattle.prover_core.specs.Looked.{looked};
+
+use crate::table::Table;
+use doc_versions::Versions;
+use exec_rules::Version;
+use exec_table::Execs;
+use std::alloc::AllocError;
+use task_queue::TaskQueue;
+use update_plans::{Fresh, Known};
+
+/// Makes room for one version more, and for these executions with their tasks, beside the forks of
+/// all that is held.
+pub(crate) fn make_room<R: Drop>(
+    versions: &mut Versions<Version>,
+    behind: &mut Table<u64>,
+    execs: &mut Execs<R>,
+    known: &mut Table<Known>,
+    queue: &mut TaskQueue,
+    held: usize,
+    fresh: &[Fresh],
+) -> Result<(), AllocError>
+    ensures start { versions.new.start ≡ versions.old.start }
+    ensures live { versions.new.live ≡ versions.old.live }
+    ensures behind { (id : ℕ) → looked behind.new id ≡ looked behind.old id }
+    ensures rows { execs.new.rows ≡ execs.old.rows }
+    ensures known { (e : ℕ) → looked known.new e ≡ looked known.old e }
+    ensures tasks { (e : ℕ) → standing queue.new e ≡ standing queue.old e }
+    ensures room { queue.old.room ≤ queue.new.room }
+    ensures versions_fit { OnOk result (1 ≤ versions.new.room) }
+    ensures behind_fits { OnOk result (1 ≤ spare behind.new) }
+    ensures executions_fit { OnOk result (length fresh.now ≤ execs.new.room) }
+    ensures known_fit { OnOk result (length fresh.now ≤ spare known.new) }
+    ensures tasks_fit { OnOk result (length fresh.now + held ≤ queue.new.room) }
+    ensures links_fit { OnOk result
+        (length (flat_map (λ one. one.task.inputs) fresh.now) ≤ queue.new.links) }
+{
+    let count = fresh.len();
+    let Some(tasks) = count.checked_add(held) else {
+        return Err(AllocError);
+    };
+    let Some(links) = links_of(fresh) else {
+        return Err(AllocError);
+    };
+    versions.reserve(1)?;
+    reserve(behind, 1)?;
+    execs.reserve(count)?;
+    reserve(known, count)?;
+    queue.reserve(tasks, links)
+}
+
+/// How many inputs their tasks have in all, if a number tells it.
+fn links_of(fresh: &[Fresh]) -> Option<usize>
+    ensures { IfSome result
+        (λ links. links ≡ length (flat_map (λ one. one.task.inputs) fresh.now)) }
+{
+    let mut links = 0usize;
+    'executions: for one in fresh {
+        links = links.checked_add(one.task.inputs.len())?;
+    }
+    Some(links)
+}
+
+/// Makes room for so many more.
+fn reserve<T: Drop>(table: &mut Table<T>, count: usize) -> Result<(), AllocError>
+    ensures things { (e : ℕ) → looked table.new e ≡ looked table.old e }
+    ensures ok { OnOk result (count ≤ spare table.new) }
+{
+    table.reserve(count)
+}

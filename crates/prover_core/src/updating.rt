@@ -1,0 +1,60 @@
+//! Updates.
+ghost use Rattle.std.specs.Prelude.{◌≡◌, ◌∷◌, false, map};
+ghost use Rattle.exec_assign.specs.Told.{told_node};
+ghost use Rattle.exec_rules.specs.Listed.{listed};
+ghost use Rattle.core_rules.specs.declared.event.Event.TheVariants as event;
+ghost use Rattle.core_rules.specs.Standing.{has_ended};
+ghost use Rattle.core_rules.specs.Doc.{doc};
+ghost use Rattle.core_rules.specs.Legal.{IsLegal};
+ghost use Rattle.prover_core.specs.Plans.{IsPlanOf, HasRoom, made_version};
+
+use crate::adding::add_all;
+use crate::changing::{drop_all, see_all};
+use crate::numbers::note;
+use crate::plan::Plan;
+use crate::prover::Core;
+use core_rules::{cancelled_law, homes_law, places_law};
+use exec_assign::{ToldNode, new_numbers_law};
+use exec_rules::numbers_law;
+use language::Language;
+use past_items::Past;
+
+impl<L: Language> Core<L> {
+    /// Makes a version as it was planned: executions that the tip had and the version hasn't, with
+    /// an unfinished part, are cancelled, and their jobs asked to stop. Answers the nodes whose rows
+    /// are others than the tip's, in the order of names. It takes no memory.
+    pub fn update(&mut self, plan: Plan) -> Vec<ToldNode>
+        requires going { has_ended self.old.past ≡ false }
+        requires planned { IsPlanOf L.lang self.old.past plan }
+        requires room { HasRoom self.old.room plan }
+        ensures past { self.new.past
+            ≡ event.Update plan.version plan.nodes plan.blobs ∷ self.old.past }
+        ensures told { map told_node result.items
+            ≡ listed (doc L.lang self.old.past).tip (made_version plan) }
+        ensures legal { IsLegal L.lang self.new.past }
+    {
+        homes_law::<L>();
+        places_law::<L>();
+        cancelled_law::<L>();
+        new_numbers_law();
+        numbers_law();
+        let Plan {
+            id,
+            version,
+            event,
+            next,
+            fresh,
+            dropped,
+            sights,
+            told,
+        } = plan;
+        drop_all(&mut self.execs, &self.known, &mut self.queue, &dropped);
+        add_all(&mut self.execs, &mut self.known, &mut self.queue, fresh);
+        see_all(&mut self.queue, &sights);
+        self.versions.push(id, version);
+        note(&mut self.behind, id, next);
+        self.next = next;
+        self.past.add(event);
+        told
+    }
+}
