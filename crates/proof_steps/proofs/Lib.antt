@@ -1,0 +1,3 @@
+mod ClosedLemmas
+mod ModeLemmas
+mod MovedLemmas

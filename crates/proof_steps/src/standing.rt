@@ -1,0 +1,95 @@
+//! Where the proof of a lemma stands after a command.
+ghost use Rattle.std.specs.Prelude.{◌≡◌, IfOk};
+ghost use Rattle.isar_rules.specs.Effects.{makes, forking};
+ghost use Rattle.isar_rules.specs.Proofs.{stands};
+ghost use Rattle.isar_rules.specs.Theories.{with_fact};
+ghost use Rattle.isar_rules.specs.declared.state.Place.TheVariants as place;
+ghost use Rattle.proof_state.specs.Answers.{is_closed};
+
+use isar_rules::{Place, Theory};
+use nj_formula::{Formula, Name};
+use proof_state::Proof;
+use report_markup::Report;
+use sqlite_items::Items;
+use std::alloc::{AllocError, Global};
+use theory_steps::{Effect, makes, with_fact};
+
+/// The lemma in whose proof a command stands: its theory, its name and what it says.
+#[derive(Drop)]
+pub struct Lemma<'a> {
+    pub theory: &'a Theory,
+    pub name: &'a Name,
+    pub goal: &'a Formula,
+}
+
+/// Whether the goal that was given at the start is closed.
+#[tactic(auto, using(crate::proofs::ClosedLemmas::closed_by))]
+fn is_closed(proof: &Proof) -> bool
+    ensures { result ≡ is_closed proof.now }
+{
+    let proves = proof.goal().is_some();
+    let states = proof.is_state();
+    !proves & !states
+}
+
+/// The theory has the lemma.
+fn proved(alloc: Global, lemma: &Lemma) -> Result<Place, AllocError>
+    ensures { IfOk result (λ p. p ≡ place.Theory
+        (with_fact lemma.now.name.now lemma.now.goal.now lemma.now.theory.now)) }
+{
+    let name = lemma.name.as_str();
+    let goal = lemma.goal.copy(alloc)?;
+    let more = with_fact(alloc, lemma.theory, name, goal)?;
+    Ok(Place::Theory(more))
+}
+
+/// The proof goes on.
+fn open(alloc: Global, lemma: &Lemma, proof: Proof) -> Result<Place, AllocError>
+    ensures { IfOk result (λ p. p ≡ place.Proof
+        lemma.now.theory.now lemma.now.name.now lemma.now.goal.now proof) }
+{
+    Ok(Place::Proof {
+        theory: lemma.theory.copy(alloc)?,
+        name: lemma.name.copy(alloc)?,
+        goal: lemma.goal.copy(alloc)?,
+        proof,
+    })
+}
+
+/// Where the proof stands: once it is closed, the theory has the lemma.
+fn stands(alloc: Global, lemma: &Lemma, proof: Proof) -> Result<Place, AllocError>
+    ensures { IfOk result (λ p. p
+        ≡ stands lemma.now.theory.now lemma.now.name.now lemma.now.goal.now proof) }
+{
+    if is_closed(&proof) {
+        proved(alloc, lemma)
+    } else {
+        open(alloc, lemma, proof)
+    }
+}
+
+/// What a command makes that left the proof so, and does not fork.
+pub(crate) fn concluded(
+    alloc: Global,
+    lemma: &Lemma,
+    after: Proof,
+    reports: Items<Report>,
+) -> Result<Effect, AllocError>
+    ensures { IfOk result (λ effect. effect ≡ makes
+        (stands lemma.now.theory.now lemma.now.name.now lemma.now.goal.now after) reports) }
+{
+    let place = stands(alloc, lemma, after)?;
+    Ok(makes(place, reports))
+}
+
+/// What a command makes that left the proof so, and forks.
+pub(crate) fn forked(alloc: Global, lemma: &Lemma, after: Proof) -> Result<Effect, AllocError>
+    ensures { IfOk result (λ effect. effect ≡ forking
+        (stands lemma.now.theory.now lemma.now.name.now lemma.now.goal.now after)) }
+{
+    Ok(Effect {
+        place: stands(alloc, lemma, after)?,
+        reports: Items::new(alloc),
+        forks: true,
+    })
+}

@@ -1,0 +1,118 @@
+//! A proof after each of its commands, or why the command is refused.
+ghost use Rattle.std.specs.Prelude.{Result};
+ghost use Rattle.proof_state.specs.Answers.{Gives, left};
+ghost use Rattle.proof_state.specs.declared.fault.ProofFault.{ProofFault};
+ghost use Rattle.proof_state.specs.declared.levels.Levels.{Levels};
+ghost use Rattle.proof_state.specs.Steps.{step, proof as opens, fix, assume, have, show};
+ghost use Rattle.proof_state.specs.Steps.{next, qed, by};
+ghost use Rattle.isar_rules.specs.Proofs.{levels_or, text_of_name};
+ghost use Rattle.command_reports.specs.Tries.{Tries};
+
+use crate::ordering::local_name;
+use crate::refusing::refused;
+use command_reports::{Halt, ascii};
+use isar_rules::Spot;
+use nj_formula::Formula;
+use proof_state::{Proof, ProofFault};
+use std::alloc::Global;
+use theory_ctx::Ctx;
+
+/// What a command left of a proof, by its answer.
+fn gone_on<T: Drop>(
+    alloc: Global,
+    answer: Result<T, ProofFault>,
+    after: Proof,
+) -> Result<Proof, Halt>
+    ensures { (stepped : Result Levels ProofFault) → Gives stepped (left answer after)
+        → Tries (levels_or stepped) result }
+{
+    match answer {
+        Ok(_) => Ok(after),
+        Err(fault) => Err(refused(alloc, fault)),
+    }
+}
+
+/// `proof`
+pub(crate) fn opened(alloc: Global, proof: &Proof, dash: bool) -> Result<Proof, Halt>
+    ensures { Tries (levels_or (step (opens dash) proof.now)) result }
+{
+    let mut after = proof.copy(alloc)?;
+    let answer = after.proof(alloc, dash);
+    gone_on(alloc, answer, after)
+}
+
+/// `by`
+pub(crate) fn closed(alloc: Global, proof: &Proof) -> Result<Proof, Halt>
+    ensures { Tries (levels_or (step by proof.now)) result }
+{
+    let mut after = proof.copy(alloc)?;
+    let answer = after.by(alloc);
+    gone_on(alloc, answer, after)
+}
+
+/// `fix`. The name has to be in ASCII.
+pub(crate) fn fixed(alloc: Global, proof: &Proof, facts: &Ctx, name: &[char]) -> Result<Proof, Halt>
+    ensures { Tries (levels_or (step (fix facts.now name.now) proof.now)) result }
+{
+    let name = ascii(alloc, name)?;
+    let mut after = proof.copy(alloc)?;
+    let answer = after.fix(alloc, name.as_str(), facts);
+    gone_on(alloc, answer, after)
+}
+
+/// `assume`. The name has to be in ASCII.
+pub(crate) fn assumed(
+    alloc: Global,
+    proof: &Proof,
+    name: &Option<Spot>,
+    formula: Formula,
+) -> Result<Proof, Halt>
+    ensures { Tries (levels_or (step (assume (text_of_name name.now) formula) proof.now)) result }
+{
+    let name = local_name(alloc, name)?;
+    let mut after = proof.copy(alloc)?;
+    let answer = after.assume(alloc, name.as_deref(), formula);
+    gone_on(alloc, answer, after)
+}
+
+/// `have`. The name has to be in ASCII.
+pub(crate) fn claimed(
+    alloc: Global,
+    proof: &Proof,
+    name: &Option<Spot>,
+    formula: Formula,
+) -> Result<Proof, Halt>
+    ensures { Tries (levels_or (step (have (text_of_name name.now) formula) proof.now)) result }
+{
+    let name = local_name(alloc, name)?;
+    let mut after = proof.copy(alloc)?;
+    let answer = after.have(alloc, name.as_deref(), formula);
+    gone_on(alloc, answer, after)
+}
+
+/// `show`
+pub(crate) fn shown(alloc: Global, proof: &Proof, formula: Formula) -> Result<Proof, Halt>
+    ensures { Tries (levels_or (step (show formula) proof.now)) result }
+{
+    let mut after = proof.copy(alloc)?;
+    let answer = after.show(alloc, formula);
+    gone_on(alloc, answer, after)
+}
+
+/// `next`
+pub(crate) fn begun_anew(alloc: Global, proof: &Proof) -> Result<Proof, Halt>
+    ensures { Tries (levels_or (step next proof.now)) result }
+{
+    let mut after = proof.copy(alloc)?;
+    let answer = after.next(alloc);
+    gone_on(alloc, answer, after)
+}
+
+/// `qed`
+pub(crate) fn finished(alloc: Global, proof: &Proof) -> Result<Proof, Halt>
+    ensures { Tries (levels_or (step qed proof.now)) result }
+{
+    let mut after = proof.copy(alloc)?;
+    let answer = after.qed(alloc);
+    gone_on(alloc, answer, after)
+}
