@@ -1,0 +1,48 @@
+//! The proper tokens of a command's source.
+ghost use Rattle.std.specs.Prelude.{◌≡◌, [], IfOk};
+ghost use Rattle.outer_tokens.specs.Headings.{proper};
+ghost use Rattle.doc_blobs.specs.Needs.{source_tokens};
+ghost use Rattle.isar_rules.specs.Steps.{aliases_at};
+
+use doc_nodes::Aliases;
+use isar_rules::Place;
+use outer_tokens::{Token, is_proper, lex_under, one_list};
+use std::alloc::{AllocError, Global};
+
+/// The aliases in force at the place: none at the beginning of a node.
+pub(crate) fn aliases_at<'a>(place: &Place, aliases: &'a Aliases, none: &'a Aliases) -> &'a Aliases
+    ensures { none.now ≡ [] → result.now ≡ aliases_at place.now aliases.now }
+{
+    match place {
+        Place::Start { .. } => none,
+        _ => aliases,
+    }
+}
+
+/// The proper ones of the tokens.
+fn proper_ones(alloc: Global, tokens: &[Token]) -> Result<Vec<Token>, AllocError>
+    ensures { IfOk result (λ some. some.items ≡ proper tokens.now) }
+{
+    let mut some = Vec::new(alloc);
+    let mut rest = tokens;
+    'tokens: while let [token, more @ ..] = rest {
+        if is_proper(token.kind) {
+            some.push(*token)?;
+        }
+        rest = more;
+    }
+    Ok(some)
+}
+
+/// The proper tokens of the source under the aliases.
+pub(crate) fn source_tokens(
+    alloc: Global,
+    source: &[char],
+    aliases: &Aliases,
+) -> Result<Vec<Token>, AllocError>
+    ensures { IfOk result (λ tokens. tokens.items ≡ source_tokens aliases.now source.now) }
+{
+    one_list();
+    let tokens = lex_under(alloc, source, aliases.names())?;
+    proper_ones(alloc, &tokens)
+}
