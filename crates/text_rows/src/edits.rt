@@ -1,161 +1,139 @@
-//! Edits of texts, and where places are after them (`text_edits`).
-use pide_base::Range;
+//! Edits of texts (`text_edits`).
+use crate::values::Sketch::{Insert, Remove};
+use crate::values::{Sketch, agreed, edit_of, fault_told, sees, text_of};
 use std::alloc::{AllocError, Global};
 use std::test::Fail;
-use text_edits::{
-    Edit, EditFault, Text, a_kept_scalar_is_moved, apply, changed, convert, convert_list,
-    convert_range, convert_range_list, one_result, places_stay_in_order, places_stay_within,
-    revert, revert_list, revert_undoes_convert,
-};
+use text_edits::{Edit, EditFault, Text, apply, changed};
 
-/// An edit as a row writes it: the place, and the text there.
-#[derive(Clone, Copy, Debug)]
-enum Sketch {
-    Insert(usize, &'static str),
-    Remove(usize, &'static str),
-}
+/// What is shown, a text, an edit of it, and the text then behind a colon; where the edit can't be
+/// made, the fault and the text that stays.
+struct Row(&'static str, &'static str, Sketch, &'static str);
 
-impl Sketch {
-    fn edit(self, alloc: Global) -> Result<Edit, AllocError> {
-        Ok(match self {
-            Sketch::Insert(start, text) => Edit::Insert {
-                start,
-                text: Text::from_str(alloc, text)?,
-            },
-            Sketch::Remove(start, text) => Edit::Remove {
-                start,
-                text: Text::from_str(alloc, text)?,
-            },
-        })
-    }
-}
-
-/// A text, an edit of it, what the text is then, and the answer.
-#[derive(Clone, Copy)]
-struct Row {
-    before: &'static str,
-    edit: Sketch,
-    after: &'static str,
-    answer: Result<(), EditFault>,
-}
-
+/// Edits, and what they make.
 const ROWS: &[Row] = &[
-    // At its end a text takes an insert, and past it none.
-    Row {
-        before: "abc",
-        edit: Sketch::Insert(3, "c"),
-        after: "abcc",
-        answer: Ok(()),
-    },
-    Row {
-        before: "ab",
-        edit: Sketch::Insert(3, "c"),
-        after: "ab",
-        answer: Err(EditFault::OutOfRange { start: 3, len: 2 }),
-    },
-    // Places count scalars.
-    Row {
-        before: "aé",
-        edit: Sketch::Insert(1, "βγ"),
-        after: "aβγé",
-        answer: Ok(()),
-    },
-    // A remove takes out what stands there, and tells the first place that differs.
-    Row {
-        before: "abc",
-        edit: Sketch::Remove(1, "bc"),
-        after: "a",
-        answer: Ok(()),
-    },
-    Row {
-        before: "abc",
-        edit: Sketch::Remove(1, "bd"),
-        after: "abc",
-        answer: Err(EditFault::Differs { at: 2 }),
-    },
-    Row {
-        before: "ab",
-        edit: Sketch::Remove(3, "x"),
-        after: "ab",
-        answer: Err(EditFault::OutOfRange { start: 3, len: 2 }),
-    },
+    Row("an insert at the end", "abc", Insert(3, "c"), ": abcc"),
+    Row(
+        "an insert past the end",
+        "ab",
+        Insert(3, "c"),
+        "3 is out of 2: ab",
+    ),
+    Row("places count scalars", "aé", Insert(1, "βγ"), ": aβγé"),
+    Row(
+        "a remove takes out what stands there",
+        "abc",
+        Remove(1, "bc"),
+        ": a",
+    ),
+    Row(
+        "a remove tells the first place that differs",
+        "abc",
+        Remove(1, "bd"),
+        "2 differs: abc",
+    ),
+    Row(
+        "a remove past the end",
+        "ab",
+        Remove(3, "x"),
+        "3 is out of 2: ab",
+    ),
 ];
 
-/// Whether the row's edit, and a copy of it, answer so and leave that text.
-fn holds(alloc: Global, row: Row) -> Result<bool, AllocError> {
-    let edit = row.edit.edit(alloc)?;
-    let copy = edit.copy(alloc)?;
-    Ok(edits_so(alloc, row, &edit)? && edits_so(alloc, row, &copy)?)
-}
-
-fn edits_so(alloc: Global, row: Row, edit: &Edit) -> Result<bool, AllocError> {
-    let mut text = Text::from_str(alloc, row.before)?;
-    let answer = apply(&mut text, edit);
-    let after = Text::from_str(alloc, row.after)?;
-    let beside = match changed(alloc, &Text::from_str(alloc, row.before)?, edit) {
-        Ok(made) => row.answer == Ok(()) && made.as_slice() == after.as_slice(),
-        Err(fault) => row.answer == Err(fault),
+/// The text after an edit, or the fault and the text.
+fn told(alloc: Global, answer: Result<(), EditFault>, text: &Text) -> Result<String, AllocError> {
+    let mut out = match answer {
+        Ok(()) => String::new(alloc),
+        Err(fault) => fault_told(alloc, fault)?,
     };
-    Ok(answer == row.answer && text.as_slice() == after.as_slice() && beside)
+    out.push_str(": ")?;
+    out.push_str(text_of(alloc, text.as_slice())?.as_str())?;
+    Ok(out)
 }
 
-#[test]
-fn edits_of_a_text(rt: HostRuntime) -> Result<(), Fail> {
-    for row in ROWS {
-        assert!(rt; holds(rt.alloc(), *row)?, "{} {:?}", row.before, row.edit);
+/// What the edit makes of the text.
+fn applied(alloc: Global, before: &str, edit: &Edit) -> Result<String, AllocError> {
+    let mut text = Text::from_str(alloc, before)?;
+    let answer = apply(&mut text, edit);
+    told(alloc, answer, &text)
+}
+
+/// What the edit makes beside the text.
+fn made_beside(alloc: Global, before: &str, edit: &Edit) -> Result<String, AllocError> {
+    let text = Text::from_str(alloc, before)?;
+    match changed(alloc, &text, edit) {
+        Ok(made) => told(alloc, Ok(()), &made),
+        Err(fault) => told(alloc, Err(fault), &text),
     }
-    one_result();
-    Ok(())
+}
+
+/// What the edit makes in the text and beside it.
+fn made(alloc: Global, before: &str, edit: &Edit) -> Result<String, AllocError> {
+    let one = applied(alloc, before, edit)?;
+    let other = made_beside(alloc, before, edit)?;
+    agreed(alloc, one.as_str(), other.as_str())
+}
+
+/// What a copy of the edit makes in the text and beside it.
+fn copy_made(alloc: Global, before: &str, edit: &Edit) -> Result<String, AllocError> {
+    let copy = edit.copy(alloc)?;
+    made(alloc, before, &copy)
+}
+
+/// What the edit and a copy of it make.
+fn both_made(alloc: Global, before: &str, sketch: &Sketch) -> Result<String, AllocError> {
+    let edit = edit_of(alloc, sketch)?;
+    let one = made(alloc, before, &edit)?;
+    let other = copy_made(alloc, before, &edit)?;
+    agreed(alloc, one.as_str(), other.as_str())
 }
 
 #[test]
-fn a_text_is_copied_and_told_empty(rt: HostRuntime) -> Result<(), Fail> {
-    let text = Text::from_str(rt.alloc(), "aβ")?;
-    let copy = text.copy(rt.alloc())?;
-    assert_eq!(rt; copy.as_slice(), ['a', 'β'].as_slice());
-    assert_eq!(rt; copy.len(), 2);
-    assert!(rt; !copy.is_empty());
-    assert!(rt; Text::new(rt.alloc()).is_empty());
+fn edits_make_what_their_rows_say(rt: HostRuntime) -> Result<(), Fail> {
+    for Row(shows, before, sketch, want) in ROWS {
+        let told = both_made(rt.alloc(), before, sketch)?;
+        sees(&rt, shows, told.as_str(), want);
+    }
     Ok(())
 }
 
-#[test]
-fn places_move_with_edits(rt: HostRuntime) -> Result<(), Fail> {
-    let alloc = rt.alloc();
-    let start = 3;
-    let text = Text::from_slice(alloc, &['a', 'b'])?;
-    let inserted = Edit::Insert { start, text };
-    let text = Text::from_slice(alloc, &['a', 'b'])?;
-    let removed = Edit::Remove { start, text };
-    assert_eq!(rt; convert(&inserted, 2), 2);
-    assert_eq!(rt; convert(&inserted, 3), 5);
-    assert_eq!(rt; revert(&inserted, 5), 3);
-    assert_eq!(rt; convert(&removed, 4), 3);
-    assert_eq!(rt; convert(&removed, 6), 4);
-    let range = convert_range(&removed, Range { start: 2, stop: 6 });
-    assert_eq!(rt; range, Range { start: 2, stop: 4 });
-    Ok(())
+/// What is shown, a text, or none for a new one, and what is told of its copy.
+struct Copied(&'static str, Option<&'static str>, &'static str);
+
+/// Copies of texts.
+const COPIES: &[Copied] = &[
+    Copied("two scalars", Some("aβ"), "2 false aβ"),
+    Copied("of no scalars", Some(""), "0 true "),
+    Copied("a new one", None, "0 true "),
+];
+
+/// How many scalars the text has, whether it is empty, and the scalars.
+fn text_told(alloc: Global, text: &Text) -> Result<String, AllocError> {
+    let len = text.len();
+    let empty = text.is_empty();
+    let scalars = text_of(alloc, text.as_slice())?;
+    format!(in alloc; "{len} {empty} {scalars}")
+}
+
+/// The text, or a new one.
+fn text_or_new(alloc: Global, text: Option<&str>) -> Result<Text, AllocError> {
+    match text {
+        Some(text) => Text::from_str(alloc, text),
+        None => Ok(Text::new(alloc)),
+    }
+}
+
+/// A copy of the text, or of a new one.
+fn copy_told(alloc: Global, text: Option<&str>) -> Result<String, AllocError> {
+    let text = text_or_new(alloc, text)?;
+    let copy = text.copy(alloc)?;
+    text_told(alloc, &copy)
 }
 
 #[test]
-fn places_move_through_a_list(rt: HostRuntime) -> Result<(), Fail> {
-    let alloc = rt.alloc();
-    let text = Text::from_slice(alloc, &['a', 'b'])?;
-    let inserted = Edit::Insert { start: 0, text };
-    let text = Text::from_slice(alloc, &['c'])?;
-    let removed = Edit::Remove { start: 4, text };
-    let edits = [inserted, removed];
-    assert_eq!(rt; convert_list(&edits, 3), 4);
-    assert_eq!(rt; revert_list(&edits, 4), 3);
-    let range = convert_range_list(&edits, Range { start: 0, stop: 3 });
-    assert_eq!(rt; range, Range { start: 2, stop: 4 });
+fn texts_are_copied_and_told_empty(rt: HostRuntime) -> Result<(), Fail> {
+    for Copied(shows, text, want) in COPIES {
+        let told = copy_told(rt.alloc(), *text)?;
+        sees(&rt, shows, told.as_str(), want);
+    }
     Ok(())
-}
-
-#[test]
-fn laws_of_places_are_called() {
-    a_kept_scalar_is_moved();
-    revert_undoes_convert();
-    places_stay_in_order();
-    places_stay_within();
 }

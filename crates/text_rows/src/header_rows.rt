@@ -1,92 +1,122 @@
-use doc_headers::{header, header_stop, one_header};
-use sqlite_items::Items;
-use std::alloc::Global;
+//! Headers of texts (`doc_headers`).
+use crate::values::{number_told, scalars_of, sees, text_of};
+use doc_headers::{Header, header, header_stop, one_header};
+use std::alloc::{AllocError, Global};
 use std::test::Fail;
 
-/// The scalars as text.
-fn shown(alloc: Global, scalars: &Items<char>) -> Result<String, Fail> {
-    Ok(scalars.as_slice().iter().copied().collect(alloc)?)
+/// What is shown, a text, and what is told of it: the header or `none`, and where it ends.
+struct Row(&'static str, &'static str, &'static str);
+
+/// Texts with a header, and then those without.
+const ROWS: &[Row] = &[
+    Row("a name", "theory A begin end", "A; 14"),
+    Row("an import", "theory B imports A begin claim l", "B <A; 24"),
+    Row(
+        "comments before and in a header",
+        "(*x*) theory (*y*) C imports A (*z*) B begin",
+        "C <A <B; 44",
+    ),
+    Row(
+        "a comment before an import",
+        "(*x*) theory A imports B begin",
+        "A <B; 30",
+    ),
+    Row(
+        "a keyword",
+        "theory A keywords claim = \"lemma\" begin end",
+        "A claim=lemma; 39",
+    ),
+    Row(
+        "imports, and keywords with escapes and with nothing",
+        "theory A imports B C keywords a=\"\\108emma\" b=\"\" begin",
+        "A <B <C a=lemma b=; 53",
+    ),
+    Row(
+        "an import twice, of the theory itself",
+        "theory A imports A A begin",
+        "A <A <A; 26",
+    ),
+    Row("an open string behind it", "theory A begin \"", "A; 14"),
+    Row("the end of the text behind it", "theory A begin", "A; 14"),
+    Row("no begin", "theory A", "none; none"),
+    Row(
+        "no begin behind an import",
+        "theory A imports B",
+        "none; none",
+    ),
+    Row("imports of nothing", "theory A imports begin", "none; none"),
+    Row(
+        "keywords of nothing",
+        "theory A keywords begin",
+        "none; none",
+    ),
+    Row(
+        "a keyword that is no string",
+        "theory A keywords a = b begin",
+        "none; none",
+    ),
+    Row(
+        "a keyword without an equality sign",
+        "theory A keywords a \"lemma\" begin",
+        "none; none",
+    ),
+    Row(
+        "a keyword that is a cartouche",
+        "theory A keywords a = \\<open>lemma\\<close> begin",
+        "none; none",
+    ),
+    Row(
+        "keywords before imports",
+        "theory A keywords a = \"b\" imports B begin",
+        "none; none",
+    ),
+    Row("a long name", "theory A.B begin", "none; none"),
+    Row("a command as a name", "theory end begin", "none; none"),
+    Row("a word before it", "x theory A begin", "none; none"),
+    Row("an open string before it", "\"theory A begin", "none; none"),
+    Row("begin as a string", "theory A \"begin\"", "none; none"),
+    Row("no text", "", "none; none"),
+];
+
+/// Writes a mark and the scalars.
+fn put(alloc: Global, line: &mut String, mark: &str, scalars: &[char]) -> Result<(), AllocError> {
+    line.push_str(mark)?;
+    line.push_str(text_of(alloc, scalars)?.as_str())
 }
 
-/// The header of the text on one line, or `none`.
-fn told(alloc: Global, text: &str) -> Result<String, Fail> {
-    let scalars: Vec<char> = text.chars().collect(alloc)?;
-    let Some(found) = header(alloc, &scalars)? else {
-        return Ok(String::from_str(alloc, "none")?);
-    };
-    let mut line = shown(alloc, &found.name)?;
+/// The header on one line.
+fn line(alloc: Global, found: &Header) -> Result<String, AllocError> {
+    let mut line = text_of(alloc, found.name.as_slice())?;
     for import in found.imports.as_slice() {
-        line.push_str(" <")?;
-        line.push_str(shown(alloc, import)?.as_str())?;
+        put(alloc, &mut line, " <", import.as_slice())?;
     }
     for pair in found.keywords.as_slice() {
-        line.push_str(" ")?;
-        line.push_str(shown(alloc, &pair.name)?.as_str())?;
-        line.push_str("=")?;
-        line.push_str(shown(alloc, &pair.target)?.as_str())?;
+        put(alloc, &mut line, " ", pair.name.as_slice())?;
+        put(alloc, &mut line, "=", pair.target.as_slice())?;
     }
     Ok(line)
 }
 
-#[test]
-fn tells_headers(rt: HostRuntime) -> Result<(), Fail> {
-    let rows = [
-        ("theory A begin end", "A"),
-        ("theory B imports A begin claim l", "B <A"),
-        ("(*x*) theory (*y*) C imports A (*z*) B begin", "C <A <B"),
-        (
-            "theory A keywords claim = \"lemma\" begin end",
-            "A claim=lemma",
-        ),
-        (
-            "theory A imports B C keywords a=\"\\108emma\" b=\"\" begin",
-            "A <B <C a=lemma b=",
-        ),
-        ("theory A imports A A begin", "A <A <A"),
-        ("theory A begin \"", "A"),
-    ];
-    for (text, want) in rows {
-        assert_eq!(rt; told(rt.alloc(), text)?.as_str(), want, "of {text}");
+/// The header on one line, or `none`.
+fn header_told(alloc: Global, text: &[char]) -> Result<String, AllocError> {
+    match header(alloc, text)? {
+        Some(found) => line(alloc, &found),
+        None => String::from_str(alloc, "none"),
     }
-    Ok(())
+}
+
+/// The header, and where it ends.
+fn told(alloc: Global, text: &str) -> Result<String, AllocError> {
+    let scalars = scalars_of(alloc, text)?;
+    let header = header_told(alloc, &scalars)?;
+    let stop = number_told(alloc, header_stop(&scalars))?;
+    format!(in alloc; "{header}; {stop}")
 }
 
 #[test]
-fn finds_no_header(rt: HostRuntime) -> Result<(), Fail> {
-    let rows = [
-        "theory A",
-        "theory A imports B",
-        "theory A imports begin",
-        "theory A keywords begin",
-        "theory A keywords a = b begin",
-        "theory A keywords a \"lemma\" begin",
-        "theory A keywords a = \\<open>lemma\\<close> begin",
-        "theory A keywords a = \"b\" imports B begin",
-        "theory A.B begin",
-        "theory end begin",
-        "x theory A begin",
-        "\"theory A begin",
-        "",
-    ];
-    for text in rows {
-        assert_eq!(rt; told(rt.alloc(), text)?.as_str(), "none", "of {text}");
-    }
-    Ok(())
-}
-
-#[test]
-fn tells_where_headers_end(rt: HostRuntime) -> Result<(), Fail> {
-    let rows = [
-        ("theory A begin end", Some(14)),
-        ("(*x*) theory A imports B begin", Some(30)),
-        ("theory A begin", Some(14)),
-        ("theory A \"begin\"", None),
-        ("theory A", None),
-        ("", None),
-    ];
-    for (text, want) in rows {
-        let scalars: Vec<char> = text.chars().collect(rt.alloc())?;
-        assert_eq!(rt; header_stop(&scalars), want, "of {text}");
+fn texts_have_the_headers_that_their_rows_say(rt: HostRuntime) -> Result<(), Fail> {
+    for Row(shows, text, want) in ROWS {
+        sees(&rt, shows, told(rt.alloc(), text)?.as_str(), want);
     }
     Ok(())
 }

@@ -1,232 +1,209 @@
-use outer_tokens::{
-    Kind, Stage, Token, after_token, content, given, is_proper, lex, lex_under, next_token,
-    one_list, renamed, scalars, symbol_law,
+//! Tokens of texts (`outer_tokens`).
+use crate::token_calls::Call::{
+    Between, Commands, Content, Cut, Given, Next, Piece, PieceCommands, Proper, Renamed, Stages,
 };
-use pide_base::Range;
-use sqlite_items::Items;
-use std::alloc::Global;
+use crate::token_calls::{Call, told};
+use crate::values::sees;
+use outer_tokens::{Kind, Stage, one_list, symbol_law};
 use std::test::Fail;
 
-/// The scalars of a text given as a `&str`.
-fn scalars_of(alloc: Global, text: &str) -> Result<Vec<char>, Fail> {
-    Ok(text.chars().collect(alloc)?)
-}
+/// What is shown, what is asked, and the answer.
+struct Row(&'static str, Call, &'static str);
 
-/// The kind and the stop of each of the tokens.
-fn ends_of(alloc: Global, tokens: &[Token]) -> Result<Vec<(Kind, usize)>, Fail> {
-    let mut found = Vec::new(alloc);
-    for t in tokens {
-        found.push((t.kind, t.range.stop))?;
-    }
-    Ok(found)
-}
+/// The names of commands, and other words.
+const NAMES: &str =
+    "theory end axiom lemma load proof fix assume have show next qed by imports begin keywords x";
 
-/// The starts of the command tokens.
-fn commands_of(alloc: Global, tokens: &[Token]) -> Result<Vec<usize>, Fail> {
-    let mut found = Vec::new(alloc);
-    for t in tokens {
-        if t.kind == Kind::Command {
-            found.push(t.range.start)?;
-        }
-    }
-    Ok(found)
-}
-
-/// A list of one name.
-fn one_name(alloc: Global, name: &str) -> Result<Vec<Items<char>>, Fail> {
-    let scalars = scalars_of(alloc, name)?;
-    Ok(vec![in alloc; Items::from_vec(scalars)]?)
-}
-
-#[test]
-fn cuts_a_text_by_the_table(rt: HostRuntime) -> Result<(), Fail> {
-    let rows: [(&str, &[(Kind, usize)]); 17] = [
-        (
-            "a.b (*c*)\"d\"",
-            &[
-                (Kind::LongIdent, 3),
-                (Kind::Space, 4),
-                (Kind::Comment, 9),
-                (Kind::String, 12),
-            ],
-        ),
-        ("(*(*)*)", &[(Kind::Error, 7)]),
-        ("(*(**)*)x", &[(Kind::Comment, 8), (Kind::Ident, 9)]),
-        ("(*)", &[(Kind::Error, 3)]),
-        ("\\<open>\\<open>\\<close>", &[(Kind::Error, 22)]),
-        (
-            "\\<open>\\<open>\\<close>\\<close>.",
-            &[(Kind::Cartouche, 30), (Kind::Sym, 31)],
-        ),
-        ("a.b.", &[(Kind::LongIdent, 3), (Kind::Sym, 4)]),
-        (
-            "a..b",
-            &[
-                (Kind::Ident, 1),
-                (Kind::Sym, 2),
-                (Kind::Sym, 3),
-                (Kind::Ident, 4),
-            ],
-        ),
-        (".a", &[(Kind::Sym, 1), (Kind::Ident, 2)]),
-        (
-            "\\<alpha",
-            &[(Kind::Sym, 1), (Kind::Sym, 2), (Kind::Ident, 7)],
-        ),
-        (
-            "\\<^bold>\\<close>",
-            &[(Kind::Symbol, 8), (Kind::Symbol, 16)],
-        ),
-        (
-            "\"a\\\"b\"\"\\\\\"",
-            &[(Kind::String, 6), (Kind::String, 10)],
-        ),
-        ("\"\\065\\200\"c", &[(Kind::String, 10), (Kind::Ident, 11)]),
-        ("\"a\\", &[(Kind::Error, 3)]),
-        (
-            "é=\t\r\n ",
-            &[(Kind::Sym, 1), (Kind::Sym, 2), (Kind::Space, 6)],
-        ),
-        (
-            "theory begins begin",
-            &[
-                (Kind::Command, 6),
-                (Kind::Space, 7),
-                (Kind::Ident, 13),
-                (Kind::Space, 14),
-                (Kind::Keyword, 19),
-            ],
-        ),
-        ("", &[]),
-    ];
-    for (text, want) in rows {
-        let tokens = lex(rt.alloc(), &scalars_of(rt.alloc(), text)?, &[])?;
-        let found = ends_of(rt.alloc(), &tokens)?;
-        assert_eq!(rt; found.as_slice(), want, "in {text}");
-    }
-    Ok(())
-}
-
-#[test]
-fn knows_the_command_names(rt: HostRuntime) -> Result<(), Fail> {
-    let text =
-        "theory end axiom lemma load proof fix assume have show next qed by imports begin keywords x";
-    let tokens = lex(rt.alloc(), &scalars_of(rt.alloc(), text)?, &[])?;
-    let found = commands_of(rt.alloc(), &tokens)?;
-    assert_eq!(rt;
-        found.as_slice(),
-        [0, 7, 11, 17, 23, 28, 34, 38, 45, 50, 55, 60, 64].as_slice()
-    );
-    Ok(())
-}
-
-#[test]
-fn reads_the_header_before_the_aliases(rt: HostRuntime) -> Result<(), Fail> {
-    let aliases = one_name(rt.alloc(), "claim")?;
-    let rows: [(&str, &[usize]); 9] = [
-        ("theory B imports A begin claim l by", &[0, 25, 33]),
-        (
+/// What is answered of texts and of kinds.
+const ROWS: &[Row] = &[
+    Row(
+        "a long name, a comment and a string",
+        Cut("a.b (*c*)\"d\""),
+        " LongIdent 3 Space 4 Comment 9 String 12",
+    ),
+    Row("a comment in an open one", Cut("(*(*)*)"), " Error 7"),
+    Row(
+        "a comment in a comment",
+        Cut("(*(**)*)x"),
+        " Comment 8 Ident 9",
+    ),
+    Row("an opening that is no closing", Cut("(*)"), " Error 3"),
+    Row(
+        "an open cartouche",
+        Cut("\\<open>\\<open>\\<close>"),
+        " Error 22",
+    ),
+    Row(
+        "a cartouche in a cartouche",
+        Cut("\\<open>\\<open>\\<close>\\<close>."),
+        " Cartouche 30 Sym 31",
+    ),
+    Row(
+        "a dot behind a long name",
+        Cut("a.b."),
+        " LongIdent 3 Sym 4",
+    ),
+    Row("two dots", Cut("a..b"), " Ident 1 Sym 2 Sym 3 Ident 4"),
+    Row("a dot before a name", Cut(".a"), " Sym 1 Ident 2"),
+    Row(
+        "a symbol without an end",
+        Cut("\\<alpha"),
+        " Sym 1 Sym 2 Ident 7",
+    ),
+    Row("symbols", Cut("\\<^bold>\\<close>"), " Symbol 8 Symbol 16"),
+    Row(
+        "strings with escapes",
+        Cut("\"a\\\"b\"\"\\\\\""),
+        " String 6 String 10",
+    ),
+    Row(
+        "a string with codes",
+        Cut("\"\\065\\200\"c"),
+        " String 10 Ident 11",
+    ),
+    Row("an open string", Cut("\"a\\"), " Error 3"),
+    Row(
+        "other scalars and blanks",
+        Cut("é=\t\r\n "),
+        " Sym 1 Sym 2 Space 6",
+    ),
+    Row(
+        "a command, a word and a keyword",
+        Cut("theory begins begin"),
+        " Command 6 Space 7 Ident 13 Space 14 Keyword 19",
+    ),
+    Row("no text", Cut(""), ""),
+    Row(
+        "the names of commands",
+        Commands(&[], NAMES),
+        " 0 7 11 17 23 28 34 38 45 50 55 60 64",
+    ),
+    Row(
+        "an alias behind the header",
+        Commands(&["claim"], "theory B imports A begin claim l by"),
+        " 0 25 33",
+    ),
+    Row(
+        "an alias in the header",
+        Commands(
+            &["claim"],
             "theory (*x*) claim imports claim keywords claim = \"lemma\" begin claim",
-            &[0, 64],
         ),
-        ("theory B claim", &[0]),
-        ("theory B imports begin claim", &[0]),
-        ("theory B keywords begin claim", &[0]),
-        (
+        " 0 64",
+    ),
+    Row(
+        "a header without an end",
+        Commands(&["claim"], "theory B claim"),
+        " 0",
+    ),
+    Row(
+        "imports of nothing",
+        Commands(&["claim"], "theory B imports begin claim"),
+        " 0",
+    ),
+    Row(
+        "keywords of nothing",
+        Commands(&["claim"], "theory B keywords begin claim"),
+        " 0",
+    ),
+    Row(
+        "two keywords",
+        Commands(
+            &["claim"],
             "theory B keywords a = \"x\" b = \"y\" begin claim by x",
-            &[0, 40, 46],
         ),
-        ("claim theory B begin claim", &[6]),
-        ("theory B begin end claim", &[0, 15, 19]),
-        ("theory B keywords a = \"x\" imports A begin claim", &[0]),
-    ];
-    for (text, want) in rows {
-        let tokens = lex(rt.alloc(), &scalars_of(rt.alloc(), text)?, &aliases)?;
-        let found = commands_of(rt.alloc(), &tokens)?;
-        assert_eq!(rt; found.as_slice(), want, "in {text}");
-    }
-    Ok(())
-}
-
-#[test]
-fn cuts_a_piece_under_given_names(rt: HostRuntime) -> Result<(), Fail> {
-    let names = one_name(rt.alloc(), "claim")?;
-    let tokens = lex_under(
-        rt.alloc(),
-        &scalars_of(rt.alloc(), "claim by claims")?,
-        &names,
-    )?;
-    let found = commands_of(rt.alloc(), &tokens)?;
-    assert_eq!(rt; found.as_slice(), [0, 6].as_slice());
-    Ok(())
-}
-
-#[test]
-fn gives_the_next_token(rt: HostRuntime) -> Result<(), Fail> {
-    let text = scalars_of(rt.alloc(), "by (*a*)")?;
-    let rows = [
-        (0, Some((Kind::Command, 2))),
-        (1, Some((Kind::Ident, 2))),
-        (3, Some((Kind::Comment, 8))),
-        (4, Some((Kind::Sym, 5))),
-        (8, None),
-    ];
-    for (place, want) in rows {
-        if place <= text.len() {
-            let found = next_token(&text, &[], place).map(|t| (t.kind, t.range.stop));
-            assert_eq!(rt; found, want, "at {place}");
-        }
-    }
-    Ok(())
-}
-
-#[test]
-fn reads_a_header_by_its_tokens(rt: HostRuntime) -> Result<(), Fail> {
-    let text = scalars_of(rt.alloc(), "theory A begin")?;
-    let mut stage = Stage::Start;
-    let mut stages = Vec::new(rt.alloc());
-    for t in &lex(rt.alloc(), &text, &[])? {
-        stage = after_token(&text, stage, *t);
-        stages.push(stage)?;
-    }
-    assert_eq!(rt;
-        stages.as_slice(),
-        [
-            Stage::Theory,
-            Stage::Theory,
-            Stage::Name,
-            Stage::Name,
-            Stage::Ended,
-        ]
-        .as_slice()
-    );
-    assert!(rt; is_proper(Kind::Error) && !is_proper(Kind::Comment));
-    assert_eq!(rt;
-        scalars(&text, Range { start: 7, stop: 8 }),
-        ['A'].as_slice()
-    );
-    Ok(())
-}
-
-#[test]
-fn replaces_escapes(rt: HostRuntime) -> Result<(), Fail> {
-    let rows = [
-        (Kind::String, "\"a\\\"b\\\\\"", "a\"b\\"),
-        (
-            Kind::String,
-            "\"\\108emma\\200\\128\\127\"",
-            "lemma\\200\\128\u{7f}",
+        " 0 40 46",
+    ),
+    Row(
+        "an alias before the header",
+        Commands(&["claim"], "claim theory B begin claim"),
+        " 6",
+    ),
+    Row(
+        "an alias behind the end",
+        Commands(&["claim"], "theory B begin end claim"),
+        " 0 15 19",
+    ),
+    Row(
+        "imports behind keywords",
+        Commands(
+            &["claim"],
+            "theory B keywords a = \"x\" imports A begin claim",
         ),
-        (Kind::String, "\"\\065\\06\\x\"", "A\\06\\x"),
-        (Kind::Cartouche, "\\<open>P \\<close>", "P "),
-        (Kind::Ident, "a", "a"),
-    ];
-    for (kind, token, want) in rows {
-        let found: String = content(rt.alloc(), kind, &scalars_of(rt.alloc(), token)?)?
-            .iter()
-            .copied()
-            .collect(rt.alloc())?;
-        assert_eq!(rt; found.as_str(), want, "of {token}");
+        " 0",
+    ),
+    Row(
+        "a piece under a name",
+        PieceCommands(&["claim"], "claim by claims"),
+        " 0 6",
+    ),
+    Row("a command at the front", Next("by (*a*)", 0), " Command 2"),
+    Row("a word within it", Next("by (*a*)", 1), " Ident 2"),
+    Row("a comment", Next("by (*a*)", 3), " Comment 8"),
+    Row("a scalar within it", Next("by (*a*)", 4), " Sym 5"),
+    Row("none at the end", Next("by (*a*)", 8), ""),
+    Row("behind the end", Next("by (*a*)", 9), "behind the end"),
+    Row(
+        "a header by its tokens",
+        Stages("theory A begin"),
+        " Theory Theory Name Name Ended",
+    ),
+    Row("an error is proper", Proper(Kind::Error), "proper"),
+    Row("a comment is not", Proper(Kind::Comment), "improper"),
+    Row("a name of a header", Between("theory A begin", 7, 8), "A"),
+    Row(
+        "escapes of a quote and a backslash",
+        Content(Kind::String, "\"a\\\"b\\\\\""),
+        "a\"b\\",
+    ),
+    Row(
+        "codes up to 127",
+        Content(Kind::String, "\"\\108emma\\200\\128\\127\""),
+        "lemma\\200\\128\u{7f}",
+    ),
+    Row(
+        "a code of three digits",
+        Content(Kind::String, "\"\\065\\06\\x\""),
+        "A\\06\\x",
+    ),
+    Row(
+        "in a cartouche",
+        Content(Kind::Cartouche, "\\<open>P \\<close>"),
+        "P ",
+    ),
+    Row("a word is its content", Content(Kind::Ident, "a"), "a"),
+    Row(
+        "a word under no names",
+        Piece(&[], "claim lemma \"claim\""),
+        " Ident 5 Space 6 Command 11 Space 12 String 19",
+    ),
+    Row(
+        "a word under its name",
+        Piece(&["claim"], "claim lemma \"claim\""),
+        " Command 5 Space 6 Command 11 Space 12 String 19",
+    ),
+    Row(
+        "a name comes",
+        Renamed(&[], &["claim"], "claim lemma \"claim\""),
+        " Command 5 Space 6 Command 11 Space 12 String 19",
+    ),
+    Row(
+        "a name goes",
+        Renamed(&["claim"], &[], "claim lemma \"claim\""),
+        " Ident 5 Space 6 Command 11 Space 12 String 19",
+    ),
+    Row(
+        "aliases are given behind the header",
+        Given(Stage::Ended, &["claim"]),
+        "1",
+    ),
+    Row("and not in it", Given(Stage::Name, &["claim"]), "0"),
+];
+
+#[test]
+fn texts_have_the_tokens_that_their_rows_say(rt: HostRuntime) -> Result<(), Fail> {
+    for Row(shows, call, want) in ROWS {
+        sees(&rt, shows, told(rt.alloc(), call)?.as_str(), want);
     }
     Ok(())
 }
@@ -235,21 +212,4 @@ fn replaces_escapes(rt: HostRuntime) -> Result<(), Fail> {
 fn laws_of_tokens_are_called() {
     one_list();
     symbol_law();
-}
-
-#[test]
-fn a_word_goes_by_the_names(rt: HostRuntime) -> Result<(), Fail> {
-    let text = scalars_of(rt.alloc(), "claim lemma \"claim\"")?;
-    let names = one_name(rt.alloc(), "claim")?;
-    let plain = lex_under(rt.alloc(), &text, &[])?;
-    let under = lex_under(rt.alloc(), &text, &names)?;
-    assert_eq!(rt; plain.first().map(|t| t.kind), Some(Kind::Ident));
-    assert_eq!(rt; under.first().map(|t| t.kind), Some(Kind::Command));
-    for (one, other) in plain.iter().zip(&under) {
-        assert_eq!(rt; renamed(&text, &names, *one), *other);
-        assert_eq!(rt; renamed(&text, &[], *other), *one);
-    }
-    assert_eq!(rt; given(Stage::Ended, &names).len(), 1);
-    assert_eq!(rt; given(Stage::Name, &names).len(), 0);
-    Ok(())
 }
