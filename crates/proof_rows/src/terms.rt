@@ -1,14 +1,13 @@
 //! Proof terms read from tokens (`proof_terms`).
 use nj_kernel::Rule;
+use nj_kernel::Rule::{
+    AllE, AllI, ConjE1, ConjE2, ConjI, DisjE, DisjI1, DisjI2, ExE, ExI, FalseE, ImpE, ImpI, NotE,
+    NotI,
+};
 use outer_tokens::{Token, is_proper, lex_under};
 use proof_terms::{Term, TermError, read, rule_named};
 use std::alloc::{AllocError, Global};
 use std::test::Fail;
-
-/// The scalars of a text.
-pub(crate) fn scalars(alloc: Global, text: &str) -> Result<Vec<char>, AllocError> {
-    text.chars().collect(alloc)
-}
 
 /// The proper tokens of a text, no alias being in force.
 fn proper_tokens(alloc: Global, source: &[char]) -> Result<Vec<Token>, AllocError> {
@@ -21,88 +20,136 @@ fn proper_tokens(alloc: Global, source: &[char]) -> Result<Vec<Token>, AllocErro
     Ok(tokens)
 }
 
-/// The term that a text is.
-pub(crate) fn term(alloc: Global, text: &str) -> Result<Term, TermError> {
-    let source = scalars(alloc, text)?;
-    let tokens = proper_tokens(alloc, source.as_slice())?;
-    read(alloc, source.as_slice(), tokens.as_slice())
-}
-
-/// What reading a text tells: `read`, or the text of its fault.
-fn told(alloc: Global, text: &str) -> Result<String, AllocError> {
-    match term(alloc, text) {
+/// What reading tells: `read`, or the text of the fault.
+fn answer(alloc: Global, answer: &Result<Term, TermError>) -> Result<String, AllocError> {
+    match answer {
         Ok(_) => String::from_str(alloc, "read"),
         Err(TermError::Fault(fault)) => format!(in alloc; "{fault}"),
-        Err(TermError::NoMemory) => String::from_str(alloc, "no memory"),
+        Err(TermError::NoMemory) => Err(AllocError),
     }
 }
 
-/// How many of these texts are told so.
-fn count_told(alloc: Global, rows: &[(&str, &str)]) -> Result<usize, AllocError> {
-    let mut count = 0usize;
-    for (text, wanted) in rows {
-        if told(alloc, text)?.as_str() == *wanted {
-            count = count.saturating_add(1);
-        }
+/// What reading a text tells.
+fn told(alloc: Global, text: &str) -> Result<String, AllocError> {
+    let source: Vec<char> = text.chars().collect(alloc)?;
+    let tokens = proper_tokens(alloc, source.as_slice())?;
+    answer(alloc, &read(alloc, source.as_slice(), tokens.as_slice()))
+}
+
+/// What is shown, a text, and what reading it tells.
+struct Row(&'static str, &'static str, &'static str);
+
+const ROWS: &[Row] = &[
+    Row("a fact", "h", "read"),
+    Row("a fact of a theory", "T.h", "read"),
+    Row("a rule of two facts", "(conjI h T.k)", "read"),
+    Row("a formula in a string", "(conjE1 \"B\" h)", "read"),
+    Row(
+        "a formula in a cartouche",
+        "(conjE2 \\<open>A\\<close> h)",
+        "read",
+    ),
+    Row("the left of a disjunction", "(disjI1 h)", "read"),
+    Row("the right of a disjunction", "(disjI2 h)", "read"),
+    Row("two cases", "(disjE \"A\" \"B\" h x h y h)", "read"),
+    Row("an assumption of a name", "(impI x x)", "read"),
+    Row("an implication that is used", "(impE \"A\" h k)", "read"),
+    Row("a negation", "(notI x h)", "read"),
+    Row("a negation that is used", "(notE \"A\" h k)", "read"),
+    Row(
+        "a comment is passed over",
+        "(falseE (*a comment*) h)",
+        "read",
+    ),
+    Row("a generality", "(allI x h)", "read"),
+    Row(
+        "a generality that is used, at a term",
+        "(allE \"ALL x. P(x)\" \"f(c)\" h)",
+        "read",
+    ),
+    Row("an existence, by a term", "(exI \"c\" h)", "read"),
+    Row(
+        "an existence that is used",
+        "(exE \"EX y. P(y)\" x h k k)",
+        "read",
+    ),
+    Row("a rule's name alone is a fact", "conjI", "read"),
+    Row("no token", "", "malformed proof"),
+    Row("tokens behind a fact", "h k", "malformed proof"),
+    Row("a fact in parentheses", "(h)", "malformed proof"),
+    Row("a part too few", "(conjI h)", "malformed proof"),
+    Row("no closing parenthesis", "(conjI h k", "malformed proof"),
+    Row("a part too many", "(conjI h k k)", "malformed proof"),
+    Row("no rule's name", "(conjK h k)", "malformed proof"),
+    Row(
+        "a long name in place of a name",
+        "(impI T.x h)",
+        "malformed proof",
+    ),
+    Row(
+        "a string in place of a name",
+        "(impI \"x\" h)",
+        "malformed proof",
+    ),
+    Row("a formula in place of a term", "\"A\"", "malformed proof"),
+    Row(
+        "the formula behind the term",
+        "(conjE1 h \"A\")",
+        "malformed proof",
+    ),
+    Row(
+        "a keyword in place of a name",
+        "(impI lemma lemma)",
+        "malformed proof",
+    ),
+    Row(
+        "a scalar of no formula",
+        "(conjE1 \"A $\" h)",
+        "bad formula at 2",
+    ),
+    Row(
+        "a formula that ends too early, before the missing parenthesis",
+        "(conjE1 \"A -->\" h",
+        "bad formula at 5",
+    ),
+    Row(
+        "a place in the content of a string",
+        "(conjE1 \"\\065 \\066\" h)",
+        "bad formula at 2",
+    ),
+    Row(
+        "a word that is a term, and more",
+        "(exI \"ALL\" h) k",
+        "malformed proof",
+    ),
+    Row(
+        "no term, before what follows",
+        "(exI \"f(\" h) k",
+        "bad formula at 2",
+    ),
+    Row(
+        "a bad formula before a wrong rule",
+        "(conjI (conjE1 \"A B\" h) (conjK h))",
+        "bad formula at 2",
+    ),
+    Row(
+        "a wrong rule before a bad formula",
+        "(conjI (conjK h) (conjE1 \"A B\" h))",
+        "malformed proof",
+    ),
+];
+
+#[test]
+fn texts_are_read_as_their_rows_say(rt: HostRuntime) -> Result<(), Fail> {
+    for Row(shows, text, want) in ROWS {
+        let told = told(rt.alloc(), text)?;
+        assert_eq!(rt; told.as_str(), *want, "{shows}");
     }
-    Ok(count)
-}
-
-#[test]
-fn what_is_a_term(rt: HostRuntime) -> Result<(), Fail> {
-    let rows = [
-        ("h", "read"),
-        ("T.h", "read"),
-        ("(conjI h T.k)", "read"),
-        ("(conjE1 \"B\" h)", "read"),
-        ("(conjE2 \\<open>A\\<close> h)", "read"),
-        ("(disjI1 h)", "read"),
-        ("(disjI2 h)", "read"),
-        ("(disjE \"A\" \"B\" h x h y h)", "read"),
-        ("(impI x x)", "read"),
-        ("(impE \"A\" h k)", "read"),
-        ("(notI x h)", "read"),
-        ("(notE \"A\" h k)", "read"),
-        ("(falseE (*a comment*) h)", "read"),
-        ("(allI x h)", "read"),
-        ("(allE \"ALL x. P(x)\" \"f(c)\" h)", "read"),
-        ("(exI \"c\" h)", "read"),
-        ("(exE \"EX y. P(y)\" x h k k)", "read"),
-        ("conjI", "read"),
-    ];
-    assert_eq!(rt; count_told(rt.alloc(), &rows)?, 18);
-    Ok(())
-}
-
-#[test]
-fn the_first_fault_of_a_text(rt: HostRuntime) -> Result<(), Fail> {
-    let rows = [
-        ("", "malformed proof"),
-        ("h k", "malformed proof"),
-        ("(h)", "malformed proof"),
-        ("(conjI h)", "malformed proof"),
-        ("(conjI h k", "malformed proof"),
-        ("(conjI h k k)", "malformed proof"),
-        ("(conjK h k)", "malformed proof"),
-        ("(impI T.x h)", "malformed proof"),
-        ("(impI \"x\" h)", "malformed proof"),
-        ("\"A\"", "malformed proof"),
-        ("(conjE1 h \"A\")", "malformed proof"),
-        ("(impI lemma lemma)", "malformed proof"),
-        ("(conjE1 \"A $\" h)", "bad formula at 2"),
-        ("(conjE1 \"A -->\" h", "bad formula at 5"),
-        ("(conjE1 \"\\065 \\066\" h)", "bad formula at 2"),
-        ("(exI \"ALL\" h) k", "malformed proof"),
-        ("(exI \"f(\" h) k", "bad formula at 2"),
-        ("(conjI (conjE1 \"A B\" h) (conjK h))", "bad formula at 2"),
-        ("(conjI (conjK h) (conjE1 \"A B\" h))", "malformed proof"),
-    ];
-    assert_eq!(rt; count_told(rt.alloc(), &rows)?, 19);
     Ok(())
 }
 
 /// A text of so many times `(falseE ` around `m`.
-pub(crate) fn nested(alloc: Global, count: usize) -> Result<String, AllocError> {
+fn nested(alloc: Global, count: usize) -> Result<String, AllocError> {
     let mut text = String::new(alloc);
     for _ in 0..count {
         text.push_str("(falseE ")?;
@@ -114,19 +161,51 @@ pub(crate) fn nested(alloc: Global, count: usize) -> Result<String, AllocError> 
     Ok(text)
 }
 
+/// How many rules are nested, and what reading them tells.
+struct Depth(usize, &'static str);
+
+const DEPTHS: &[Depth] = &[
+    Depth(0, "read"),
+    Depth(200, "read"),
+    Depth(201, "proof too deep"),
+];
+
 #[test]
-fn how_deep_rules_may_nest(rt: HostRuntime) -> Result<(), Fail> {
-    let alloc = rt.alloc();
-    assert_eq!(rt; told(alloc, nested(alloc, 200)?.as_str())?.as_str(), "read");
-    assert_eq!(rt;
-        told(alloc, nested(alloc, 201)?.as_str())?.as_str(),
-        "proof too deep"
-    );
+fn rules_are_nested_as_deep_as_their_rows_say(rt: HostRuntime) -> Result<(), Fail> {
+    for Depth(count, want) in DEPTHS {
+        let text = nested(rt.alloc(), *count)?;
+        let told = told(rt.alloc(), text.as_str())?;
+        assert_eq!(rt; told.as_str(), *want, "{count}");
+    }
     Ok(())
 }
 
+/// A name, and the rule of this name.
+struct Named(&'static str, Option<Rule>);
+
+const NAMES: &[Named] = &[
+    Named("conjI", Some(ConjI)),
+    Named("conjE1", Some(ConjE1)),
+    Named("conjE2", Some(ConjE2)),
+    Named("disjI1", Some(DisjI1)),
+    Named("disjI2", Some(DisjI2)),
+    Named("disjE", Some(DisjE)),
+    Named("impI", Some(ImpI)),
+    Named("impE", Some(ImpE)),
+    Named("notI", Some(NotI)),
+    Named("notE", Some(NotE)),
+    Named("falseE", Some(FalseE)),
+    Named("allI", Some(AllI)),
+    Named("allE", Some(AllE)),
+    Named("exI", Some(ExI)),
+    Named("exE", Some(ExE)),
+    Named("exe", None),
+    Named("", None),
+];
+
 #[test]
 fn each_rule_has_its_name(rt: HostRuntime) {
-    assert_eq!(rt; rule_named("exE"), Some(Rule::ExE));
-    assert_eq!(rt; rule_named("exe"), None);
+    for Named(name, rule) in NAMES {
+        assert_eq!(rt; rule_named(name), *rule, "{name}");
+    }
 }
