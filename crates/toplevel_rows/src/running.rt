@@ -1,0 +1,90 @@
+//! Commands of the language (`toplevel`), by its implementation of `language`.
+use doc_nodes::{Aliases, NodeAliases, Shared};
+use isar_rules::State;
+use language::{Answer, Imports, Language, Made};
+use pide_base::{NodeName, Stop};
+use report_markup::Report;
+use sqlite_items::Items;
+use std::alloc::{AllocError, Global};
+use std::test::Fail;
+use toplevel::Isar;
+
+/// Never asks to stop.
+#[derive(Drop)]
+struct Never;
+
+impl Stop for Never {
+    ghost yeses = { λ _. 0 };
+
+    fn asked(&mut self) -> bool {
+        false
+    }
+}
+
+/// What is given by a job that was not stopped.
+fn given<T: Drop>(answer: Answer<T>) -> Result<T, Fail> {
+    match answer {
+        Answer::Given(given) => Ok(given),
+        Answer::Stopped => Err("stopped")?,
+        Answer::NoMemory => Err("memory")?,
+    }
+}
+
+/// The kind of each report and its text, each behind a blank.
+fn tell(text: &mut String, reports: &[Report]) -> Result<(), AllocError> {
+    for report in reports {
+        text.push_str(" ")?;
+        text.push_str(report.kind.word())?;
+        if !report.text.as_str().is_empty() {
+            text.push_str(" ")?;
+            text.push_str(report.text.as_str())?;
+        }
+    }
+    Ok(())
+}
+
+/// The beginning of the node `A`, which has no imports and no aliases.
+pub(crate) fn started(alloc: Global) -> Result<State, Fail> {
+    let node = NodeName::new(String::from_str(alloc, "A")?)
+        .ok()
+        .ok_or("name")?;
+    let aliases = NodeAliases {
+        pairs: Shared::new(alloc, Aliases::new(alloc))
+            .ok()
+            .ok_or("memory")?,
+        bad: None,
+    };
+    let imports = Imports::Ordered(Items::new(alloc));
+    Ok(Isar.start(alloc, &node, &imports, &aliases)?)
+}
+
+/// What a command makes; a blob that it asks for has this text.
+pub(crate) fn made(
+    alloc: Global,
+    source: &[char],
+    blob: &[char],
+    before: &State,
+) -> Result<Made<State>, Fail> {
+    given(Isar.step(alloc, source, Some(blob), before, &mut Never))
+}
+
+/// All that is reported of a command: what it made, behind `/` what it forked, and behind `=>`
+/// what is printed.
+pub(crate) fn told(
+    alloc: Global,
+    source: &[char],
+    before: &State,
+    made: &Made<State>,
+) -> Result<String, Fail> {
+    let mut text = String::new(alloc);
+    tell(&mut text, made.reports.as_slice())?;
+    if made.forks {
+        let forked = given(Isar.fork(alloc, source, before, &mut Never))?;
+        text.push_str(" /")?;
+        tell(&mut text, forked.as_slice())?;
+    }
+    let printed = Isar.print(alloc, source, &made.state)?;
+    text.push_str(" =>")?;
+    tell(&mut text, printed.as_slice())?;
+    Ok(text)
+}

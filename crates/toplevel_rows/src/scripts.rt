@@ -1,0 +1,106 @@
+//! Scripts of the node `A` (`toplevel`).
+use crate::running::{made, started, told};
+use language::Made;
+use std::alloc::Global;
+use std::test::Fail;
+
+/// What is shown, commands, and what is told of the last one.
+struct Row(&'static str, &'static [&'static str], &'static str);
+
+const HEADER: &str = "theory A begin";
+
+const LEMMA: &str = "lemma l: \"P --> P\"";
+
+const BY: &str = "by (impI h h)";
+
+const ROWS: &[Row] = &[
+    Row(
+        "a theory begins",
+        &[HEADER],
+        " command theory => state theory A",
+    ),
+    Row(
+        "none of another name",
+        &["theory B begin"],
+        " error theory name differs command => state no theory",
+    ),
+    Row(
+        "an axiom",
+        &[HEADER, "axiom a: \"P\""],
+        " command def formula P => state theory A",
+    ),
+    Row(
+        "an error leaves the theory",
+        &[HEADER, "axiom a: \"P -->\""],
+        " error bad formula at 5 command => state theory A",
+    ),
+    Row(
+        "no command",
+        &[HEADER, "x y"],
+        " error malformed command => state theory A",
+    ),
+    Row(
+        "the facts of a blob",
+        &[HEADER, "load \"x\""],
+        " command loaded 1 => state theory A",
+    ),
+    Row(
+        "a lemma opens its proof",
+        &[HEADER, LEMMA],
+        " command def formula P --> P => state prove: P --> P",
+    ),
+    Row(
+        "its proof is forked",
+        &[HEADER, LEMMA, BY],
+        " command / proved ref => state theory A",
+    ),
+    Row(
+        "the theory goes on behind a proof that is wrong",
+        &[HEADER, LEMMA, "by x"],
+        " command / error unknown name x => state theory A",
+    ),
+    Row(
+        "a later proof cites the lemma",
+        &[HEADER, LEMMA, BY, "lemma m: \"P --> P\"", "by l"],
+        " command / proved ref => state theory A",
+    ),
+    Row(
+        "a structured proof",
+        &[HEADER, LEMMA, "proof"],
+        " command => state state: P --> P\nsubgoal: assume P show P",
+    ),
+    Row(
+        "a theory ends",
+        &[HEADER, "end"],
+        " command => state theory A ended",
+    ),
+    Row(
+        "nothing is allowed behind its end",
+        &[HEADER, "end", "end (*again*)"],
+        " error not allowed here command => state theory A ended",
+    ),
+];
+
+/// What is told of the last of the commands.
+fn told_of_last(alloc: Global, sources: &[&'static str]) -> Result<String, Fail> {
+    let blob: Vec<char> = "b: Q".chars().collect(alloc)?;
+    let mut state = started(alloc)?;
+    let mut last = String::new(alloc);
+    for source in sources {
+        let source: Vec<char> = source.chars().collect(alloc)?;
+        let after = made(alloc, &source, &blob, &state)?;
+        last = told(alloc, &source, &state, &after)?;
+        let Made { state: next, .. } = after;
+        state = next;
+    }
+    Ok(last)
+}
+
+#[test]
+fn scripts_tell_what_their_rows_say(rt: HostRuntime) -> Result<(), Fail> {
+    for Row(shows, sources, want) in ROWS {
+        let told = told_of_last(rt.alloc(), sources)?;
+        assert_eq!(rt; told.as_str(), *want, "{shows}");
+    }
+    Ok(())
+}
