@@ -1,22 +1,14 @@
 -- Marks that are a part of a normal body's, and a body that is one text.
-use Rattle.std.proofs.Common.{◌≡◌, ◌≢◌, ℕ, ◌<◌, ◌≤◌, ◌+◌, ◌^◌, ◌%◌, max, Bool, true, false, List, [], ◌∷◌, ◌++◌, length, Some, ◌⊎◌, inl, inr, suc, refl, sym, ap, subst, append_assoc, arith, decimal}
-use Rattle.std.specs.Bool.{◌==◌}
-use Rattle.std.specs.Prelude.{ℤ, pos, negsuc}
-use Rattle.std.specs.Fmt.{signed_decimal}
+use Rattle.std.proofs.Common.{◌≡◌, ℕ, ◌≤◌, List, [], ◌∷◌, ◌++◌, sym, ap, subst, append_assoc, arith}
 use Rattle.std.specs.List.{AllByRecursion}
-use Rattle.std.proofs.lemmas.Bool.{ne_eqb}
-use Rattle.std.proofs.lemmas.Fmt.{decimal_by_steps}
-use Rattle.std.proofs.lemmas.Int.{ints}
 use Rattle.std.proofs.lemmas.List.{append-nil}
 use Rattle.xml_tree.specs.declared.tree.Attribute.{Attribute}
 use Rattle.xml_tree.specs.declared.tree.Tree.{Tree}
 use Rattle.xml_tree.specs.declared.tree.Tree.TheVariants.{Elem, Text}
 use Rattle.xml_tree.specs.Marks.{Mark, opening, closing, words, marks, tree_marks}
-use Rattle.xml_tree.specs.Normal.{Lacks, IsPlain, IsFilled, IsAttribute, IsFit, IsApart, AreApart, IsNormal, height, tree_height, most_nested}
-use Rattle.xml_tree.proofs.KnownMarks.{tree_marks-Elem, tree_marks-Text, tree_height-Elem, tree_height-Text}
+use Rattle.xml_tree.specs.Normal.{IsFilled, IsAttribute, IsFit, IsApart, AreApart, IsNormal, height, most_nested}
+use Rattle.xml_tree.proofs.KnownMarks.{tree_marks-Elem, tree_marks-Text, tree_height-Text}
 use Rattle.text_words.proofs.KnownLists.{each-both}
-use Rattle.xml_codec.specs.Data.{IsShort, node, int_body, bool_body, string_body, pair_body, list_body, option_body, numbered_from, variant_body}
-use Rattle.xml_codec.specs.Nested.{IsNestable}
 
 -- marks that are fit, and of which no text touches what follows
 pub record IsPart (ms : List Mark) : Type 0 where

@@ -18,5 +18,5 @@ pub use laws::{
 };
 pub use leaf::{get_bool, get_int, get_string, put_bool, put_int, put_string};
 pub use node::{get_list, get_option, get_pair, put_list, put_option, put_pair};
-pub use number::is_short;
+pub use number::{is_short, number_of};
 pub use variant::{get_variant, put_variant};

@@ -6,14 +6,14 @@ ghost use Rattle.xml_codec.specs.Faults.{IsNodesFault, any_number, two, at_most_
 use crate::fault::DataFault;
 use sqlite_items::Items;
 use std::alloc::{AllocError, Global};
-use xml_tree::{Body, Tree, XmlString};
+use xml_tree::{Body, Tree, XmlName};
 
 /// An element `:` without attributes.
 fn node(alloc: Global, body: Body) -> Result<Tree, AllocError>
     ensures { IfOk result (λ tree. tree ≡ node body) }
 {
     Ok(Tree::Elem {
-        name: XmlString::from_str(alloc, ":")?,
+        name: XmlName::from_str(alloc, ":")?,
         attributes: Items::new(alloc),
         body,
     })
@@ -50,7 +50,8 @@ pub fn put_pair(alloc: Global, first: Body, second: Body) -> Result<Body, AllocE
     Ok(body)
 }
 
-/// The body of a list: a node for each item.
+/// The body of a list: a node for each item. It goes from the back, as `Items` gives up its items
+/// only there without moving the others.
 pub fn put_list(alloc: Global, items: Items<Body>) -> Result<Body, AllocError>
     ensures { IfOk result (λ body. body ≡ list_body items) }
 {
@@ -74,7 +75,8 @@ pub fn put_option(alloc: Global, item: Option<Body>) -> Result<Body, AllocError>
     Ok(body)
 }
 
-/// The bodies of the items of a list. The place of a fault is the first child that is no node.
+/// The bodies of the items of a list. The place of a fault is the first child that is no node. It
+/// goes from the back, as `Items` gives up its items only there without moving the others.
 pub fn get_list(alloc: Global, body: Body) -> Result<Items<Body>, DataFault>
     ensures value { IfOk result (λ items. body ≡ list_body items) }
     ensures place { IfErr result (IsNodesFault any_number body) }

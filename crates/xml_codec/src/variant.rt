@@ -4,11 +4,11 @@ ghost use Rattle.xml_codec.specs.Data.{numbered_from, variant_body};
 ghost use Rattle.xml_codec.specs.Faults.{IsVariantFault};
 
 use crate::fault::DataFault;
-use crate::number::index_of;
+use crate::number::number_of;
 use itoa::Buffer;
 use sqlite_items::Items;
 use std::alloc::{AllocError, Global};
-use xml_tree::{Attribute, Body, Tree, XmlString};
+use xml_tree::{Attribute, Body, Tree, XmlName, XmlString};
 
 /// The body of a variant: one element named by its number, with the values as attributes numbered
 /// from 0, around the body of its argument.
@@ -31,11 +31,11 @@ pub fn put_variant(
     Ok(body)
 }
 
-fn printed(alloc: Global, number: u64) -> Result<XmlString, AllocError>
+fn printed(alloc: Global, number: u64) -> Result<XmlName, AllocError>
     ensures { IfOk result (λ text. text ≡ decimal number) }
 {
     let mut buffer = Buffer::new();
-    XmlString::from_str(alloc, buffer.format(number))
+    XmlName::from_str(alloc, buffer.format(number))
 }
 
 /// The values as attributes with the keys `0`, `1`, ..
@@ -77,8 +77,10 @@ fn values_of(
 fn is_number(text: &str, number: u64) -> bool
     ensures { IsTrue result ↔ (text.now ≡ decimal number) }
 {
-    let mut buffer = Buffer::new();
-    buffer.format(number) == text
+    match number_of(text) {
+        Some(found) => found == number,
+        None => false,
+    }
 }
 
 /// The number, the attributes' values and the argument's body of the variant whose body this is. The
@@ -104,7 +106,7 @@ pub fn get_variant(alloc: Global, body: Body) -> Result<(u64, Items<XmlString>, 
     else {
         return Err(DataFault::at_child(alloc, 0));
     };
-    let Some(index) = index_of(name.as_str()) else {
+    let Some(index) = number_of(name.as_str()) else {
         return Err(DataFault::at_child(alloc, 0));
     };
     let Some(values) = values_of(alloc, attributes)? else {

@@ -1,3 +1,4 @@
 pub mod Bodies
 pub mod Marks
+pub mod Names
 pub mod Normal

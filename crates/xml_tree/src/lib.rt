@@ -6,8 +6,10 @@
 
 mod laws;
 mod tree;
+mod xml_name;
 mod xml_string;
 
 pub use laws::{marks_of_joined_bodies, marks_tell_the_body};
 pub use tree::{Attribute, Body, Tree};
+pub use xml_name::XmlName;
 pub use xml_string::XmlString;

@@ -1,3 +1,4 @@
+use crate::xml_name::XmlName;
 use crate::xml_string::XmlString;
 use sqlite_items::Items;
 
@@ -5,7 +6,7 @@ use sqlite_items::Items;
 #[derive(Debug, Drop)]
 pub struct Attribute {
     /// What stands before the `=`.
-    pub key: XmlString,
+    pub key: XmlName,
     /// What stands after it; it may be empty.
     pub value: XmlString,
 }
@@ -14,7 +15,7 @@ pub struct Attribute {
 #[derive(Debug, Drop)]
 pub enum Tree {
     Elem {
-        name: XmlString,
+        name: XmlName,
         attributes: Items<Attribute>,
         body: Items<Tree>,
     },

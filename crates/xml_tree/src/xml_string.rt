@@ -3,7 +3,7 @@ ghost use Rattle.std.specs.Prelude.{◌≡◌, ◌++◌, ◌↔◌, [], IsTrue, 
 use std::alloc::{AllocError, Global};
 use std::marker::Model;
 
-/// A name, a key, a value or a text: a `String` that contracts see as its bytes in UTF-8.
+/// A value or a text: a `String` that contracts see as its bytes in UTF-8.
 #[derive(Debug, Drop)]
 pub struct XmlString {
     inner: String,

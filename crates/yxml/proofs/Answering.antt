@@ -1,11 +1,11 @@
 -- A text without fault spells the body that its marks make.
-use Rattle.std.proofs.Common.{◌≡◌, ℕ, ◌+◌, ◌-◌, List, [], ◌∷◌, ◌++◌, length, Bool, true, false, ◌↔◌, Option, Some, None, Result, Ok, Err, refl, sym, subst, ap, ◌∙◌}
+use Rattle.std.proofs.Common.{◌≡◌, ℕ, ◌+◌, ◌-◌, List, [], ◌∷◌, ◌++◌, length, Bool, true, false, ◌↔◌, Option, Some, None, Ok, Err, refl, sym, subst, ap, ◌∙◌}
 use Rattle.std.specs.Bool.{if◌then◌else◌, ◌==◌}
 use Rattle.std.specs.List.{slice_split}
 use Rattle.std.proofs.lemmas.Bool.{eqb-true}
 use Rattle.xml_tree.specs.declared.tree.Tree.{Tree}
 use Rattle.xml_tree.specs.Bodies.{body_of}
-use Rattle.xml_tree.specs.Marks.{Mark, opening, closing, words, marks, open_after}
+use Rattle.xml_tree.specs.Marks.{Mark, opening, closing, words, open_after}
 use Rattle.xml_tree.proofs.KnownBuilding.{balanced-marks}
 use Rattle.xml_tree.proofs.KnownNesting.{within-closes}
 use Rattle.yxml.specs.declared.fault.YxmlFault.{YxmlFault}

@@ -3,13 +3,13 @@ ghost use Rattle.std.specs.Prelude.{◌≡◌, ◌≢◌, ◌+◌, ◌∷◌, []
 use sqlite_items::Items;
 use std::alloc::{AllocError, Global};
 use std::mem;
-use xml_tree::{Attribute, Body, Tree, XmlString};
+use xml_tree::{Attribute, Body, Tree, XmlName, XmlString};
 
 /// An element that is open: what stands before it in its parent, its name and its attributes.
 #[derive(Drop)]
 pub(crate) struct Frame {
     before: Body,
-    name: XmlString,
+    name: XmlName,
     attributes: Items<Attribute>,
 }
 
@@ -68,7 +68,7 @@ impl Builder {
     pub(crate) fn open(
         &mut self,
         alloc: Global,
-        name: XmlString,
+        name: XmlName,
         attributes: Items<Attribute>,
     ) -> Result<(), AllocError>
         ensures { OnOk result (HasRead self.old self.new (opening name attributes ∷ [])) }

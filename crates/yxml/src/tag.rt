@@ -7,12 +7,12 @@ use crate::cut::cut_at_y;
 use crate::fault::YxmlFault;
 use sqlite_items::Items;
 use std::alloc::Global;
-use xml_tree::{Attribute, XmlString};
+use xml_tree::{Attribute, XmlName, XmlString};
 
 /// The name and the attributes of an element.
 #[derive(Drop)]
 pub(crate) struct Tag {
-    pub(crate) name: XmlString,
+    pub(crate) name: XmlName,
     pub(crate) attributes: Items<Attribute>,
 }
 
@@ -26,7 +26,7 @@ pub(crate) fn read_tag(alloc: Global, text: &str, at: usize) -> Result<Tag, Yxml
 {
     match cut_at_y(text) {
         None => {
-            let name = XmlString::from_str(alloc, text)?;
+            let name = XmlName::from_str(alloc, text)?;
             let attributes = Items::new(alloc);
             Ok(Tag { name, attributes })
         }
@@ -34,7 +34,7 @@ pub(crate) fn read_tag(alloc: Global, text: &str, at: usize) -> Result<Tag, Yxml
             if name.is_empty() {
                 return Err(YxmlFault::BadTag { at });
             }
-            let name = XmlString::from_str(alloc, name)?;
+            let name = XmlName::from_str(alloc, name)?;
             let attributes = read_attributes(alloc, more, at)?;
             Ok(Tag { name, attributes })
         }
@@ -70,7 +70,7 @@ fn read_attribute(alloc: Global, text: &str, at: usize) -> Result<Attribute, Yxm
             if key.is_empty() {
                 return Err(YxmlFault::BadAttribute { at });
             }
-            let key = XmlString::from_str(alloc, key)?;
+            let key = XmlName::from_str(alloc, key)?;
             let value = XmlString::from_str(alloc, value)?;
             Ok(Attribute { key, value })
         }

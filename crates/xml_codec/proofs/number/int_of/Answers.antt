@@ -1,21 +1,27 @@
--- A text that is printed for a number is read as that number.
-use Rattle.std.proofs.Common.{◌≡◌, true, sym, ap, subst, ◌∙◌}
+-- A minus stands first in the decimals of negative numbers alone.
+use Rattle.std.proofs.Common.{◌≡◌, ◌<◌, ◌≢◌, ◌∷◌, ℕ, ℤ, Option, IfNone, Some, None, sym, ap, ◌∙◌, subst, arith, w64, decimal}
+use Rattle.std.specs.Prelude.{pos}
 use Rattle.std.specs.Fmt.{signed_decimal}
-use Rattle.xml_codec.specs.Data.{IsShort}
-use Rattle.xml_codec.proofs.Numbers.{int_read, passed_on, same_text}
+use Rattle.std.proofs.lemmas.Int.{ints}
+use mir.Val.{of_z}
+use Rattle.xml_codec.specs.Data.{IsShort, int_end}
+use Rattle.xml_codec.proofs.Numbers.{behind_minus, no_negative_zero, without_minus}
 use Rattle.xml_codec.proofs.number.int_of.Goals as goal
-use Rattle.xml_codec.proofs.number.int_of.Goals.{else-is_short-via-then-is_short+else-eq, else-is_short-via-else-is_short}
 
 pub returns-in_default-clause-none : goal.returns-in_default-clause-none
-returns-in_default-clause-none c = λ n short e. c.in_default.not-Ok n (int_read n _ _ short e c.parse.ensures.value.0)
+returns-in_default-clause-none c = λ n short e.
+    let told = c.in-Some-unsigned_of.ensures.some in
+    let at : of_z w64 (pos told.0) ≡ 0 = subst (λ z. of_z w64 z ≡ 0) told.1 c.if-number-ne0.false in
+    let zero : told.0 ≡ 0 = omega (arith, ints, told.2, at) in
+    no_negative_zero n short (sym e ∙ c.in-Some.ensures ∙ ap (λ ds. 45 ∷ ds) (told.3 ∙ ap decimal zero))
 
-pub returns-else-is_short-clause-none : goal.returns-else-is_short-clause-none
-returns-else-is_short-clause-none c = λ n short e.
-    let passed = passed_on c.in-Ok.number n _ short (int_read n _ _ short e c.parse.ensures.value.0) c.in-Ok.is in
-    elim c.else-is_short.branch [
-      | else-is_short-via-then-is_short+else-eq w ↦
-          let alike = same_text _ _ (w.format.ensures.text ∙ ap signed_decimal passed ∙ sym e) in
-          let other = w.if-eq.ensures in cc (alike, other)
-      | else-is_short-via-else-is_short w ↦
-          let told : c.is_short.result ≡ true = c.is_short.ensures.1 (subst IsShort (sym passed) short) in cc (told, w.if-is_short.false)
-    ]
+pub returns-in_default-2-clause-none : goal.returns-in_default-2-clause-none
+returns-in_default-2-clause-none c = λ n short e.
+    let told = behind_minus n c.in-Some.digits.now short (sym e ∙ c.in-Some.ensures) in
+    c.in_default.ensures.none told.0 told.1 told.2
+
+pub returns-in-None-clause-none : goal.returns-in-None-clause-none
+returns-in-None-clause-none c = go c.unsigned_of-in-None.result c.unsigned_of-in-None.ensures.none where
+  go : (r : Option ℤ) → IfNone r ((m : ℕ) → m < int_end → c.args.text.now ≢ decimal m) → IfNone r ((n : ℤ) → IsShort n → c.args.text.now ≢ signed_decimal n)
+  go (Some n) h = h
+  go None h = λ n short e. let told = without_minus n c.args.text.now short e c.in-None.ensures in h told.0 told.1 told.2
