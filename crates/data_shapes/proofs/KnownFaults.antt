@@ -1,5 +1,5 @@
 -- A part at fault is passed on.
-use Rattle.std.proofs.Common.{◌≡◌, Option, Some, None, Result, Ok, Err, sym, subst}
+use Rattle.std.proofs.Common.{◌≡◌, Option, None, Result, Ok, Err, sym, subst}
 use Rattle.std.specs.Result.{IsErrAnd}
 use Rattle.data_shapes.specs.declared.fault.ShapeFault.{ShapeFault}
 use Rattle.data_shapes.specs.declared.fault.ShapeFault.TheVariants.{WrongShape, NoMemory}

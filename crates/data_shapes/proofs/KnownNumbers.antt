@@ -1,5 +1,5 @@
 -- Numbers and the texts that write them.
-use Rattle.std.proofs.Common.{◌≡◌, ◌≢◌, ℕ, ◌<◌, ◌≤◌, ◌^◌, ◌&&◌, IfSome, IfNone, nat_lt, bytes_eq, if◌then◌else◌, List, Option, Some, None, decimal, refl, sym, ap, subst, ◌∙◌, arith}
+use Rattle.std.proofs.Common.{inl, inr, ◌≡◌, ◌≢◌, ℕ, ◌<◌, ◌≤◌, ◌^◌, ◌==◌, ◌&&◌, false, IfSome, IfNone, nat_lt, bytes_eq, if◌then◌else◌, List, Option, Some, None, decimal, refl, sym, ap, subst, ◌∙◌, arith}
 use Rattle.std.specs.Str.Parse.{digits_value}
 use Rattle.std.proofs.lemmas.Fmt.{decimal_is_IsNumeral}
 use Rattle.std.proofs.lemmas.Option.{same_Some}
@@ -9,7 +9,8 @@ use Rattle.data_shapes.specs.Numbers.{number_of}
 use Rattle.data_shapes.specs.Shapes.{index_of}
 use Rattle.data_shapes.proofs.KnownSteps.{tested, passed, none_found}
 use Rattle.data_shapes.proofs.KnownTrees.{same_bytes, bytes_same}
-use Rattle.std.proofs.lemmas.Bool.{ltb-true, lt-ltb}
+use Rattle.std.proofs.lemmas.Bool.{ltb-true, lt-ltb, false_from_ne_true}
+use Rattle.std.proofs.lemmas.Bool.Decides.{eqb_tells}
 
 -- what is found below an end is a number whose decimal the text is
 below_sound : (end number n : ℕ) (text : List ℕ)
@@ -56,3 +57,17 @@ number_great text m e small great = sym (none_found (number_of text) (λ n found
     let low : n < int_end = s.0 in
     let same = same_decimals m n small (omega (arith, low)) (sym e ∙ s.1) in
     omega (arith, low, great, same)))
+
+-- a number that is read is the one that is asked for just where the text is this one's decimal
+pub told_number : (found number : ℕ) (text : List ℕ) → found < 2 ^ 64 → number < 2 ^ 64 → text ≡ decimal found
+    → (found == number) ≡ bytes_eq text (decimal number)
+told_number found number text small low e = elim (eqb_tells found number) [
+  | inl same ↦ same.0 ∙ sym (bytes_same text (decimal number) (e ∙ ap decimal same.1))
+  | inr other ↦ other.0 ∙ sym (false_from_ne_true (bytes_eq text (decimal number))
+      (λ t. other.1 (same_decimals found number small low (sym e ∙ same_bytes text (decimal number) t))))
+]
+
+pub told_no_number : (number : ℕ) (text : List ℕ) → number < 2 ^ 64 → ((n : ℕ) → n < 2 ^ 64 → text ≢ decimal n)
+    → false ≡ bytes_eq text (decimal number)
+told_no_number number text low none =
+    sym (false_from_ne_true (bytes_eq text (decimal number)) (λ t. none number low (same_bytes text (decimal number) t)))

@@ -5,7 +5,6 @@ ghost use Rattle.data_shapes.specs.Shapes.{values_from, variant_in};
 
 use crate::fault::ShapeFault;
 use crate::number::index_of;
-use itoa::Buffer;
 use lent_bodies::{LentAttributes, LentBody, LentElement};
 use sqlite_items::Items;
 use std::alloc::{AllocError, Global};
@@ -23,8 +22,10 @@ pub struct Variant<'a> {
 fn is_number(text: &str, number: u64) -> bool
     ensures { result ≡ bytes_eq text.now (decimal number) }
 {
-    let mut buffer = Buffer::new();
-    text == buffer.format(number)
+    match xml_codec::number_of(text) {
+        Some(found) => found == number,
+        None => false,
+    }
 }
 
 /// The values of attributes that are numbered from 0 on, or None where they are not.
