@@ -1,23 +1,19 @@
--- A number's decimal is read as that number.
-use Rattle.std.proofs.Common.{◌≡◌, sym, ap, subst, ◌∙◌, decimal}
+-- The bytes of a decimal are UTF-8.
+use Rattle.std.proofs.Common.{◌≡◌, ◌≢◌, ◌<◌, ◌^◌, ℕ, List, Option, Some, None, IfSome, IfNone, sym, subst, ◌∙◌, decimal}
 use Rattle.std.specs.Str.{IsUtf8}
-use Rattle.std.proofs.lemmas.Fmt.{parse-decimal, IsAscii-decimal}
+use Rattle.std.proofs.lemmas.Fmt.{IsAscii-decimal}
 use Rattle.std.proofs.lemmas.Str.{IsUtf8-from_ascii}
-use Rattle.data_shapes.proofs.KnownTrees.{bytes_same}
+use Rattle.reply_reading.specs.Fits.{IsWide}
+use Rattle.reply_reading.specs.Found.{Finds}
 use Rattle.reply_reading.proofs.number.number_at.Goals as goal
 
-pub returns-in_default : goal.returns-in_default
-returns-in_default c = λ n wide e. c.in_default.ensures.cases.0 (subst IsUtf8 e (IsUtf8-from_ascii (decimal n) (IsAscii-decimal n wide)))
+found : (text bytes : List ℕ) → text ≡ bytes → (r : Option ℕ) → IfSome r (λ n. text ≡ decimal n) → IfSome r (λ n. n < 2 ^ 64)
+    → IfNone r ((n : ℕ) → n < 2 ^ 64 → text ≢ decimal n) → Finds decimal IsWide bytes r
+found text bytes same (Some n) some small none = (small, sym some ∙ same)
+found text bytes same None some small none = λ n wide e. none n wide (same ∙ sym e)
 
-pub returns-in_default-parse : goal.returns-in_default-parse
-returns-in_default-parse c = λ n wide e.
-    c.in_default-parse.not-Ok n (parse-decimal 64 n _ _ wide wide (c.in-Ok.ensures.cases.0 ∙ sym e) c.parse.ensures.value.0)
+pub returns-in-Ok : goal.returns-in-Ok
+returns-in-Ok c = found c.in-Ok.text.now c.args.bytes.now c.in-Ok.ensures.cases.0 c.number_of.result c.number_of.ensures.some c.number_of.ensures.small c.number_of.ensures.none
 
-pub returns-else-eq : goal.returns-else-eq
-returns-else-eq c = λ n wide e.
-    let text = c.in-Ok.ensures.cases.0 ∙ sym e in
-    let read = parse-decimal 64 n _ _ wide wide text c.parse.ensures.value.0 in
-    let was = c.in-Ok-parse.is in
-    let number : c.in-Ok-parse.number ≡ n = cc (read, was) in
-    let alike = bytes_same _ _ (c.format.ensures.text ∙ ap decimal number ∙ sym text) in
-    let other = c.if-eq.ensures in cc (alike, other)
+pub returns-in-Err : goal.returns-in-Err
+returns-in-Err c = λ n wide e. c.in-Err.ensures.cases.0 (subst IsUtf8 e (IsUtf8-from_ascii (decimal n) (IsAscii-decimal n wide)))
