@@ -2,7 +2,9 @@
 use sqlite_items::Items;
 use std::alloc::{AllocError, Global};
 use std::test::Fail;
-use xml_tree::{Attribute, Body, Tree, XmlString, marks_of_joined_bodies, marks_tell_the_body};
+use xml_tree::{
+    Attribute, Body, Tree, XmlName, XmlString, marks_of_joined_bodies, marks_tell_the_body,
+};
 
 fn string(alloc: Global, text: &str) -> Result<XmlString, AllocError> {
     XmlString::from_str(alloc, text)
@@ -11,14 +13,14 @@ fn string(alloc: Global, text: &str) -> Result<XmlString, AllocError> {
 fn greeting(alloc: Global) -> Result<Body, AllocError> {
     let mut attributes = Items::new(alloc);
     attributes.push(Attribute {
-        key: string(alloc, "k")?,
+        key: XmlName::from_str(alloc, "k")?,
         value: string(alloc, "v")?,
     })?;
     let mut inner = Items::new(alloc);
     inner.push(Tree::Text(string(alloc, "x")?))?;
     let mut body = Items::new(alloc);
     body.push(Tree::Elem {
-        name: string(alloc, "a")?,
+        name: XmlName::from_str(alloc, ":")?,
         attributes,
         body: inner,
     })?;
@@ -29,8 +31,8 @@ fn greeting(alloc: Global) -> Result<Body, AllocError> {
 fn a_tree_is_made_and_shown(rt: HostRuntime) -> Result<(), Fail> {
     let body = greeting(rt.alloc())?;
     let shown = format!(in rt.alloc(); "{body:?}")?;
-    let told = "Items { items: [Elem { name: XmlString { inner: \"a\" }, \
-        attributes: Items { items: [Attribute { key: XmlString { inner: \"k\" }, \
+    let told = "Items { items: [Elem { name: XmlName { chars: Fixed(\":\") }, \
+        attributes: Items { items: [Attribute { key: XmlName { chars: Owned(\"k\") }, \
         value: XmlString { inner: \"v\" } }] }, \
         body: Items { items: [Text(XmlString { inner: \"x\" })] } }] }";
     assert_eq!(rt; shown.as_str(), told);
