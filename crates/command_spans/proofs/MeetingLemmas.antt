@@ -4,10 +4,10 @@ use Rattle.std.specs.Prelude.{nat_le}
 use Rattle.std.specs.List.{list_any}
 use Rattle.std.proofs.lemmas.Bool.{both_ways, cases_lt, and_parts, or_left, or_right, eqb-true, eq-eqb, le-leb, leb-true}
 use Rattle.outer_tokens.specs.declared.token.Token.{Token}
-use Rattle.command_spans.specs.CutTexts.{boundaries, boundary_at}
+use Rattle.command_spans.specs.CutTexts.{Rising, boundaries, boundary_at}
 use Rattle.command_spans.specs.Reparsing.{moved, is_meeting}
 use Rattle.command_spans.specs.Keeping.{ArePassed}
-use Rattle.command_spans.proofs.PlaceLemmas.{Rising, first-boundary}
+use Rattle.command_spans.proofs.PlaceLemmas.{first-boundary}
 use Rattle.command_spans.proofs.RestartLemmas.{boundary-end}
 
 -- a boundary that passes a test is among the boundaries

@@ -1,5 +1,5 @@
 -- Tokens one after the other: their boundaries, and how many there are before a place and past it.
-use Rattle.std.proofs.Common.{◌≡◌, ℕ, zero, suc, ◌+◌, ◌<◌, ◌≤◌, Bool, true, false, cond, Some, List, [], ◌∷◌, ◌++◌, length, take, drop, sym, refl, ap, ◌∙◌, subst, arith}
+use Rattle.std.proofs.Common.{◌≡◌, ℕ, zero, suc, ◌+◌, ◌≤◌, Bool, true, false, cond, Some, List, [], ◌∷◌, ◌++◌, length, take, drop, sym, refl, ap, ◌∙◌, subst, arith}
 use Rattle.std.specs.Prelude.{All, nat_lt, nat_le, find}
 use Rattle.std.proofs.lemmas.Bool.{cond-true, cond-false, lt-ltb, le-ltb, le-leb, lt-leb}
 use Rattle.std.proofs.lemmas.List.Sums.{sum_by-cons}
@@ -11,13 +11,8 @@ use Rattle.outer_tokens.specs.Stages.{after_token, after_tokens}
 use Rattle.outer_tokens.specs.declared.stage.Stage.{Stage}
 use Rattle.outer_tokens.specs.declared.token.Token.{Token}
 use Rattle.outer_tokens.proofs.KnownLexing.{AreStaged, are-tokens}
-use Rattle.command_spans.specs.CutTexts.{boundaries, boundary_at}
+use Rattle.command_spans.specs.CutTexts.{Rising, boundaries, boundary_at}
 use Rattle.command_spans.specs.Reparsing.{before, past}
-
--- the tokens go one after the other from one place to another, and each has a scalar
-abbrev pub Rising : ℕ → ℕ → List Token → Type 0
-Rising from to [] = from ≡ to
-Rising from to (t ∷ ts) = (t.range.start ≡ from) × (t.range.start < t.range.stop) × Rising t.range.stop to ts
 
 pub rising-order : (from to : ℕ) (ts : List Token) → Rising from to ts → from ≤ to
 rising-order from to [] is = omega arith

@@ -1,19 +1,19 @@
 -- The restart, found from the left.
-use Rattle.std.proofs.Common.{◌≡◌, ◌⊎◌, ℕ, zero, suc, ◌+◌, ◌<◌, ◌≤◌, Bool, true, false, None, Some, List, [], ◌∷◌, length, get_or, drop, sym, refl, ap, ◌∙◌, inl, inr, arith, add-one}
+use Rattle.std.proofs.Common.{◌≡◌, ◌⊎◌, ℕ, zero, suc, ◌+◌, ◌<◌, ◌≤◌, Bool, true, false, None, Some, List, [], ◌∷◌, length, get_or, take, drop, ◌++◌, sym, refl, ap, ◌∙◌, inl, inr, arith, add-one}
 use Rattle.std.proofs.Math.Seq.{drop-cons}
-use Rattle.std.proofs.lemmas.List.{drop_all}
+use Rattle.std.proofs.lemmas.List.{drop_all, take-take, take-append-drop}
 use Rattle.std.specs.Prelude.{fold, if◌then◌else◌, nat_lt, slice_get, ◌&&◌}
 use Rattle.std.proofs.lemmas.Bool.{cond-true, cond-false, le-ltb, lt-ltb}
 use Rattle.outer_tokens.specs.Kinds.{is_proper}
-use Rattle.outer_tokens.specs.Stages.{after_tokens}
+use Rattle.outer_tokens.specs.Stages.{after_token, after_tokens}
 use Rattle.outer_tokens.specs.declared.kind.Kind.TheVariants as kind
 use Rattle.outer_tokens.specs.declared.stage.Stage.{Stage}
-use Rattle.outer_tokens.specs.declared.stage.Stage.TheVariants.{Ended, Absent}
+use Rattle.outer_tokens.specs.declared.stage.Stage.TheVariants.{Start, Ended, Absent}
 use Rattle.outer_tokens.specs.declared.token.Token.{Token}
 use Rattle.command_spans.specs.Spans.{Is}
-use Rattle.command_spans.specs.CutTexts.{boundary_at}
+use Rattle.command_spans.specs.CutTexts.{Rising, boundary_at}
 use Rattle.command_spans.specs.Reparsing.{is_space, is_space_below, restart}
-use Rattle.command_spans.proofs.PlaceLemmas.{Rising, first-boundary}
+use Rattle.command_spans.proofs.PlaceLemmas.{first-boundary}
 
 same-if : (b : Bool) (s : Stage) → (if b then s else s) ≡ s
 same-if true s = refl
@@ -79,6 +79,19 @@ ended-after text (t ∷ ts) = ap (λ s. after_tokens text s ts) (same-if (is_pro
 pub absent-after : (text : List ℕ) (ts : List Token) → after_tokens text Absent ts ≡ Absent
 absent-after text [] = refl
 absent-after text (t ∷ ts) = ap (λ s. after_tokens text s ts) (same-if (is_proper t.kind) Absent) ∙ absent-after text ts
+
+-- tokens one after the other
+pub after-append : (text : List ℕ) (s : Stage) (ts us : List Token) → after_tokens text s (ts ++ us) ≡ after_tokens text (after_tokens text s ts) us
+after-append text s [] us = refl
+after-append text s (t ∷ ts) us = after-append text (after_token text s t) ts us
+
+-- where the first tokens come to a stage that nothing changes, more of them come to it
+pub read-on : (text : List ℕ) (s : Stage) (ts : List Token) (read n : ℕ) → read ≤ n → s ≡ after_tokens text Start (take read ts) → ((more : List Token) → after_tokens text s more ≡ s) → after_tokens text Start (take n ts) ≡ s
+read-on text s ts read n from is over =
+    let more : List Token = drop read (take n ts) in
+    let front : take read (take n ts) ≡ take read ts = take-take read n ts from in
+    ap (after_tokens text Start) (sym (take-append-drop read (take n ts)) ∙ ap (λ (us : List Token). us ++ more) front)
+    ∙ after-append text Start (take read ts) more ∙ ap (λ (x : Stage). after_tokens text x more) (sym is) ∙ over more
 
 -- what stands at a place doesn't go by the default
 pub same-got : (ts : List Token) (k : ℕ) (d e : Token) → k < length ts → get_or ts k d ≡ get_or ts k e

@@ -1,5 +1,5 @@
 -- A text under aliases, as one value (this project's own).
-use Rattle.std.specs.Prelude.{ℕ, zero, suc, ◌++◌, List, [], ◌∷◌, map}
+use Rattle.std.specs.Prelude.{◌≡◌, ℕ, zero, suc, ◌<◌, ◌++◌, List, [], ◌∷◌, map}
 use Rattle.outer_tokens.specs.Lexing.{tokens_of}
 use Rattle.outer_tokens.specs.declared.token.Token.{Token}
 use Rattle.command_spans.specs.Cutting.{spans_in}
@@ -17,6 +17,34 @@ tokens_in cut = tokens_of cut.text cut.aliases
 -- its spans
 abbrev pub cut_spans : CutText → List Span
 cut_spans cut = spans_in cut.text cut.aliases
+
+-- what is kept beside a text: its tokens and its spans, and the aliases under which it has them
+pub record Cuts : Type 0 where
+  pub aliases : List (List ℕ)
+  pub tokens : List Token
+  pub spans : List Span
+
+-- those of a text under aliases
+abbrev pub cut : List ℕ → List (List ℕ) → Cuts
+cut text aliases = record {
+  aliases = aliases;
+  tokens = tokens_of text aliases;
+  spans = spans_in text aliases;
+}
+
+-- they are those of the text
+abbrev pub AreCutsOf : List ℕ → Cuts → Type 0
+AreCutsOf text cuts = cuts ≡ cut text cuts.aliases
+
+-- a text, under the aliases of what is kept beside it
+abbrev pub cut_text : List ℕ → Cuts → CutText
+cut_text text cuts = record { text = text; aliases = cuts.aliases }
+
+-- tokens that go one after the other from one place to another, and each has a scalar
+abbrev pub Rising : ℕ → ℕ → List Token → Type 0
+Rising from to [] = from ≡ to
+Rising from to (t ∷ ts) =
+    (t.range.start ≡ from) × (t.range.start < t.range.stop) × Rising t.range.stop to ts
 
 -- the token boundaries of a text of so many scalars: where a token begins, and its end
 abbrev pub boundaries : ℕ → List Token → List ℕ

@@ -2,10 +2,14 @@
 use Rattle.std.specs.Prelude.{◌≡◌, ◌⊎◌, ℕ, ◌-◌, ◌<◌, ◌≤◌, List, [], ◌∷◌, length, take, drop, map, IsTrue}
 use Rattle.std.specs.List.{AllWithin, AllZip}
 use Rattle.outer_tokens.specs.Words.{is_in_force}
-use Rattle.outer_tokens.specs.Stages.{after_token, given}
+use Rattle.text_edits.specs.declared.edit.Edit.{Edit}
+use Rattle.text_edits.specs.Edits.{Applies}
+use Rattle.outer_tokens.specs.Stages.{after_token, after_tokens, given}
 use Rattle.outer_tokens.specs.Renaming.{is_word, renamed}
 use Rattle.outer_tokens.specs.declared.stage.Stage.{Stage}
+use Rattle.outer_tokens.specs.declared.stage.Stage.TheVariants.{Start}
 use Rattle.outer_tokens.specs.declared.token.Token.{Token}
+use Rattle.command_spans.specs.CutTexts.{Cuts, AreCutsOf}
 use Rattle.command_spans.specs.Reparsing.{moved}
 
 -- the token, moved by the edit
@@ -46,3 +50,13 @@ restaged aliases text stage (t ∷ ts) = renamed (is_in_force (given stage alias
 abbrev pub ArePassed : ℕ → List Token → ℕ → Type 0
 ArePassed place tokens n =
     (n ≤ length tokens) × AllWithin (λ t. t.range.start < place) tokens 0 n
+
+-- a text that an edit made of one that was cut so, and had this length; how far its header had been
+-- read before each token from a number on
+pub record IsEdited (edit : Edit) (old : Cuts) (len read : ℕ) (stage : Stage)
+    (new : List ℕ) : Type 0 where
+  pub text : List ℕ
+  pub applied : Applies edit text new
+  pub are_cuts : AreCutsOf text old
+  pub len_is : len ≡ length text
+  pub read_is : (n : ℕ) → read ≤ n → after_tokens text Start (take n old.tokens) ≡ stage

@@ -43,8 +43,12 @@ abbrev pub before : ℕ → List Token → ℕ
 before place tokens = count_by (λ t. nat_lt t.range.start place) tokens
 
 -- how many old tokens there are before the restart
+abbrev pub front_in : Edit → List Token → ℕ
+front_in edit tokens = before (restart (start_of edit) tokens) tokens
+
+-- the same of a text
 abbrev pub front_of : Edit → CutText → ℕ
-front_of edit old = before (restart (start_of edit) (tokens_in old)) (tokens_in old)
+front_of edit old = front_in edit (tokens_in old)
 
 -- an old place at or past the old end, moved by the edit
 abbrev pub moved : ℕ → ℕ → ℕ → ℕ
@@ -61,11 +65,14 @@ past None tokens = 0
 past (Some place) tokens = count_by (λ t. nat_le place t.range.start) tokens
 
 -- the meeting: the first boundary of the new text that is an old one, behind the edit
-abbrev pub meeting : Edit → CutText → CutText → Option ℕ
-meeting edit old new =
-    find (is_meeting (old_end_of edit) (new_end_of edit) (boundaries (length old.text) (tokens_in old)))
+abbrev pub meeting : Edit → List ℕ → CutText → Option ℕ
+meeting edit olds new = find (is_meeting (old_end_of edit) (new_end_of edit) olds)
     (boundaries (length new.text) (tokens_in new))
 
--- how many new tokens there are after the meeting
+-- how many new tokens there are after the meeting, when the old text had this length and these tokens
+abbrev pub back_in : Edit → ℕ → List Token → CutText → ℕ
+back_in edit len tokens new = past (meeting edit (boundaries len tokens) new) (tokens_in new)
+
+-- the same of a text
 abbrev pub back_of : Edit → CutText → CutText → ℕ
-back_of edit old new = past (meeting edit old new) (tokens_in new)
+back_of edit old new = back_in edit (length old.text) (tokens_in old) new

@@ -11,7 +11,7 @@ mod span;
 mod text_spans;
 
 pub use cut::spans;
-pub use edited::{Reparsed, reparse};
+pub use edited::{Reparsed, reparse, reparse_in_place};
 pub use law::{kept_tokens, one_list};
 pub use span::{Span, SpanKind};
 pub use text_spans::Spans;

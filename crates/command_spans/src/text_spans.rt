@@ -1,4 +1,4 @@
-//! A text with its tokens and spans.
+//! The tokens and spans of a text.
 
 use crate::cut::spans_of;
 use crate::names::Names;
@@ -7,71 +7,61 @@ use outer_tokens::{Token, lex};
 use sqlite_items::Items;
 use std::alloc::{AllocError, Global};
 use std::marker::Model;
-use text_edits::Text;
 
-/// A text with its tokens and spans under the aliases that it was made with. Contracts see the text
-/// and the aliases.
+/// The tokens and the spans of a text, and the aliases under which it has them. The text itself
+/// stands beside them, in memory of its own.
 #[derive(Debug, Drop)]
 pub struct Spans {
-    text: Text,
     names: Names,
     tokens: Vec<Token>,
     spans: Vec<Span>,
 }
 
 impl Model for Spans {
-    ghost use Rattle.std.specs.Prelude.{◌≡◌};
-    ghost use Rattle.outer_tokens.specs.Lexing.{tokens_of};
-    ghost use Rattle.command_spans.specs.Cutting.{spans_in};
-    ghost use Rattle.command_spans.specs.CutTexts.{CutText};
+    ghost use Rattle.command_spans.specs.CutTexts.{Cuts};
 
-    ghost Value = { CutText };
+    ghost Value = { Cuts };
 
-    ghost view = { λ s. record { text = s.text; aliases = s.names } };
-
-    ghost invariant = { λ s. (s.tokens.items ≡ tokens_of s.text s.names)
-        × (s.spans.items ≡ spans_in s.text s.names) };
+    ghost view = { λ s. record {
+      aliases = s.names;
+      tokens = s.tokens.items;
+      spans = s.spans.items;
+    } };
 }
 
 impl Spans {
     ghost use Rattle.std.specs.Prelude.{◌≡◌, IfOk};
     ghost use Rattle.std.specs.Bool.{OnTrue};
-    ghost use Rattle.outer_tokens.specs.Lexing.{tokens_of};
-    ghost use Rattle.command_spans.specs.CutTexts.{tokens_in, cut_spans};
+    ghost use Rattle.command_spans.specs.Cutting.{spans_of};
+    ghost use Rattle.command_spans.specs.CutTexts.{cut};
 
     /// The tokens and the spans of the text. The aliases are commands after its header's `begin`.
-    pub fn of(alloc: Global, text: Text, aliases: &[Items<char>]) -> Result<Spans, AllocError>
-        ensures { IfOk result (λ s. s ≡ record { text = text; aliases = aliases.now }) }
+    pub fn of(alloc: Global, text: &[char], aliases: &[Items<char>]) -> Result<Spans, AllocError>
+        ensures { IfOk result (λ s. s ≡ cut text.now aliases.now) }
     {
         let names = Names::of(alloc, aliases)?;
-        let tokens = lex(alloc, text.as_slice(), names.as_slice())?;
-        Spans::of_tokens(alloc, text, names, tokens)
+        let tokens = lex(alloc, text, names.as_slice())?;
+        Spans::of_tokens(alloc, names, tokens)
     }
 
-    /// The spans of the text whose tokens are these.
+    /// These tokens, and their spans.
     pub(crate) fn of_tokens(
         alloc: Global,
-        text: Text,
         names: Names,
         tokens: Vec<Token>,
     ) -> Result<Spans, AllocError>
-        requires { tokens.items ≡ tokens_of text names }
-        ensures { IfOk result (λ s. s ≡ record { text = text; aliases = names }) }
+        ensures { IfOk result (λ s. s ≡ record {
+          aliases = names;
+          tokens = tokens.items;
+          spans = spans_of tokens.items;
+        }) }
     {
         let spans = spans_of(alloc, &tokens)?;
         Ok(Spans {
-            text,
             names,
             tokens,
             spans,
         })
-    }
-
-    /// The text.
-    pub fn text(&self) -> &Text
-        ensures { result.now ≡ self.now.text }
-    {
-        &self.text
     }
 
     /// The aliases.
@@ -100,14 +90,14 @@ impl Spans {
 
     /// The tokens of the text, which join to it.
     pub fn tokens(&self) -> &[Token]
-        ensures { result.now ≡ tokens_in self.now }
+        ensures { result.now ≡ self.now.tokens }
     {
         &self.tokens
     }
 
     /// The spans of the text, which join to it.
     pub fn spans(&self) -> &[Span]
-        ensures { result.now ≡ cut_spans self.now }
+        ensures { result.now ≡ self.now.spans }
     {
         &self.spans
     }

@@ -1,6 +1,7 @@
 //! How the commands of one node are cut.
 ghost use Rattle.std.specs.Prelude.{◌≡◌, ◌+◌, ◌<◌, ◌≤◌, map, IsTrue, IfOk, MatchOption};
 ghost use Rattle.pide_base.specs.Ids.{id_end};
+ghost use Rattle.command_spans.specs.CutTexts.{cut};
 ghost use Rattle.buffer_rules.specs.Nodes.{uncut};
 ghost use Rattle.node_commands.specs.Commands.{commands_in, AskUnder};
 ghost use Rattle.document_edits.specs.Standing.{bare};
@@ -66,8 +67,7 @@ pub(crate) fn cut(
     next: u64,
 ) -> Result<CutNode, PrepareError>
     requires node { bare node.now ≡ uncut sheet.now }
-    requires text { spans.now.text ≡ sheet.now.text }
-    requires names { spans.now.aliases ≡ map (λ pair. pair.0) aliases.now }
+    requires spans { spans.now ≡ cut sheet.now.text (map (λ pair. pair.0) aliases.now) }
     requires asked { IsTrue old.now.same_aliases
         → AskUnder aliases.now old.now.text.now old.now.entries.now }
     requires first { 1 ≤ next }

@@ -1,16 +1,14 @@
 -- Whether a range is seen, by the last of the ranges that begin before its end.
-use Rattle.std.proofs.Common.{◌≡◌, ℕ, zero, suc, ◌+◌, ◌-◌, ◌<◌, ◌≤◌, Bool, true, false, ◌||◌, cond, max, min, List, [], ◌∷◌, length, filter, get_or, refl, sym, ap, subst, ◌∙◌, arith}
+use Rattle.std.proofs.Common.{◌≡◌, ℕ, ◌-◌, ◌<◌, ◌≤◌, Bool, true, false, List, length, get_or, refl, sym, ap, subst, ◌∙◌, arith}
 use Rattle.std.specs.Prelude.{nat_lt}
-use Rattle.std.specs.List.{list_any, All, AllWithin}
-use Rattle.std.specs.List.Sorted.{IsNonDecreasingBy, IsPartitionPoint}
+use Rattle.std.specs.List.Sorted.{IsPartitionPoint}
 use Rattle.std.proofs.lemmas.Bool.Decides.{nat_tests}
 use Rattle.std.proofs.lemmas.List.{get_or_read}
-use Rattle.std.proofs.lemmas.List.Elements.{filter_passes}
 use Rattle.std.proofs.lemmas.List.Folds.{list_any_none, list_any_at}
 use Rattle.pide_base.specs.declared.range.Range.{Range}
 use Rattle.buffer_rules.specs.Cuts.{share, is_seen}
-use Rattle.node_commands.specs.Spread.{AreSpread, spread, ShowAlike}
-use Rattle.node_commands.proofs.Spreading.{share_so, so_share, early_none}
+use Rattle.node_commands.specs.Spread.{AreSpread}
+use Rattle.node_commands.proofs.Spreading.{so_share, early_none}
 
 -- what is found among them
 module _ (ranges : List Range) (are : AreSpread ranges) (range : Range) (count : ℕ)

@@ -1,12 +1,18 @@
--- The commands that a node had (this project's own).
-use Rattle.std.specs.Prelude.{◌≡◌, ℕ, List, map}
+-- The commands of spans, and those that a node had (this project's own).
+use Rattle.std.specs.Prelude.{◌≡◌, ℕ, List, map, filter}
 use Rattle.shared_map.specs.Pairs.{Each}
 use Rattle.doc_nodes.specs.declared.node.Entry.{Entry}
 use Rattle.doc_blobs.specs.Needs.{AliasList, needs}
-use Rattle.buffer_rules.specs.Cuts.{source}
+use Rattle.pide_base.specs.declared.range.Range.{Range}
+use Rattle.command_spans.specs.declared.span.Span.{Span}
+use Rattle.buffer_rules.specs.Cuts.{is_command, source}
 use Rattle.buffer_rules.specs.Numbers.{Command}
 
--- their sources in a text
+-- where the commands among these spans stand
+abbrev pub ranges_of : List Span → List Range
+ranges_of spans = map (λ s. s.range) (filter (λ s. is_command s.kind) spans)
+
+-- the sources of commands in a text
 abbrev pub sources_in : List ℕ → List Entry → List (List ℕ)
 sources_in text entries = map (λ e. source text e.range) entries
 

@@ -1,6 +1,7 @@
 //! Where the commands of a text stand.
 ghost use Rattle.std.specs.Prelude.{◌≡◌, IfOk};
-ghost use Rattle.buffer_rules.specs.Cuts.{is_command, command_ranges};
+ghost use Rattle.buffer_rules.specs.Cuts.{is_command};
+ghost use Rattle.node_commands.specs.Commands.{ranges_of};
 
 use command_spans::{SpanKind, Spans};
 use pide_base::Range;
@@ -12,10 +13,9 @@ fn is_command(kind: SpanKind) -> bool
     !matches!(kind, SpanKind::Ignored)
 }
 
-/// Where the commands of a text stand, in their order.
+/// Where the commands of a text stand, whose spans these are, in their order.
 pub fn command_ranges(alloc: Global, spans: &Spans) -> Result<Vec<Range>, AllocError>
-    ensures { IfOk result
-        (λ ranges. ranges.items ≡ command_ranges spans.now.text spans.now.aliases) }
+    ensures { IfOk result (λ ranges. ranges.items ≡ ranges_of spans.now.spans) }
 {
     let mut ranges = Vec::new(alloc);
     let mut rest = spans.spans();

@@ -1,5 +1,5 @@
 -- One edit, as the rules tell it and as the law of edits does.
-use Rattle.std.proofs.Common.{◌≡◌, ◌↔◌, ℕ, ◌+◌, ◌<◌, ◌≤◌, Bool, true, false, not, cond, List, [], ◌∷◌, length, take, drop, Result, Ok, Err, refl, sym, ap, subst, ◌∙◌, arith, get_or}
+use Rattle.std.proofs.Common.{◌≡◌, ◌↔◌, ℕ, ◌+◌, Bool, true, false, not, cond, List, [], ◌∷◌, length, take, drop, Result, Ok, Err, refl, sym, ap, subst, ◌∙◌, arith, get_or}
 use Rattle.std.specs.Prelude.{nat_lt}
 use Rattle.std.proofs.lemmas.Bool.{cond-true, cond-false}
 use Rattle.std.proofs.lemmas.Bool.Decides.{nat_tests}
@@ -13,7 +13,7 @@ use Rattle.doc_nodes.specs.Names.{equal}
 use Rattle.message_values.specs.declared.refusal.Refusal.{Refusal}
 use Rattle.message_values.specs.declared.refusal.Refusal.TheVariants.{EditOutOfRange, RemoveDiffers}
 use Rattle.buffer_rules.specs.Trying.{◌>>=◌}
-use Rattle.buffer_rules.specs.Texts.{is_out_of_range, differs, edited, edit_once, edit_all}
+use Rattle.buffer_rules.specs.Texts.{differs, edited, edit_once, edit_all}
 
 -- the law of edits, as it is called
 abbrev pub EditsLaw : Type 0

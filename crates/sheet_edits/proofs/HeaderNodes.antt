@@ -5,7 +5,6 @@ use Rattle.std.specs.Option.{option_map_or}
 use Rattle.doc_headers.specs.Headers.{HasHeader, HasNoHeader}
 use Rattle.doc_headers.specs.Reading.{header_in}
 use Rattle.doc_headers.specs.declared.parts.Header.{Header}
-use Rattle.doc_headers.specs.declared.parts.KeywordPair.{KeywordPair}
 use Rattle.doc_nodes.specs.declared.node.Node.{Node}
 use Rattle.buffer_rules.specs.declared.sheet.Sheet.{Sheet}
 use Rattle.buffer_rules.specs.Nodes.{uncut}

@@ -2,3 +2,4 @@ mod EditSteps
 mod MovedRanges
 mod SheetLemmas
 mod HeaderNodes
+mod CutLemmas

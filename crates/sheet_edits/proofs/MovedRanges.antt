@@ -1,12 +1,11 @@
 -- Ranges that edits move.
-use Rattle.std.proofs.Common.{◌≡◌, ℕ, ◌<◌, ◌≤◌, ◌^◌, List, [], ◌∷◌, length, map, refl, ap, ◌∙◌, arith}
+use Rattle.std.proofs.Common.{◌≡◌, ℕ, ◌<◌, ◌≤◌, ◌^◌, List, [], ◌∷◌, length, map, refl, ap, arith}
 use Rattle.shared_map.specs.Pairs.{Each}
 use Rattle.pide_base.specs.declared.range.Range.{Range}
 use Rattle.text_edits.specs.declared.edit.Edit.{Edit}
-use Rattle.text_edits.specs.Edits.{Applies}
 use Rattle.text_edits.specs.Offsets.{convert}
 use Rattle.buffer_rules.specs.Sheets.{converted}
-use Rattle.sheet_edits.specs.Within.{IsWithin, AreWithin, IsSmall, moved}
+use Rattle.sheet_edits.specs.Within.{AreWithin, IsSmall, moved}
 
 -- one edit and then the others
 pub converted_then : (edit : Edit) (edits : List Edit) (ranges : List Range) → map (converted edits) (map (moved edit) ranges) ≡ map (converted (edit ∷ edits)) ranges

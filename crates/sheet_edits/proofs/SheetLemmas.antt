@@ -1,15 +1,15 @@
 -- What edits and a perspective make of a sheet.
-use Rattle.std.proofs.Common.{◌≡◌, ℕ, ◌<◌, ◌≤◌, Bool, true, false, ◌||◌, cond, List, [], ◌∷◌, length, filter, not, map, Option, Some, None, Result, Ok, Err, refl, sym, ap, subst, ◌∙◌, arith, drop, get_or}
+use Rattle.std.proofs.Common.{◌≡◌, ℕ, ◌≤◌, Bool, true, false, ◌||◌, cond, List, [], ◌∷◌, length, filter, not, map, Some, None, Result, Ok, Err, refl, sym, ap, subst, ◌∙◌, arith, drop, get_or}
 use Rattle.std.specs.Prelude.{nat_lt}
 use Rattle.std.specs.List.{list_any}
 use Rattle.std.proofs.lemmas.Bool.{false≢true, cond-true, cond-false}
 use Rattle.std.proofs.lemmas.Bool.Decides.{nat_tests}
-use Rattle.shared_map.specs.Pairs.{Each}
 use Rattle.pide_base.specs.declared.range.Range.{Range}
 use Rattle.text_edits.specs.declared.edit.Edit.{Edit}
 use Rattle.message_values.specs.declared.item.Perspective.{Perspective}
 use Rattle.message_values.specs.declared.refusal.Refusal.{Refusal}
 use Rattle.message_values.specs.declared.refusal.Refusal.TheVariants.{PerspectiveOutOfRange}
+use Rattle.command_spans.specs.CutTexts.{Cuts, AreCutsOf}
 use Rattle.buffer_rules.specs.declared.sheet.Sheet.{Sheet}
 use Rattle.buffer_rules.specs.Trying.{◌>>=◌}
 use Rattle.buffer_rules.specs.Texts.{edit_once, edit_all}
@@ -38,11 +38,6 @@ exit_edit e edit more text whole same told =
 pub next_edit : (edit : Edit) (more : List Edit) (text after : List ℕ) (whole : Result (List ℕ) Refusal)
     → edit_all (edit ∷ more) text ≡ whole → edit_once edit text ≡ Ok after → edit_all more after ≡ whole
 next_edit edit more text after whole same once = sym (ap (λ r. r >>= edit_all more) once) ∙ same
-
--- no edits leave a text
-pub no_edits : (edits : List Edit) (text after : List ℕ) → edit_all edits text ≡ Ok after → edits ≡ [] → after ≡ text
-no_edits [] text after e none = cc
-no_edits (edit ∷ edits) text after e none = absurd (cc)
 
 inside : (len : ℕ) (r : Range) → is_outside len r ≡ false → IsWithin len r
 inside len r e =
@@ -119,9 +114,9 @@ pub filled_so : (len : ℕ) (ranges kept : List Range) → kept ≡ filter (λ r
 filled_so len ranges kept e all = subst (AreWithin len) (sym e) (filled_within len ranges all)
 
 -- a sheet of a text and ranges within it
-pub whole_so : (sheet : Sheet) (text : List ℕ) (ranges : List Range) → sheet.text ≡ text → sheet.ranges ≡ ranges → AreWithin (length text) ranges → IsWhole sheet text
-whole_so sheet text ranges same are all = record {
-  text_is = sym same;
+pub whole_so : (sheet : Sheet) (text : List ℕ) (cuts : Cuts) (ranges : List Range) → sheet.text ≡ text → sheet.ranges ≡ ranges → AreCutsOf text cuts → AreWithin (length text) ranges → IsWhole sheet cuts
+whole_so sheet text cuts ranges same are own all = record {
+  are_cuts = subst (λ t. AreCutsOf t cuts) (sym same) own;
   ranges_are = subst (λ t. AreWithin (length t) sheet.ranges) (sym same) (subst (AreWithin (length text)) (sym are) all);
 }
 

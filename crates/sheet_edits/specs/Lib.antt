@@ -1,3 +1,4 @@
 pub mod Telling
 pub mod OpenSheet
 pub mod Within
+pub mod Held

@@ -2,6 +2,7 @@
 ghost use Rattle.std.specs.Prelude.{◌≡◌, length, map, Some, None, IfOk};
 ghost use Rattle.std.specs.Bool.{OnTrue};
 ghost use Rattle.std.specs.Option.{option_copied};
+ghost use Rattle.command_spans.specs.CutTexts.{AreCutsOf, cut};
 ghost use Rattle.buffer_rules.specs.Sheets.{blank};
 ghost use Rattle.sheet_edits.specs.OpenSheet.{OpenSheet};
 ghost use Rattle.sheet_edits.specs.Within.{AreWithin, IsWhole};
@@ -31,7 +32,7 @@ impl Model for OpenNode {
 
     ghost view = { λ opened. record { sheet = opened.sheet; cut_under = opened.cut_under } };
 
-    ghost invariant = { λ opened. IsWhole opened.sheet opened.spans.text };
+    ghost invariant = { λ opened. IsWhole opened.sheet opened.spans };
 }
 
 impl OpenNode {
@@ -39,7 +40,7 @@ impl OpenNode {
     pub fn blank(alloc: Global) -> Result<OpenNode, AllocError>
         ensures { IfOk result (λ opened. opened ≡ record { sheet = blank; cut_under = None }) }
     {
-        let spans = Spans::of(alloc, Text::new(alloc), &[])?;
+        let spans = Spans::of(alloc, &[], &[])?;
         Ok(OpenNode {
             sheet: Sheet {
                 text: shared(alloc, Text::new(alloc))?,
@@ -78,7 +79,7 @@ impl OpenNode {
 
     /// The spans of its text, under some aliases.
     pub(crate) fn spans(&self) -> &Shared<Spans>
-        ensures text { result.now.text ≡ self.now.sheet.text }
+        ensures cut { AreCutsOf self.now.sheet.text result.now }
         ensures ranges { AreWithin (length self.now.sheet.text) self.now.sheet.ranges }
     {
         &self.spans
@@ -86,16 +87,13 @@ impl OpenNode {
 
     /// The spans of its text under these aliases: those that it has, where they are under these.
     pub fn spans_under(&self, alloc: Global, aliases: &Aliases) -> Result<Shared<Spans>, AllocError>
-        ensures { IfOk result (λ spans. spans ≡ record {
-          text = self.now.sheet.text;
-          aliases = map (λ pair. pair.0) aliases.now;
-        }) }
+        ensures { IfOk result
+            (λ spans. spans ≡ cut self.now.sheet.text (map (λ pair. pair.0) aliases.now)) }
     {
-        let spans = self.spans.get();
-        if same_names(spans.aliases(), aliases.names()) {
+        if same_names(self.spans.get().aliases(), aliases.names()) {
             return self.spans.copy();
         }
-        let text = spans.text().copy(alloc)?;
+        let text = self.sheet.text.get().as_slice();
         shared(alloc, Spans::of(alloc, text, aliases.names())?)
     }
 
@@ -106,7 +104,7 @@ impl OpenNode {
         spans: Shared<Spans>,
         aliases: Shared<Aliases>,
     ) -> Result<OpenNode, AllocError>
-        requires { spans.text ≡ self.now.sheet.text }
+        requires { AreCutsOf self.now.sheet.text spans }
         ensures { IfOk result (λ opened. opened ≡ record {
           sheet = self.now.sheet;
           cut_under = Some aliases;
@@ -121,7 +119,7 @@ impl OpenNode {
 
     /// A node of this sheet, whose commands have to be cut.
     pub(crate) fn uncut(sheet: Sheet, spans: Shared<Spans>) -> OpenNode
-        requires { IsWhole sheet spans.text }
+        requires { IsWhole sheet spans }
         ensures { result ≡ record { sheet = sheet; cut_under = None } }
     {
         OpenNode {

@@ -1,12 +1,13 @@
 //! What an item makes of a node.
-ghost use Rattle.std.specs.Prelude.{◌≡◌, ◌++◌, [], length, map, filter, not, Some, None, IfOk};
+ghost use Rattle.std.specs.Prelude.{◌≡◌, ◌++◌, length, map, filter, not, Some, None, IfOk};
 ghost use Rattle.std.specs.List.{list_any};
 ghost use Rattle.shared_map.specs.Pairs.{Each};
+ghost use Rattle.command_spans.specs.CutTexts.{AreCutsOf};
 ghost use Rattle.buffer_rules.specs.Sheets.{is_empty, is_outside, sheet_after};
 ghost use Rattle.sheet_edits.specs.Telling.{Tells};
 ghost use Rattle.sheet_edits.specs.Within.{AreWithin};
 
-use crate::editing::{EditedText, edited};
+use crate::editing::{EditedText, Held, edited};
 use crate::fault::PrepareError;
 use crate::open_node::{OpenNode, shared};
 use buffer_rules::Sheet;
@@ -47,40 +48,22 @@ fn has_outside(ranges: &[Range], len: usize) -> bool
     false
 }
 
-/// The text of these spans in memory that is shared: that of the sheet where no edit was made.
-fn text_of(
-    alloc: Global,
-    sheet: &Sheet,
-    spans: &Spans,
-    edits: &[Edit],
-) -> Result<Shared<Text>, AllocError>
-    requires { edits.now ≡ [] → spans.now.text ≡ sheet.now.text }
-    ensures { IfOk result (λ text. text ≡ spans.now.text) }
-{
-    if edits.is_empty() {
-        return sheet.text.copy();
-    }
-    shared(alloc, spans.text().copy(alloc)?)
-}
-
-/// The node of these spans and this perspective, after edits of a sheet.
+/// The node of this text, of its spans and of this perspective.
 #[tactic(auto, using(crate::proofs::SheetLemmas::whole_so))]
 fn node_of(
     alloc: Global,
-    old: &Sheet,
-    edits: &[Edit],
+    text: Shared<Text>,
     spans: Shared<Spans>,
     required: bool,
     ranges: Items<Range>,
 ) -> Result<OpenNode, AllocError>
-    requires text { edits.now ≡ [] → spans.text ≡ old.now.text }
-    requires ranges { AreWithin (length spans.text) ranges }
+    requires cut { AreCutsOf text spans }
+    requires ranges { AreWithin (length text) ranges }
     ensures { IfOk result (λ node. node ≡ record {
-      sheet = record { text = spans.text; required = required; ranges = ranges };
+      sheet = record { text = text; required = required; ranges = ranges };
       cut_under = None;
     }) }
 {
-    let text = text_of(alloc, old, spans.get(), edits)?;
     let ranges = shared(alloc, ranges)?;
     let sheet = Sheet {
         text,
@@ -92,7 +75,7 @@ fn node_of(
 
 impl OpenNode {
     /// The node after the edits, under a perspective that is told.
-    #[tactic(auto, using(crate::proofs::SheetLemmas::no_edits, crate::proofs::SheetLemmas::all_inside, crate::proofs::SheetLemmas::told_then, crate::proofs::SheetLemmas::shown_outside, crate::proofs::SheetLemmas::shown_told))]
+    #[tactic(auto, using(crate::proofs::SheetLemmas::all_inside, crate::proofs::SheetLemmas::told_then, crate::proofs::SheetLemmas::shown_outside, crate::proofs::SheetLemmas::shown_told))]
     fn shown(
         &self,
         alloc: Global,
@@ -103,37 +86,38 @@ impl OpenNode {
             (sheet_after edits.now (Some told.now) self.now.sheet) }
         ensures uncut { IfOk result (λ node. node.cut_under ≡ None) }
     {
-        let spans = self.spans().copy()?;
-        let none = Vec::new(alloc);
         let old = EditedText {
-            spans,
-            ranges: none,
+            text: Held::Lent(&self.sheet().text),
+            spans: self.spans().copy()?,
+            ranges: Vec::new(alloc),
         };
         let made = edited(alloc, old, edits)?;
-        let spans = made.spans;
-        if has_outside(told.ranges.as_slice(), spans.get().text().len()) {
+        let text = made.text.share(alloc)?;
+        if has_outside(told.ranges.as_slice(), text.get().len()) {
             return Err(PrepareError::Refused(Refusal::PerspectiveOutOfRange));
         }
         let ranges = Items::from_slice(alloc, told.ranges.as_slice())?;
-        let node = node_of(alloc, self.sheet(), edits, spans, told.required, ranges)?;
+        let node = node_of(alloc, text, made.spans, told.required, ranges)?;
         Ok(node)
     }
 
     /// The node after the edits, under what they make of its perspective.
-    #[tactic(auto, using(crate::proofs::SheetLemmas::no_edits, crate::proofs::SheetLemmas::filled_so, crate::proofs::SheetLemmas::told_then, crate::proofs::SheetLemmas::moved_told))]
+    #[tactic(auto, using(crate::proofs::SheetLemmas::filled_so, crate::proofs::SheetLemmas::told_then, crate::proofs::SheetLemmas::moved_told))]
     fn moved(&self, alloc: Global, edits: &[Edit]) -> Result<OpenNode, PrepareError>
         ensures node { Tells (λ node. node.sheet) result
             (sheet_after edits.now None self.now.sheet) }
         ensures uncut { IfOk result (λ node. node.cut_under ≡ None) }
     {
-        let spans = self.spans().copy()?;
-        let ranges = Vec::from_slice(alloc, self.sheet().ranges.get().as_slice())?;
-        let old = EditedText { spans, ranges };
+        let old = EditedText {
+            text: Held::Lent(&self.sheet().text),
+            spans: self.spans().copy()?,
+            ranges: Vec::from_slice(alloc, self.sheet().ranges.get().as_slice())?,
+        };
         let made = edited(alloc, old, edits)?;
-        let spans = made.spans;
         let ranges = filled(alloc, &made.ranges)?;
+        let text = made.text.share(alloc)?;
         let required = self.sheet().required;
-        let node = node_of(alloc, self.sheet(), edits, spans, required, ranges)?;
+        let node = node_of(alloc, text, made.spans, required, ranges)?;
         Ok(node)
     }
 

@@ -1,8 +1,8 @@
 //! How many tokens an edit leaves alone (`command_spans`).
+use crate::cut_text::CutText;
 use crate::values::Sketch::{Insert, Remove};
 use crate::values::{Sketch, cut, edit_of, fault_told, names_of, sees};
 use crate::whole::counts_told;
-use command_spans::{Spans, reparse};
 use sqlite_items::Items;
 use std::alloc::Global;
 use std::test::Fail;
@@ -129,8 +129,13 @@ const NAMES: &[Names] = &[
 ];
 
 /// How many tokens the edit keeps.
-fn kept(alloc: Global, old: &Spans, edit: &Edit, aliases: &[Items<char>]) -> Result<String, Fail> {
-    match reparse(alloc, old, edit, aliases) {
+fn kept(
+    alloc: Global,
+    old: &CutText,
+    edit: &Edit,
+    aliases: &[Items<char>],
+) -> Result<String, Fail> {
+    match old.edited(alloc, edit, aliases) {
         Ok(found) => counts_told(alloc, old, edit, aliases, &found),
         Err(fault) => Ok(fault_told(alloc, fault)?),
     }

@@ -7,6 +7,8 @@
 #![tactic(auto)]
 
 #[cfg(test)]
+mod cut_text;
+#[cfg(test)]
 mod edits;
 #[cfg(test)]
 mod header_rows;

@@ -1,8 +1,9 @@
 //! Texts under edits, made one after the other (`command_spans`).
+use crate::cut_text::CutText;
 use crate::values::Sketch::{Insert, Remove};
 use crate::values::{Sketch, cut, edit_of, fault_told, names_of, spans_told, unless};
 use crate::whole::counts_told;
-use command_spans::{Spans, kept_tokens, reparse};
+use command_spans::kept_tokens;
 use outer_tokens::{Kind, Token};
 use sqlite_items::Items;
 use std::alloc::{AllocError, Global};
@@ -121,25 +122,25 @@ fn marks(alloc: Global, tokens: &[Token]) -> Result<String, AllocError> {
 }
 
 /// What a text is told to be.
-fn told(alloc: Global, text: &Spans) -> Result<String, AllocError> {
+fn told(alloc: Global, text: &CutText) -> Result<String, AllocError> {
     let len = text.text().len();
-    let aliases = text.aliases().len();
-    let marks = marks(alloc, text.tokens())?;
-    let spans = spans_told(alloc, text.spans())?;
+    let aliases = text.spans().aliases().len();
+    let marks = marks(alloc, text.spans().tokens())?;
+    let spans = spans_told(alloc, text.spans().spans())?;
     format!(in alloc; "{len}, {aliases}, {marks},{spans}")
 }
 
 /// What is told of the edit, which is made of the text.
 fn made(
     alloc: Global,
-    text: &mut Spans,
+    text: &mut CutText,
     edit: &Edit,
     aliases: &[Items<char>],
 ) -> Result<String, Fail> {
-    match reparse(alloc, text, edit, aliases) {
+    match text.edited(alloc, edit, aliases) {
         Ok(found) => {
             let told = counts_told(alloc, text, edit, aliases, &found)?;
-            *text = found.spans;
+            *text = found.cut;
             Ok(told)
         }
         Err(fault) => Ok(fault_told(alloc, fault)?),
@@ -149,7 +150,7 @@ fn made(
 /// What is told of the edit that a row writes.
 fn edited(
     alloc: Global,
-    text: &mut Spans,
+    text: &mut CutText,
     sketch: &Sketch,
     names: &[&str],
 ) -> Result<String, Fail> {
@@ -159,7 +160,7 @@ fn edited(
 }
 
 /// What is told of the edit and of the text after it, where the step says something else.
-fn step_other(alloc: Global, text: &mut Spans, step: &Step) -> Result<Option<String>, Fail> {
+fn step_other(alloc: Global, text: &mut CutText, step: &Step) -> Result<Option<String>, Fail> {
     let Step(sketch, names, want) = step;
     let made = edited(alloc, text, sketch, names)?;
     let then = told(alloc, text)?;
@@ -168,7 +169,7 @@ fn step_other(alloc: Global, text: &mut Spans, step: &Step) -> Result<Option<Str
 }
 
 /// The first step that comes to something else, and what it comes to.
-fn first_other(alloc: Global, text: &mut Spans, steps: &[Step]) -> Result<Option<String>, Fail> {
+fn first_other(alloc: Global, text: &mut CutText, steps: &[Step]) -> Result<Option<String>, Fail> {
     for step in steps {
         let other = step_other(alloc, text, step)?;
         if other.is_some() {

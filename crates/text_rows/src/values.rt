@@ -1,5 +1,6 @@
 //! The values that rows write as plain data, and what is told of values.
-use command_spans::{Span, SpanKind, Spans};
+use crate::cut_text::CutText;
+use command_spans::{Span, SpanKind};
 use sqlite_items::Items;
 use std::alloc::{AllocError, Global};
 use std::process::Abort;
@@ -45,9 +46,9 @@ pub(crate) fn names_of(alloc: Global, names: &[&str]) -> Result<Vec<Items<char>>
 }
 
 /// The text under the aliases.
-pub(crate) fn cut(alloc: Global, text: &str, names: &[&str]) -> Result<Spans, AllocError> {
+pub(crate) fn cut(alloc: Global, text: &str, names: &[&str]) -> Result<CutText, AllocError> {
     let aliases = names_of(alloc, names)?;
-    Spans::of(alloc, Text::from_str(alloc, text)?, &aliases)
+    CutText::of(alloc, Text::from_str(alloc, text)?, &aliases)
 }
 
 /// Sees that what is told is what the row wants.

@@ -1,7 +1,7 @@
 //! A walk of random edits, beside texts that are lexed as a whole.
+use crate::cut_text::{CutText, Found};
 use crate::values::names_of;
 use crate::whole::is_as_whole;
-use command_spans::{Reparsed, Spans, reparse};
 use sqlite_items::Items;
 use std::alloc::{AllocError, Global};
 use std::test::Fail;
@@ -80,10 +80,10 @@ fn some_aliases(alloc: Global, seed: u64) -> Result<Vec<Items<char>>, AllocError
 }
 
 /// The text after an edit; none where it isn't as the whole text.
-fn edited(alloc: Global, old: &Spans, seed: u64) -> Result<Option<Spans>, Fail> {
+fn edited(alloc: Global, old: &CutText, seed: u64) -> Result<Option<CutText>, Fail> {
     let edit = some_edit(alloc, old.text().as_slice(), seed)?;
     let aliases = some_aliases(alloc, seed)?;
-    let Ok(found) = reparse(alloc, old, &edit, &aliases) else {
+    let Ok(found) = old.edited(alloc, &edit, &aliases) else {
         return Ok(None);
     };
     kept(alloc, old, &edit, &aliases, found)
@@ -92,13 +92,13 @@ fn edited(alloc: Global, old: &Spans, seed: u64) -> Result<Option<Spans>, Fail> 
 /// What was found, where it is as the whole text.
 fn kept(
     alloc: Global,
-    old: &Spans,
+    old: &CutText,
     edit: &Edit,
     aliases: &[Items<char>],
-    found: Reparsed,
-) -> Result<Option<Spans>, Fail> {
+    found: Found,
+) -> Result<Option<CutText>, Fail> {
     Ok(if is_as_whole(alloc, old, edit, aliases, &found)? {
-        Some(found.spans)
+        Some(found.cut)
     } else {
         None
     })
@@ -107,7 +107,7 @@ fn kept(
 /// How many edits are as they are in whole texts, one after the other, of as many as that.
 fn walked(alloc: Global, text: &str, edits: usize) -> Result<usize, Fail> {
     let mut seed = 20260722;
-    let mut old = Spans::of(alloc, Text::from_str(alloc, text)?, &[])?;
+    let mut old = CutText::of(alloc, Text::from_str(alloc, text)?, &[])?;
     for step in 0..edits {
         seed = next_of(seed);
         match edited(alloc, &old, seed)? {

@@ -1,9 +1,10 @@
 //! What `reparse` must come to: the tokens and spans of the whole text, and how many tokens an edit
 //! leaves alone.
-use command_spans::{Reparsed, Spans, spans};
+use crate::cut_text::{CutText, Found};
+use command_spans::spans;
 use outer_tokens::{Kind, Token};
 use sqlite_items::Items;
-use std::alloc::Global;
+use std::alloc::{AllocError, Global};
 use std::test::Fail;
 use text_edits::{Edit, apply};
 
@@ -32,15 +33,15 @@ fn has_boundary(tokens: &[Token], len: usize, place: usize) -> bool {
 }
 
 /// How many tokens are after the meeting.
-fn back_of(edit: &Edit, old: &Spans, new: &Spans) -> usize {
+fn back_of(edit: &Edit, old: &CutText, new: &CutText) -> usize {
     let (_, old_end, new_end) = ends(edit);
     let len = old.text().len();
-    for (i, t) in new.tokens().iter().enumerate() {
+    for (i, t) in new.spans().tokens().iter().enumerate() {
         let place = t.range.start;
         if new_end <= place {
             let was = (place - new_end).saturating_add(old_end);
-            if has_boundary(old.tokens(), len, was) {
-                return new.tokens().len().saturating_sub(i);
+            if has_boundary(old.spans().tokens(), len, was) {
+                return new.spans().tokens().len().saturating_sub(i);
             }
         }
     }
@@ -48,45 +49,64 @@ fn back_of(edit: &Edit, old: &Spans, new: &Spans) -> usize {
 }
 
 /// Whether both have the same text, tokens and spans, and the spans are those that `spans` finds.
-fn same(alloc: Global, one: &Spans, whole: &Spans, aliases: &[Items<char>]) -> Result<bool, Fail> {
+fn same(
+    alloc: Global,
+    one: &CutText,
+    whole: &CutText,
+    aliases: &[Items<char>],
+) -> Result<bool, Fail> {
     let cut = spans(alloc, whole.text().as_slice(), aliases)?;
     Ok(
         one.text().as_slice() == whole.text().as_slice()
-            && one.tokens() == whole.tokens()
-            && one.spans() == whole.spans()
-            && one.spans() == cut.as_slice(),
+            && one.spans().tokens() == whole.spans().tokens()
+            && one.spans().spans() == whole.spans().spans()
+            && one.spans().spans() == cut.as_slice(),
     )
 }
 
 /// Whether both numbers are those of the edit.
-fn counts(old: &Spans, edit: &Edit, whole: &Spans, found: &Reparsed) -> bool {
+fn counts(old: &CutText, edit: &Edit, whole: &CutText, found: &Found) -> bool {
     let (start, _, _) = ends(edit);
-    found.front == front_of(start, old.tokens()) && found.back == back_of(edit, old, whole)
+    found.front == front_of(start, old.spans().tokens()) && found.back == back_of(edit, old, whole)
 }
 
-/// Whether the text, the tokens, the spans and both numbers are those of the whole text.
+/// The same text in memory of its own.
+fn twin(alloc: Global, old: &CutText) -> Result<CutText, AllocError> {
+    CutText::of(alloc, old.text().copy(alloc)?, old.spans().aliases())
+}
+
+/// Whether the text, the tokens, the spans and both numbers are those of the whole text, whether the
+/// old text stays or its memory is used.
 pub(crate) fn is_as_whole(
     alloc: Global,
-    old: &Spans,
+    old: &CutText,
     edit: &Edit,
     aliases: &[Items<char>],
-    found: &Reparsed,
+    found: &Found,
 ) -> Result<bool, Fail> {
     let mut text = old.text().copy(alloc)?;
     if apply(&mut text, edit).is_err() {
         return Ok(false);
     }
-    let whole = Spans::of(alloc, text, aliases)?;
-    Ok(same(alloc, &found.spans, &whole, aliases)? && counts(old, edit, &whole, found))
+    let whole = CutText::of(alloc, text, aliases)?;
+    let Ok(other) = twin(alloc, old)?.edited_in_place(alloc, edit, aliases) else {
+        return Ok(false);
+    };
+    Ok(
+        same(alloc, &found.cut, &whole, aliases)?
+            && same(alloc, &other.cut, &whole, aliases)?
+            && counts(old, edit, &whole, found)
+            && counts(old, edit, &whole, &other),
+    )
 }
 
 /// How many tokens an edit kept at the front and at the back, where all is as in the whole text.
 pub(crate) fn counts_told(
     alloc: Global,
-    old: &Spans,
+    old: &CutText,
     edit: &Edit,
     aliases: &[Items<char>],
-    found: &Reparsed,
+    found: &Found,
 ) -> Result<String, Fail> {
     if !is_as_whole(alloc, old, edit, aliases, found)? {
         return Ok(String::from_str(alloc, "another text")?);

@@ -4,7 +4,7 @@ use Rattle.outer_tokens.specs.Stages.{after_tokens}
 use Rattle.outer_tokens.specs.declared.stage.Stage.TheVariants.{Start}
 use Rattle.outer_tokens.specs.declared.token.Token.{Token}
 use Rattle.outer_tokens.proofs.KnownLexing.{AreStaged}
-use Rattle.command_spans.specs.CutTexts.{tokens_in, boundaries}
+use Rattle.command_spans.specs.CutTexts.{boundaries}
 use Rattle.command_spans.specs.Reparsing.{moved, is_meeting}
 use Rattle.command_spans.specs.Keeping.{ArePassed}
 use Rattle.command_spans.proofs.edited.relex.Given as goal
@@ -14,8 +14,8 @@ invariant-lexed l = record {
   within : l.place ≤ length l.text;
   staged : AreStaged l.aliases l.text Start 0 l.place l.tokens.items;
   stage : l.stage ≡ after_tokens l.text Start l.tokens.items;
-  passed : ArePassed (moved l.change.new_end l.change.old_end l.place) (tokens_in l.old) l.next;
-  none : All (λ (t : Token). is_meeting l.change.old_end l.change.new_end (boundaries (length l.old.text) (tokens_in l.old)) t.range.start ≡ false) l.tokens.items;
+  passed : ArePassed (moved l.change.new_end l.change.old_end l.place) l.kept l.next;
+  none : All (λ (t : Token). is_meeting l.change.old_end l.change.new_end (boundaries (l.was.len) l.kept) t.range.start ≡ false) l.tokens.items;
 }
 
 abbrev pub decreases-lexed : goal.decreases-lexed

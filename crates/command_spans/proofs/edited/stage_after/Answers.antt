@@ -1,5 +1,8 @@
-use Rattle.std.proofs.Common.{drop, sym, ◌∙◌}
+use Rattle.std.proofs.Common.{sym, ap, ◌∙◌, arith, length}
+use Rattle.std.proofs.lemmas.List.{take_all}
+use Rattle.outer_tokens.specs.Stages.{after_tokens}
+use Rattle.outer_tokens.specs.declared.stage.Stage.TheVariants.{Start}
 use Rattle.command_spans.proofs.edited.stage_after.Goals as goal
 
-pub returns-then-is_over : goal.returns-then-is_over
-returns-then-is_over c = sym (c.if-is_over.ensures c.args.text.now (drop c.loop-token.token-index c.args.tokens.now)) ∙ c.loop-token.invariant
+pub returns : goal.returns
+returns c = sym (c.read_before.ensures.read (length c.args.tokens.now) c.read_before.ensures.within) ∙ ap (after_tokens c.args.text.now Start) (take_all (length c.args.tokens.now) c.args.tokens.now (omega arith))

@@ -2,10 +2,11 @@ use Rattle.std.proofs.Common.{◌≡◌, ℕ, ◌+◌, ◌-◌, ◌<◌, List, l
 use Rattle.std.specs.List.{zip}
 use Rattle.pide_base.specs.Ids.{id_end}
 use Rattle.pide_base.specs.declared.range.Range.{Range}
-use Rattle.buffer_rules.specs.Cuts.{command_ranges, source}
+use Rattle.command_spans.specs.CutTexts.{Cuts}
+use Rattle.buffer_rules.specs.Cuts.{source}
 use Rattle.buffer_rules.specs.Numbers.{Kept, kept, ids_of}
 use Rattle.buffer_rules.specs.Nodes.{entry, ranges_in}
-use Rattle.node_commands.specs.Commands.{sources_in, commands_in}
+use Rattle.node_commands.specs.Commands.{ranges_of, sources_in, commands_in}
 use Rattle.editor_buffer.specs.CutNodes.{next_after}
 use Rattle.editor_buffer.proofs.CutParts.{node_so, next_so}
 use Rattle.editor_buffer.proofs.cut.cut.Goals as goal
@@ -18,9 +19,7 @@ returns-in_default c =
     let rs = c.in_ok-ranges.ranges.items in
     let k = c.kept_runs-kept.result in
     let places : rs ≡ ranges_in sheet aliases =
-    c.in_ok-ranges.ensures
-    ∙ ap (λ (t : List ℕ). command_ranges t c.args.spans.now.aliases) c.requires.text
-    ∙ ap (λ (a : List (List ℕ)). command_ranges sheet.text a) c.requires.names in
+    c.in_ok-ranges.ensures ∙ ap (λ (x : Cuts). ranges_of x.spans) c.requires.spans in
     let text : c.as_slice.result.now ≡ sheet.text = c.as_slice.ensures ∙ c.get.ensures in
     let is_kept : k ≡ kept olds (map (source sheet.text) rs) =
     c.kept_runs-kept.ensures.value
@@ -44,9 +43,7 @@ returns c =
     let rs = c.in_ok-ranges.ranges.items in
     let k = c.kept_runs-kept.result in
     let places : rs ≡ ranges_in sheet aliases =
-    c.in_ok-ranges.ensures
-    ∙ ap (λ (t : List ℕ). command_ranges t c.args.spans.now.aliases) c.requires.text
-    ∙ ap (λ (a : List (List ℕ)). command_ranges sheet.text a) c.requires.names in
+    c.in_ok-ranges.ensures ∙ ap (λ (x : Cuts). ranges_of x.spans) c.requires.spans in
     let text : c.as_slice.result.now ≡ sheet.text = c.as_slice.ensures ∙ c.get.ensures in
     let is_kept : k ≡ kept olds (map (source sheet.text) rs) =
     c.kept_runs-kept.ensures.value

@@ -1,10 +1,10 @@
-use Rattle.std.proofs.Common.{◌≡◌, ℕ, ◌-◌, List, ◌++◌, length, take, drop, map, sym, ap, subst, ◌∙◌}
+use Rattle.std.proofs.Common.{ℕ, ◌-◌, List, ◌++◌, length, take, drop, map, sym, ap, subst, ◌∙◌}
 use Rattle.std.proofs.lemmas.List.{take_rest}
 use Rattle.std.specs.List.{AllZip, zip, range_with_len}
 use Rattle.pide_base.specs.declared.range.Range.{Range}
 use Rattle.doc_nodes.specs.declared.node.Entry.{Entry}
 use Rattle.buffer_rules.specs.Cuts.{source}
-use Rattle.buffer_rules.specs.Numbers.{Kept, kept, IsLongestKept}
+use Rattle.buffer_rules.specs.Numbers.{Kept, IsLongestKept}
 use Rattle.buffer_rules.specs.Nodes.{entry}
 use Rattle.node_commands.specs.Commands.{sources_in, AsksFor}
 use Rattle.node_commands.proofs.Joined.{joined_at, ids_by}

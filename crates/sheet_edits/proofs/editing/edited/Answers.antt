@@ -1,6 +1,7 @@
-use Rattle.std.proofs.Common.{◌≡◌, ℕ, ◌≤◌, ◌-◌, List, [], ◌∷◌, length, map, take, drop, Ok, sym, ap, subst, ◌∙◌, arith}
+use Rattle.std.proofs.Common.{◌≡◌, ◌-◌, List, [], ◌∷◌, length, map, take, drop, sym, ap, subst, ◌∙◌, arith}
 use Rattle.std.proofs.lemmas.List.{take_rest, nil_from_length}
 use Rattle.text_edits.specs.declared.edit.Edit.{Edit}
+use Rattle.sheet_edits.specs.Held.{text_of}
 use Rattle.buffer_rules.specs.Texts.{edit_all}
 use Rattle.buffer_rules.specs.Sheets.{converted}
 use Rattle.sheet_edits.proofs.SheetLemmas.{next_edit, head_tail}
@@ -12,14 +13,15 @@ each-preserved c =
     let rest = c.each.rest.now in
     let edit : Edit = c.edit-item.result in
     let more = drop 1 rest in
-    let text = c.each.made.spans.text in
-    let after = c.in_ok-made.made.spans.text in
+    let text = text_of c.each.made.text in
+    let after = text_of c.in_ok-made.made.text in
     let split : rest ≡ edit ∷ more = head_tail rest edit c.in-len1-up.len_at_least c.edit-item.is in
     let slice : take (length rest - 1) more ≡ more = take_rest rest 1 in
     record {
-      text = subst (λ (es : List Edit). edit_all es after ≡ edit_all c.args.edits.now c.args.old.spans.text) (sym slice)
-          (next_edit edit more text after (edit_all c.args.edits.now c.args.old.spans.text)
+      text = subst (λ (es : List Edit). edit_all es after ≡ edit_all c.args.edits.now (text_of c.args.old.text)) (sym slice)
+          (next_edit edit more text after (edit_all c.args.edits.now (text_of c.args.old.text))
           (ap (λ (es : List Edit). edit_all es text) (sym split) ∙ c.each.invariant.text) c.in_ok-made.ensures.text);
+      are_cuts = c.in_ok-made.ensures.cut;
       ranges = ap (λ (es : List Edit). map (converted es) c.in_ok-made.made.ranges.items) slice
           ∙ ap (map (converted more)) c.in_ok-made.ensures.ranges
           ∙ converted_then edit more c.each.made.ranges.items

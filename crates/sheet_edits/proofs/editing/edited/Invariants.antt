@@ -1,4 +1,6 @@
 use Rattle.std.proofs.Common.{◌≡◌, length, map}
+use Rattle.command_spans.specs.CutTexts.{AreCutsOf}
+use Rattle.sheet_edits.specs.Held.{text_of}
 use Rattle.buffer_rules.specs.Texts.{edit_all}
 use Rattle.buffer_rules.specs.Sheets.{converted}
 use Rattle.sheet_edits.specs.Within.{AreWithin}
@@ -6,9 +8,10 @@ use Rattle.sheet_edits.proofs.editing.edited.Given as goal
 
 abbrev pub invariant-each : goal.invariant-each
 invariant-each l = record {
-  text : edit_all l.rest l.made.spans.text ≡ edit_all l.fn.edits l.fn.old.spans.text;
+  text : edit_all l.rest (text_of l.made.text) ≡ edit_all l.fn.edits (text_of l.fn.old.text);
+  are_cuts : AreCutsOf (text_of l.made.text) l.made.spans;
   ranges : map (converted l.rest) l.made.ranges.items ≡ map (converted l.fn.edits) l.fn.old.ranges.items;
-  within : AreWithin (length l.made.spans.text) l.made.ranges.items;
+  within : AreWithin (length (text_of l.made.text)) l.made.ranges.items;
 }
 
 abbrev pub decreases-each : goal.decreases-each

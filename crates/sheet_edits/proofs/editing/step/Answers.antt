@@ -1,9 +1,8 @@
-use Rattle.std.proofs.Common.{◌≡◌, ℕ, ◌≤◌, ◌<◌, ◌^◌, length, List, map, Ok, sym, ap, subst, ◌∙◌, arith}
+use Rattle.std.proofs.Common.{◌≡◌, ◌<◌, ◌^◌, length, List, map, Ok, sym, ap, subst, ◌∙◌, arith}
 use Rattle.shared_map.specs.Pairs.{Each}
 use Rattle.pide_base.specs.declared.range.Range.{Range}
-use Rattle.command_spans.specs.CutTexts.{CutText}
+use Rattle.sheet_edits.specs.Held.{text_of}
 use Rattle.text_edits.specs.Edits.{Applies}
-use Rattle.text_edits.specs.Offsets.{convert}
 use Rattle.buffer_rules.specs.Texts.{edit_once}
 use Rattle.sheet_edits.specs.Within.{AreWithin, IsSmall, moved}
 use Rattle.sheet_edits.proofs.EditSteps.{made}
@@ -13,24 +12,23 @@ use Rattle.sheet_edits.proofs.editing.step.Goals as goal
 pub moved_all-requires : goal.moved_all-requires
 moved_all-requires c =
     let edit = c.args.edit.now in
-    let text = c.args.old.now.spans.text in
-    let after = c.in_ok-spans.spans.text in
-    let once : edit_once edit text ≡ Ok after = ap (λ (s : CutText). edit_once edit s.text) (sym c.get.ensures) ∙ c.in_ok-spans.ensures in
+    let text = text_of c.args.old.text in
+    let after = c.in_ok-made.made.text in
+    let once : edit_once edit text ≡ Ok after = c.in_ok-made.ensures.text in
     let applied : Applies edit text after = made c.edits_law.ensures edit text after once in
-    let small : length after < 2 ^ 64 = omega (arith, c.len-len.ensures, c.len-len.type_inv, ap length c.text.ensures) in
+    let small : length after < 2 ^ 64 = omega (arith, c.len-len.ensures, c.len-len.type_inv) in
     subst (λ (rs : List Range). Each (IsSmall edit) rs) (sym c.deref.ensures.value)
-    (moved_small edit text after (λ i le. c.places_stay_within.ensures.converted edit text after i applied le) small c.args.old.now.ranges.items c.requires)
+    (moved_small edit text after (λ i le. c.places_stay_within.ensures.converted edit text after i applied le) small c.args.old.ranges.items c.requires.within)
 
 pub returns-clause-within : goal.returns-clause-within
 returns-clause-within c =
     let edit = c.args.edit.now in
-    let text = c.args.old.now.spans.text in
-    let after = c.in_ok-spans.spans.text in
-    let once : edit_once edit text ≡ Ok after = ap (λ (s : CutText). edit_once edit s.text) (sym c.get.ensures) ∙ c.in_ok-spans.ensures in
+    let text = text_of c.args.old.text in
+    let after = c.in_ok-made.made.text in
+    let once : edit_once edit text ≡ Ok after = c.in_ok-made.ensures.text in
     let applied : Applies edit text after = made c.edits_law.ensures edit text after once in
-    let there : AreWithin (length after) (map (moved edit) c.args.old.now.ranges.items) =
-    moved_within edit text after (λ i le. c.places_stay_within.ensures.converted edit text after i applied le) c.args.old.now.ranges.items c.requires in
-    let ranges : c.in_ok-ranges.ranges.items ≡ map (moved edit) c.args.old.now.ranges.items =
+    let there : AreWithin (length after) (map (moved edit) c.args.old.ranges.items) =
+    moved_within edit text after (λ i le. c.places_stay_within.ensures.converted edit text after i applied le) c.args.old.ranges.items c.requires.within in
+    let ranges : c.in_ok-ranges.ranges.items ≡ map (moved edit) c.args.old.ranges.items =
     c.in_ok-ranges.ensures ∙ ap (map (moved edit)) c.deref.ensures.value in
-    subst (λ (s : CutText). AreWithin (length s.text) c.in_ok-ranges.ranges.items) (sym c.in_ok-shared.ensures)
-    (subst (AreWithin (length after)) (sym ranges) there)
+    subst (AreWithin (length after)) (sym ranges) there

@@ -1,11 +1,10 @@
-use Rattle.std.proofs.Common.{◌≡◌, ◌<◌, sym, ap, ◌∙◌, subst, arith, rules}
-use Rattle.std.specs.Prelude.{nat_lt}
+use Rattle.std.proofs.Common.{◌<◌, sym, ap, ◌∙◌, subst, rules}
 use Rattle.std.specs.List.{All}
 use Rattle.std.specs.List.Sorted.{IsNonDecreasingBy}
 use Rattle.std.proofs.lemmas.List.Sorted.{IsNonDecreasingBy-from_sort_by_key, All-permutation, list_any-IsPermutation}
 use Rattle.buffer_rules.specs.Cuts.{share, is_seen}
-use Rattle.node_commands.specs.Spread.{AreSpread, ShowAlike, spread}
-use Rattle.node_commands.proofs.Spreading.{kept, all_filled, all_spread, all_alike, filled_alike}
+use Rattle.node_commands.specs.Spread.{AreSpread, spread}
+use Rattle.node_commands.proofs.Spreading.{all_filled, all_spread, all_alike, filled_alike}
 use Rattle.pide_base.specs.declared.range.Range.{Range}
 use Rattle.node_commands.proofs.seen.Seen.of.Goals as goal
 
