@@ -1,44 +1,42 @@
 //! `nj_kernel`: the rules for `&`.
 
-use crate::bench::follow;
-use crate::row::Call::{ConjE1, ConjE2, ConjI};
-use crate::row::Row::{self, Assume, Faults, Makes};
-use crate::sketch::Sketch::{self, And};
-use crate::sketch::{A, B};
-use nj_kernel::Rule;
+use crate::calls::Call::{Assume, ConjE1, ConjE2, ConjI};
+use crate::scripts::{Row, Script, first_other};
 use std::test::Fail;
 
-const A_AND_A: Sketch = And(&A, &A);
-
-const A_AND_B: Sketch = And(&A, &B);
+const SCRIPTS: &[Script] = &[
+    Script(
+        "a conjunction assumes what its parts assume",
+        &[
+            Row(Assume("A"), "A |- A"),
+            Row(Assume("B"), "B |- B"),
+            Row(ConjI(0, 1), "A, B |- A & B"),
+            Row(ConjI(0, 0), "A |- A & A"),
+        ],
+    ),
+    Script(
+        "a conjunction gives its parts",
+        &[
+            Row(Assume("A & B"), "A & B |- A & B"),
+            Row(ConjE1(0), "A & B |- A"),
+            Row(ConjE2(0), "A & B |- B"),
+        ],
+    ),
+    Script(
+        "an atom has no parts",
+        &[
+            Row(Assume("A"), "A |- A"),
+            Row(ConjE1(0), "conjE1 blames 1"),
+            Row(ConjE2(0), "conjE2 blames 1"),
+        ],
+    ),
+];
 
 #[test]
-fn a_conjunction_assumes_what_its_parts_assume(rt: HostRuntime) -> Result<(), Fail> {
-    const ROWS: &[Row] = &[
-        Assume(A),
-        Assume(B),
-        Makes(ConjI(0, 1), &[A, B], A_AND_B),
-        Makes(ConjI(0, 0), &[A], A_AND_A),
-    ];
-    Ok(follow(&rt, rt.alloc(), ROWS)?)
-}
-
-#[test]
-fn a_conjunction_gives_its_parts(rt: HostRuntime) -> Result<(), Fail> {
-    const ROWS: &[Row] = &[
-        Assume(A_AND_B),
-        Makes(ConjE1(0), &[A_AND_B], A),
-        Makes(ConjE2(0), &[A_AND_B], B),
-    ];
-    Ok(follow(&rt, rt.alloc(), ROWS)?)
-}
-
-#[test]
-fn an_atom_has_no_parts(rt: HostRuntime) -> Result<(), Fail> {
-    const ROWS: &[Row] = &[
-        Assume(A),
-        Faults(ConjE1(0), Rule::ConjE1, 1),
-        Faults(ConjE2(0), Rule::ConjE2, 1),
-    ];
-    Ok(follow(&rt, rt.alloc(), ROWS)?)
+fn conjunctions_are_made_and_used_as_their_rows_say(rt: HostRuntime) -> Result<(), Fail> {
+    for Script(shows, rows) in SCRIPTS {
+        let other = first_other(rt.alloc(), rows)?;
+        assert!(rt; other.is_none(), "{shows}: {other:?}");
+    }
+    Ok(())
 }

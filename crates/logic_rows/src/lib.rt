@@ -4,11 +4,11 @@
 //! does not.
 //!
 //! It holds tests alone, in a crate of their own so that the crates of formulas are proved without
-//! them. The rows of a rule are tables, which `bench.rt` runs in order.
+//! them. The modules hold tables of rows; `calls` and `scripts` run those of the kernel.
 #![tactic(auto)]
 
 #[cfg(test)]
-mod bench;
+mod calls;
 #[cfg(test)]
 mod conjunction;
 #[cfg(test)]
@@ -28,11 +28,7 @@ mod printing;
 #[cfg(test)]
 mod reading;
 #[cfg(test)]
-mod refusal;
-#[cfg(test)]
-mod row;
-#[cfg(test)]
-mod sketch;
+mod scripts;
 #[cfg(test)]
 mod structures;
 #[cfg(test)]

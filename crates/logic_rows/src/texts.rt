@@ -4,20 +4,30 @@ use nj_formula::{Formula, ObjTerm};
 use nj_syntax::{FormulaFault, parse, parse_term};
 use std::alloc::{AllocError, Global};
 
-pub fn scalars(alloc: Global, text: &str) -> Result<Vec<char>, AllocError> {
-    text.chars().collect::<Vec<char>>(alloc)
+pub(crate) fn scalars(alloc: Global, text: &str) -> Result<Vec<char>, AllocError> {
+    text.chars().collect(alloc)
 }
 
-pub fn formula(alloc: Global, text: &str) -> Result<Formula, FormulaFault> {
-    parse(alloc, scalars(alloc, text)?.as_slice())
+pub(crate) fn formula(alloc: Global, text: &str) -> Result<Formula, FormulaFault> {
+    let scalars = scalars(alloc, text)?;
+    parse(alloc, scalars.as_slice())
 }
 
-pub fn term(alloc: Global, text: &str) -> Result<ObjTerm, FormulaFault> {
-    parse_term(alloc, scalars(alloc, text)?.as_slice())
+pub(crate) fn term(alloc: Global, text: &str) -> Result<ObjTerm, FormulaFault> {
+    let scalars = scalars(alloc, text)?;
+    parse_term(alloc, scalars.as_slice())
+}
+
+/// The formula of a text that is known to be one.
+pub(crate) fn known(alloc: Global, text: &str) -> Result<Formula, AllocError> {
+    match formula(alloc, text) {
+        Ok(formula) => Ok(formula),
+        Err(_) => Err(AllocError),
+    }
 }
 
 /// A text with so many times the same front, and a back.
-pub fn repeated(
+pub(crate) fn repeated(
     alloc: Global,
     front: &str,
     times: usize,

@@ -5,6 +5,7 @@ use nj_tokens::{Lexer, Next, Token};
 use std::alloc::{AllocError, Global};
 use std::test::Fail;
 
+/// The mark of a token.
 fn mark(token: &Token) -> char {
     match token {
         Token::Name(_) => 'n',
@@ -45,19 +46,25 @@ fn marks(alloc: Global, text: &str) -> Result<String, AllocError> {
     Ok(out)
 }
 
+/// A text, and the marks of its tokens.
+struct Row(&'static str, &'static str);
+
+const ROWS: &[Row] = &[
+    Row("A -->", "n0>2"),
+    Row("A $", "n0$2"),
+    Row(
+        "ALL x'. P(x', f_1) & ~Q | R",
+        "n0n4.6n8(9n10,12n14)17&19~21n22|24n26",
+    ),
+    Row(" - ", "$1"),
+    Row("", ""),
+];
+
 #[test]
 fn tokens_have_their_places(rt: HostRuntime) -> Result<(), Fail> {
-    for (text, wanted) in [
-        ("A -->", "n0>2"),
-        ("A $", "n0$2"),
-        (
-            "ALL x'. P(x', f_1) & ~Q | R",
-            "n0n4.6n8(9n10,12n14)17&19~21n22|24n26",
-        ),
-        (" - ", "$1"),
-        ("", ""),
-    ] {
-        assert!(rt; marks(rt.alloc(), text)?.as_str() == wanted, "{text}");
+    for Row(text, want) in ROWS {
+        let told = marks(rt.alloc(), text)?;
+        assert_eq!(rt; told.as_str(), *want);
     }
     Ok(())
 }

@@ -1,93 +1,81 @@
 //! `nj_kernel`: the rules for `ALL`.
 
-use crate::bench::follow;
-use crate::row::Call::{AllE, AllI};
-use crate::row::Row::{self, Assume, Faults, Makes};
-use crate::sketch::A;
-use crate::sketch::Place::{Bound, Free};
-use crate::sketch::Sketch::{self, All, Atom, Exists};
-use nj_kernel::Rule;
+use crate::calls::Call::{AllE, AllI, Assume};
+use crate::scripts::{Row, Script, first_other};
 use std::test::Fail;
 
-const P_OF_X: Sketch = Atom("P", &[Free("x")]);
+const ALL_P: &str = "ALL y. P(y)";
 
-const P_OF_C: Sketch = Atom("P", &[Free("c")]);
+const ALL_TO_THEMSELVES: &str = "ALL y. R(y, y)";
 
-/// ALL y. P(y)
-const ALL_P: Sketch = All("y", &Atom("P", &[Bound(0)]));
+const ALL_TO_SOME: &str = "ALL x. EX y. R(x, y)";
 
-/// EX y. P(y)
-const SOME_P: Sketch = Exists("y", &Atom("P", &[Bound(0)]));
-
-const R_OF_X_X: Sketch = Atom("R", &[Free("x"), Free("x")]);
-/// ALL y. R(y, y)
-const ALL_TO_THEMSELVES: Sketch = All("y", &Atom("R", &[Bound(0), Bound(0)]));
-/// ALL y. R(x, y)
-const X_TO_ALL: Sketch = All("y", &Atom("R", &[Free("x"), Bound(0)]));
-
-/// ALL x. EX y. R(x, y)
-const ALL_TO_SOME: Sketch = All("x", &Exists("y", &Atom("R", &[Bound(1), Bound(0)])));
-/// EX z. R(y, z)
-const Y_TO_SOME: Sketch = Exists("z", &Atom("R", &[Free("y"), Bound(0)]));
-
-#[test]
-fn a_name_that_is_nowhere_free_is_generalized(rt: HostRuntime) -> Result<(), Fail> {
-    const ROWS: &[Row] = &[
-        Assume(ALL_P),
-        Makes(AllE(0, "x"), &[ALL_P], P_OF_X),
-        Makes(AllI("x", 1, ALL_P), &[ALL_P], ALL_P),
-    ];
-    Ok(follow(&rt, rt.alloc(), ROWS)?)
-}
-
-#[test]
-fn a_name_free_in_an_assumption_is_not_generalized(rt: HostRuntime) -> Result<(), Fail> {
-    const ROWS: &[Row] = &[Assume(P_OF_X), Faults(AllI("x", 0, ALL_P), Rule::AllI, 1)];
-    Ok(follow(&rt, rt.alloc(), ROWS)?)
-}
-
-#[test]
-fn a_name_free_in_the_conclusion_is_not_generalized(rt: HostRuntime) -> Result<(), Fail> {
-    const ROWS: &[Row] = &[
-        Assume(ALL_TO_THEMSELVES),
-        Makes(AllE(0, "x"), &[ALL_TO_THEMSELVES], R_OF_X_X),
-        Makes(
-            AllI("x", 1, ALL_TO_THEMSELVES),
-            &[ALL_TO_THEMSELVES],
-            ALL_TO_THEMSELVES,
-        ),
-        Faults(AllI("x", 1, X_TO_ALL), Rule::AllI, 1),
-    ];
-    Ok(follow(&rt, rt.alloc(), ROWS)?)
-}
-
-#[test]
-fn only_an_instance_at_the_name_is_generalized(rt: HostRuntime) -> Result<(), Fail> {
-    const ROWS: &[Row] = &[
-        Assume(ALL_P),
-        Makes(AllE(0, "c"), &[ALL_P], P_OF_C),
-        Faults(AllI("x", 1, ALL_P), Rule::AllI, 1),
-        Faults(AllI("c", 1, SOME_P), Rule::AllI, 1),
-    ];
-    Ok(follow(&rt, rt.alloc(), ROWS)?)
-}
-
-#[test]
-fn only_a_universal_formula_has_instances(rt: HostRuntime) -> Result<(), Fail> {
-    const ROWS: &[Row] = &[
-        Assume(A),
-        Assume(SOME_P),
-        Faults(AllE(0, "c"), Rule::AllE, 1),
-        Faults(AllE(1, "c"), Rule::AllE, 1),
-    ];
-    Ok(follow(&rt, rt.alloc(), ROWS)?)
-}
+const SCRIPTS: &[Script] = &[
+    Script(
+        "a name that is nowhere free is generalized",
+        &[
+            Row(Assume(ALL_P), "ALL y. P(y) |- ALL y. P(y)"),
+            Row(AllE(0, "x"), "ALL y. P(y) |- P(x)"),
+            Row(AllI("x", 1, ALL_P), "ALL y. P(y) |- ALL y. P(y)"),
+        ],
+    ),
+    Script(
+        "a name free in an assumption is not generalized",
+        &[
+            Row(Assume("P(x)"), "P(x) |- P(x)"),
+            Row(AllI("x", 0, ALL_P), "allI blames 1"),
+        ],
+    ),
+    Script(
+        "a name free in the conclusion is not generalized",
+        &[
+            Row(
+                Assume(ALL_TO_THEMSELVES),
+                "ALL y. R(y, y) |- ALL y. R(y, y)",
+            ),
+            Row(AllE(0, "x"), "ALL y. R(y, y) |- R(x, x)"),
+            Row(
+                AllI("x", 1, ALL_TO_THEMSELVES),
+                "ALL y. R(y, y) |- ALL y. R(y, y)",
+            ),
+            Row(AllI("x", 1, "ALL y. R(x, y)"), "allI blames 1"),
+        ],
+    ),
+    Script(
+        "only an instance at the name is generalized",
+        &[
+            Row(Assume(ALL_P), "ALL y. P(y) |- ALL y. P(y)"),
+            Row(AllE(0, "c"), "ALL y. P(y) |- P(c)"),
+            Row(AllI("x", 1, ALL_P), "allI blames 1"),
+            Row(AllI("c", 1, "EX y. P(y)"), "allI blames 1"),
+        ],
+    ),
+    Script(
+        "only a universal formula has instances",
+        &[
+            Row(Assume("A"), "A |- A"),
+            Row(Assume("EX y. P(y)"), "EX y. P(y) |- EX y. P(y)"),
+            Row(AllE(0, "c"), "allE blames 1"),
+            Row(AllE(1, "c"), "allE blames 1"),
+        ],
+    ),
+    Script(
+        "an instance captures no name",
+        &[
+            Row(
+                Assume(ALL_TO_SOME),
+                "ALL x. EX y. R(x, y) |- ALL x. EX y. R(x, y)",
+            ),
+            Row(AllE(0, "y"), "ALL x. EX y. R(x, y) |- EX y'. R(y, y')"),
+        ],
+    ),
+];
 
 #[test]
-fn an_instance_captures_no_name(rt: HostRuntime) -> Result<(), Fail> {
-    const ROWS: &[Row] = &[
-        Assume(ALL_TO_SOME),
-        Makes(AllE(0, "y"), &[ALL_TO_SOME], Y_TO_SOME),
-    ];
-    Ok(follow(&rt, rt.alloc(), ROWS)?)
+fn generalities_are_made_and_used_as_their_rows_say(rt: HostRuntime) -> Result<(), Fail> {
+    for Script(shows, rows) in SCRIPTS {
+        let other = first_other(rt.alloc(), rows)?;
+        assert!(rt; other.is_none(), "{shows}: {other:?}");
+    }
+    Ok(())
 }
