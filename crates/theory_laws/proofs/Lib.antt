@@ -1,0 +1,8 @@
+mod Cutting
+mod Places
+mod Judged
+mod Proving
+mod Stepping
+mod Running
+mod Needed
+mod Documents

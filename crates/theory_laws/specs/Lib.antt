@@ -1,0 +1,4 @@
+pub mod Clean
+pub mod Axioms
+pub mod Facts
+pub mod Imports
