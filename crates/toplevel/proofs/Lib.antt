@@ -1,0 +1,2 @@
+mod CrossingParts
+pub mod Crossing
