@@ -8,7 +8,7 @@ use Rattle.import_rounds.proofs.KnownRounds.{has_both}
 use Rattle.doc_versions.specs.declared.versions.Live.{Live}
 use Rattle.exec_rules.specs.declared.version.Version.{Version}
 use Rattle.core_rules.specs.Assigned.{executions_of, assigns, is_assigned}
-use Rattle.prover_core.specs.Removal.{all_of}
+use Rattle.exec_lists.specs.Gathered.{all_of}
 
 either : (a b : Bool) → (a || b) ≡ true → (a ≡ true) ⊎ (b ≡ true)
 either true b is = inl refl

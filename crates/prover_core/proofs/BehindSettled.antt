@@ -18,7 +18,7 @@ use Rattle.core_rules.specs.Ready.{is_wanted, has_inputs}
 use Rattle.core_rules.specs.Sources.{HasHome}
 use Rattle.core_rules.specs.Stuck.{is_settled, stuck_in}
 use Rattle.prover_core.specs.Kept.{Tables, IsKept, IsBehind}
-use Rattle.prover_core.specs.Results.{is_unfinished}
+use Rattle.exec_lists.specs.Parts.{is_unfinished}
 use Rattle.prover_core.specs.Settling.{IsLeft, IsSettled}
 use Rattle.prover_core.proofs.TipLive.{Laws, laws_of}
 use Rattle.prover_core.proofs.NodeShown.{found_assigns}

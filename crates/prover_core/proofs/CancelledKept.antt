@@ -22,16 +22,9 @@ use Rattle.core_rules.specs.Ready.{is_wanted}
 use Rattle.core_jobs.specs.declared.done.Done.{Done}
 use Rattle.prover_core.specs.Progress.{completed_in, next_of, execution_by, row_by, row_of}
 use Rattle.prover_core.specs.Tasks.{AreTasks, HasTask}
-use Rattle.prover_core.specs.Kept.{Tables, IsKept, IsKnown}
+use Rattle.prover_core.specs.Kept.{Tables, IsKept, IsKnown, IsQuiet}
 use Rattle.prover_core.proofs.OpenRows.{row_known, row_with_mark, done_closed}
-
-turned_by : (e f : ℕ) (b : Bool) → (f == e) ≡ b → (e == f) ≡ false → b ≡ false
-turned_by e f false x is = refl
-turned_by e f true x is = absurd (false≢true (sym is ∙ eq-eqb e f (sym (eqb-true f e x))))
-
--- whichever comes first
-pub turned : (e f : ℕ) → (e == f) ≡ false → (f == e) ≡ false
-turned e f is = turned_by e f (f == e) refl is
+use Rattle.prover_core.proofs.CancelTold.{turned, row as told_row, after_told as told_after}
 
 module _ {S : Type 0} (l : Lang S) (h : List Event) (t : Tables S) (k : IsKept l h t) (e : ℕ) where
   abbrev d : Doc
@@ -44,81 +37,11 @@ module _ {S : Type 0} (l : Lang S) (h : List Event) (t : Tables S) (k : IsKept l
   opened = is_open l h d.homes e
 
   abbrev row : IsKnown l d.homes e → Execution (Done S)
-  row x = execution_by l (has d.cancelled e) e (completed_in h e) x.home x.works_on
+  row x = told_row l h t k e x
 
-  -- where no live version has it
-  pub unknown : cancelling (t.rows e) ≡ answer.Unknown → is_assigned d.live e ≡ false
-  unknown is = go (is_assigned d.live e) refl
-    where
-      some_known : (x : Execution (Done S)) → cancelling (Some x) ≡ answer.Unknown → true ≡ false
-      some_known x same = by (x.cancelled || is_done x.progress) same
-        where
-          by : (b : Bool) → cond b answer.Idle answer.Cancelled ≡ answer.Unknown → true ≡ false
-          by true same = absurd (cc)
-          by false same = absurd (cc)
-
-      go : (b : Bool) → is_assigned d.live e ≡ b → b ≡ false
-      go false x = refl
-      go true x = some_known (row (k.known e x)) (ap cancelling (sym (k.rows e ∙ row_known l h d e (k.known e x) x)) ∙ is)
-
-  -- what the table has, where it has something
-  pub has_row : (is : cancelling (t.rows e) ≡ answer.Unknown → false ≡ true) → is_assigned d.live e ≡ true
-  has_row is = go (is_assigned d.live e) refl
-    where
-      go : (b : Bool) → is_assigned d.live e ≡ b → b ≡ true
-      go true x = refl
-      go false x = is (ap cancelling (k.rows e
-          ∙ ap (λ b. cond b (row_by l (has d.cancelled e) e (completed_in h e) (numbered d.homes e) (setting l d.homes e)) None) x))
-
-  -- it is cancelled or not open, or neither
-  pub told : (live : is_assigned d.live e ≡ true) → cancelling (t.rows e) ≡ cond (has d.cancelled e || not opened) answer.Idle answer.Cancelled
-  told live = ap cancelling (k.rows e ∙ row_known l h d e (k.known e live) live)
-      ∙ ap (λ b. cond (has d.cancelled e || b) answer.Idle answer.Cancelled) (done_closed l h d e (k.known e live))
-
-  pub after_told : (live : is_assigned d.live e ≡ true) → after_cancelling (t.rows e)
+  after_told : (live : is_assigned d.live e ≡ true) → after_cancelling (t.rows e)
       ≡ Some (cond (has d.cancelled e || not opened) (row (k.known e live)) (record (row (k.known e live)) { cancelled = true }))
-  after_told live = ap after_cancelling (k.rows e ∙ row_known l h d e (k.known e live) live)
-      ∙ ap (λ b. Some (cond (has d.cancelled e || b) (row (k.known e live)) (record (row (k.known e live)) { cancelled = true })))
-      (done_closed l h d e (k.known e live))
-
-  pub idle_so : (live : is_assigned d.live e ≡ true) → (has d.cancelled e || not opened) ≡ true
-      → (is_wanted d e && opened) ≡ false
-  idle_so live is = ap (λ b. (b && not (has d.cancelled e)) && opened) live ∙ go (has d.cancelled e) opened is
-    where
-      go : (a b : Bool) → (a || not b) ≡ true → (not a && b) ≡ false
-      go true b x = refl
-      go false true x = absurd (cc)
-      go false false x = refl
-
-  pub cancels_so : (live : is_assigned d.live e ≡ true) → (has d.cancelled e || not opened) ≡ false
-      → (is_wanted d e && opened) ≡ true
-  cancels_so live is = ap (λ b. (b && not (has d.cancelled e)) && opened) live ∙ go (has d.cancelled e) opened is
-    where
-      go : (a b : Bool) → (a || not b) ≡ false → (not a && b) ≡ true
-      go true b x = absurd (cc)
-      go false true x = refl
-      go false false x = absurd (cc)
-
-  -- what was told
-  pub told_idle : cancelling (t.rows e) ≡ answer.Idle → (is_assigned d.live e ≡ true) × ((has d.cancelled e || not opened) ≡ true)
-  told_idle is = (live, by (has d.cancelled e || not opened) (sym (told live) ∙ is))
-    where
-      live : is_assigned d.live e ≡ true
-      live = has_row (λ none. (let clash : answer.Idle ≡ answer.Unknown = sym is ∙ none in absurd (cc)))
-
-      by : (b : Bool) → cond b answer.Idle answer.Cancelled ≡ answer.Idle → b ≡ true
-      by true x = refl
-      by false x = absurd (cc)
-
-  pub told_cancelled : cancelling (t.rows e) ≡ answer.Cancelled → (is_assigned d.live e ≡ true) × ((has d.cancelled e || not opened) ≡ false)
-  told_cancelled is = (live, by (has d.cancelled e || not opened) (sym (told live) ∙ is))
-    where
-      live : is_assigned d.live e ≡ true
-      live = has_row (λ none. (let clash : answer.Cancelled ≡ answer.Unknown = sym is ∙ none in absurd (cc)))
-
-      by : (b : Bool) → cond b answer.Idle answer.Cancelled ≡ answer.Cancelled → b ≡ false
-      by true x = absurd (cc)
-      by false x = refl
+  after_told live = told_after l h t k e live
 
   -- what is cancelled then
   marked_idle : (f : ℕ) → (has d.cancelled e || not opened) ≡ true → has (doc l more).cancelled f ≡ has d.cancelled f
@@ -149,11 +72,11 @@ module _ {S : Type 0} (l : Lang S) (h : List Event) (t : Tables S) (k : IsKept l
   homed f live = k.known f live
 
   -- the other tables, where rows and tasks are right
-  pub kept_with : (rows : ℕ → Option (Execution (Done S))) (tasks : ℕ → Option Task) (room : ℕ) → has_ended h ≡ false
+  pub kept_with : (rows : ℕ → Option (Execution (Done S))) (tasks : ℕ → Option Task) (room : ℕ) (quiet : Bool) → has_ended h ≡ false
       → is_assigned d.live e ≡ true → ((f : ℕ) → rows f ≡ row_of l more (doc l more) f)
-      → ((f : ℕ) → HasTask l more (doc l more) f (tasks f)) → t.room ≤ room
-      → IsKept l more (record t { rows = rows; tasks = tasks; room = room })
-  kept_with rows tasks room going live are have fits = record {
+      → ((f : ℕ) → HasTask l more (doc l more) f (tasks f)) → t.room ≤ room → (quiet ≡ true → IsQuiet (doc l more))
+      → IsKept l more (record t { rows = rows; tasks = tasks; room = room; quiet = quiet })
+  kept_with rows tasks room quiet going live are have fits still = record {
     legal = (k.legal, (going, live));
     start_is = k.start_is;
     live = k.live;
@@ -173,6 +96,7 @@ module _ {S : Type 0} (l : Lang S) (h : List Event) (t : Tables S) (k : IsKept l
     held_next = k.held_next;
     tasks = have;
     ended = k.ended;
+    quiet = still;
     room = omega (arith, fits, k.room);
   }
 
@@ -187,10 +111,10 @@ module _ {S : Type 0} (l : Lang S) (h : List Event) (t : Tables S) (k : IsKept l
       → (has d.cancelled e || not opened) ≡ true
       → ((f : ℕ) → rows f ≡ cond (e == f) (after_cancelling (t.rows e)) (t.rows f))
       → IsKept l more (record t { rows = rows })
-  idle_kept rows going live idle updates = kept_with rows t.tasks t.room going live
+  idle_kept rows going live idle updates = kept_with rows t.tasks t.room t.quiet going live
       (λ f. updates f ∙ same f (e == f) refl ∙ k.rows f ∙ ap (row_with f) (sym (marked_idle f idle)))
       (λ f. subst (λ b. AreTasks (standing h) d.tip d.homes f (present_with f b) (t.tasks f)) (sym (marked_idle f idle)) (k.tasks f))
-      (omega arith)
+      (omega arith) (λ is f there. marked_idle f idle ∙ k.quiet is f there)
     where
       kept : after_cancelling (t.rows e) ≡ t.rows e
       kept = after_told live ∙ ap (λ b. Some (cond b (row (k.known e live)) (record (row (k.known e live)) { cancelled = true }))) idle
@@ -205,10 +129,11 @@ module _ {S : Type 0} (l : Lang S) (h : List Event) (t : Tables S) (k : IsKept l
       → (live : is_assigned d.live e ≡ true) → (has d.cancelled e || not opened) ≡ false
       → ((f : ℕ) → rows f ≡ cond (e == f) (after_cancelling (t.rows e)) (t.rows f))
       → ((f : ℕ) → tasks f ≡ with_standing t.tasks e None f) → t.room ≤ room
-      → IsKept l more (record t { rows = rows; tasks = tasks; room = room })
-  cancelled_kept rows tasks room going live cancels updates gone fits = kept_with rows tasks room going live
+      → IsKept l more (record t { rows = rows; tasks = tasks; room = room; quiet = false })
+  cancelled_kept rows tasks room going live cancels updates gone fits = kept_with rows tasks room false going live
       (λ f. updates f ∙ row_so f (e == f) refl)
       (λ f. subst (λ o. HasTask l more (doc l more) f o) (sym (gone f)) (task_so f (e == f) refl)) fits
+      (λ is. absurd (false≢true is))
     where
       mine : after_cancelling (t.rows e) ≡ row_with e true
       mine = after_told live ∙ ap (λ b. Some (cond b (row (k.known e live)) (record (row (k.known e live)) { cancelled = true }))) cancels

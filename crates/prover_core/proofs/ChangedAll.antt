@@ -3,7 +3,7 @@ use Rattle.std.proofs.Common.{◌≡◌, ℕ, Bool, true, false, cond, ◌||◌,
 use Rattle.std.proofs.lemmas.Bool.{eqb-true}
 use Rattle.std.specs.Prelude.{◌==◌}
 use Rattle.import_rounds.specs.Rounds.{has}
-use Rattle.prover_core.proofs.CancelledKept.{turned}
+use Rattle.prover_core.proofs.CancelTold.{turned}
 use Rattle.import_rounds.proofs.KnownRounds.{has_both}
 
 -- what is there at a number, once it is changed at these

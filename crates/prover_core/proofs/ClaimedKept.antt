@@ -101,5 +101,6 @@ module _ {S : Type 0} (l : Lang S) (h : List Event) (t : Tables S) (k : IsKept l
         (subst (λ o. AreTasks (standing more) d.tip d.homes e o (with_standing t.tasks p.exec (option_map taken (t.tasks p.exec)) e))
         (sym (present_same l d e h more (same e))) (task_by e (p.exec == e) refl));
     ended = k.ended;
+    quiet = k.quiet;
     room = fits;
   }

@@ -28,6 +28,7 @@ ended_kept l h t k going = record {
   held_next = k.held_next;
   tasks = k.tasks;
   ended = refl;
+  quiet = k.quiet;
   room = k.room;
 }
 

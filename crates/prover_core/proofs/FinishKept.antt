@@ -25,7 +25,8 @@ use Rattle.prover_core.specs.Tasks.{task_behind}
 use Rattle.prover_core.specs.Kept.{Tables, IsKept}
 use Rattle.prover_core.proofs.BroughtRows.{right_for, now, can_finish, row_then, behind_is}
 use Rattle.prover_core.proofs.FinishedKept.{finished_kept}
-use Rattle.prover_core.proofs.FinishedTasks.{behind_eval, tasks_then}
+use Rattle.prover_core.proofs.FinishedPart.{behind_eval}
+use Rattle.prover_core.proofs.FinishedTasks.{tasks_then}
 use Rattle.prover_core.proofs.TipLive.{Laws}
 
 module _ {S : Type 0} (l : Lang S) (h : List Event) (t : Tables S) (k : IsKept l h t) (laws : Laws l h) (who : ℕ) (p : Part) (done : Done S)

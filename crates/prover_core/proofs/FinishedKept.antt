@@ -101,5 +101,6 @@ module _ {S : Type 0} (l : Lang S) (h : List Event) (t : Tables S) (k : IsKept l
     held_next = next_held;
     tasks = are;
     ended = k.ended;
+    quiet = k.quiet;
     room = fits;
   }

@@ -25,11 +25,14 @@ use Rattle.prover_core.specs.Progress.{part, completed_in, and_also, next_kind, 
 use Rattle.prover_core.specs.Tasks.{task_behind, is_held, AreTasks, HasTask, present_kind}
 use Rattle.prover_core.specs.Kept.{Tables, IsKept}
 use Rattle.prover_core.proofs.PartsAlike.{elsewhere}
-use Rattle.prover_core.proofs.NextParts.{next_behind, fork_behind, next_opens}
+use Rattle.prover_core.proofs.KindsBehind.{next_behind, fork_behind}
+use Rattle.prover_core.proofs.NextParts.{next_opens}
 use Rattle.prover_core.proofs.Quiet.{next_with, present_same}
 use Rattle.prover_core.proofs.TasksStill.{still, still_behind}
 use Rattle.prover_core.proofs.TipLive.{Laws, in_tip}
 use Rattle.prover_core.proofs.FinishedKept.{apart, here}
+use Rattle.prover_core.proofs.FinishedPart.{next_p as p_is_next, stands_apart as apart_stands, task_apart as apart_task, task_here as here_task}
+use Rattle.prover_core.proofs.EvaluatedTasks.{tasks_behind}
 
 module _ {S : Type 0} (l : Lang S) (h : List Event) (t : Tables S) (k : IsKept l h t) (laws : Laws l h) (who : ℕ) (p : Part)
     (holds : held h who ≡ Some p) (wanted : is_wanted (doc l h) p.exec ≡ true) where
@@ -39,50 +42,16 @@ module _ {S : Type 0} (l : Lang S) (h : List Event) (t : Tables S) (k : IsKept l
   abbrev more : List Event
   more = Finished who p ∷ h
 
-  next_p : next_of l h d p.exec ≡ Some p.kind
-  next_p = k.held_next who p holds
-
-  behind_by : (o : Option Home) → option_and_then (λ (x : Home). next_kind x.input (forks l d.homes p.exec) (completed_in h p.exec)) o ≡ Some p.kind
-      → option_and_then (λ (x : Home). next_kind x.input (forks l d.homes p.exec) (and_also p.kind (completed_in h p.exec))) o
-      ≡ kind_behind p.kind (forks l d.homes p.exec)
-  behind_by None next = absurd (cc)
-  behind_by (Some x) next = next_behind x.input (forks l d.homes p.exec) (completed_in h p.exec) p.kind (k.in_order p.exec) next
-
-  fork_by : (o : Option Home) → option_and_then (λ (x : Home). next_kind x.input (forks l d.homes p.exec) (completed_in h p.exec)) o ≡ Some p.kind
-      → p.kind ≡ kind.Fork → (completed_in h p.exec).eval ≡ true
-  fork_by None next is = absurd (cc)
-  fork_by (Some x) next is = fork_behind x.input (forks l d.homes p.exec) (completed_in h p.exec) (next ∙ ap (λ y. Some y) is)
-
-  -- a fork is finished behind its evaluation
-  pub behind_eval : p.kind ≡ kind.Fork → (completed_in h p.exec).eval ≡ true
-  behind_eval = fork_by (numbered d.homes p.exec) next_p
-
-  -- what is present of the execution then
-  present_here : present_kind l more d p.exec ≡ kind_behind p.kind (forks l d.homes p.exec)
-  present_here = go (assigns d.tip p.exec) (has d.cancelled p.exec)
-      ((in_tip l h t k laws).wanted p.exec wanted (next_opens l h d p.exec p.kind next_p))
-      (not_true (has d.cancelled p.exec) (both-parts (is_assigned d.live p.exec) (not (has d.cancelled p.exec)) wanted).1)
-    where
-      not_true : (b : Bool) → not b ≡ true → b ≡ false
-      not_true true x = absurd (cc)
-      not_true false x = refl
-
-      go : (a b : Bool) → a ≡ true → b ≡ false → cond (a && not b) (next_of l more d p.exec) None ≡ kind_behind p.kind (forks l d.homes p.exec)
-      go true false x y = ap (next_with l d p.exec) (here l h t k laws who p holds wanted) ∙ behind_by (numbered d.homes p.exec) next_p
-      go true true x y = absurd (cc)
-      go false b x y = absurd (cc)
-
   stands_apart : (e : ℕ) → (p.exec == e) ≡ false → (x : PartKind) → standing more (part e x) ≡ standing h (part e x)
-  stands_apart e is x = ap (λ b. cond b Done (standing h (part e x))) (elsewhere p e x is)
+  stands_apart = apart_stands l h t k laws who p holds wanted
 
   task_apart : (e : ℕ) (o : Option Task) → (p.exec == e) ≡ false → AreTasks (standing more) d.tip d.homes e (present_kind l h d e) o
       → HasTask l more d e o
-  task_apart e o is are = subst (λ x. AreTasks (standing more) d.tip d.homes e x o)
-      (sym (present_same l d e h more (apart l h t k laws who p holds wanted e is))) are
+  task_apart = apart_task l h t k laws who p holds wanted
 
   task_here : (o : Option Task) → AreTasks (standing more) d.tip d.homes p.exec (kind_behind p.kind (forks l d.homes p.exec)) o
       → HasTask l more d p.exec o
-  task_here o are = subst (λ x. AreTasks (standing more) d.tip d.homes p.exec x o) (sym present_here) are
+  task_here = here_task l h t k laws who p holds wanted
 
   module _ (other : same_kind p.kind kind.Eval ≡ false) where
     nothing_behind : (x : PartKind) (f : Bool) → same_kind x kind.Eval ≡ false → kind_behind x f ≡ None
@@ -114,65 +83,6 @@ module _ {S : Type 0} (l : Lang S) (h : List Event) (t : Tables S) (k : IsKept l
             task_apart e (tasks e) is (subst (AreTasks (standing more) d.tip d.homes e (present_kind l h d e)) (sym still_there)
             (still (standing h) (standing more) d.tip d.homes e (stands_apart e is) done_still (present_kind l h d e) (t.tasks e) (k.tasks e)))
 
-  module _ (own : p.kind ≡ kind.Eval) where
-    done_behind : (f : ℕ) → is_done (standing more (evaluation f)) ≡ cond (p.exec == f) true (is_done (standing h (evaluation f)))
-    done_behind f = ap (λ x. is_done (cond ((p.exec == f) && same_kind x kind.Eval) Done (standing h (evaluation f)))) own ∙ go (p.exec == f)
-      where
-        go : (b : Bool) → is_done (cond (b && true) Done (standing h (evaluation f))) ≡ cond b true (is_done (standing h (evaluation f)))
-        go true = refl
-        go false = refl
-
-    nobody_forks : (s : Standing) → standing h (part p.exec kind.Fork) ≡ s → is_held s ≡ false
-    nobody_forks Free is = refl
-    nobody_forks Done is = refl
-    nobody_forks (Held w) is =
-        let forks = k.held_next w (part p.exec kind.Fork) ((laws.told w (part p.exec kind.Fork)).1 is) in
-        let both : Some kind.Fork ≡ Some kind.Eval = sym forks ∙ next_p ∙ ap (λ y. Some y) own in absurd (cc)
-
-    fork_free : false ≡ is_held (standing more (part p.exec kind.Fork))
-    fork_free = sym (ap (λ x. is_held (cond ((p.exec == p.exec) && same_kind x kind.Fork) Done (standing h (part p.exec kind.Fork)))) own ∙ go (p.exec == p.exec))
-      where
-        go : (b : Bool) → is_held (cond (b && false) Done (standing h (part p.exec kind.Fork))) ≡ false
-        go true = nobody_forks (standing h (part p.exec kind.Fork)) refl
-        go false = nobody_forks (standing h (part p.exec kind.Fork)) refl
-
-    fork_waits : (f : ℕ) → false ≡ (has (p.exec ∷ []) f && not (is_done (standing more (evaluation f))))
-    fork_waits f = go (f == p.exec) refl
-      where
-        no_more : (b : Bool) → b ≡ true → false ≡ (true && not b)
-        no_more true x = refl
-        no_more false x = absurd (cc)
-
-        go : (b : Bool) → (f == p.exec) ≡ b → false ≡ ((b || false) && not (is_done (standing more (evaluation f))))
-        go true is = no_more (is_done (standing more (evaluation f))) (done_behind f
-            ∙ ap (λ b. cond b true (is_done (standing h (evaluation f)))) (eq-eqb p.exec f (sym (eqb-true f p.exec is))))
-        go false is = refl
-
-    fork_task : (f : Bool) → AreTasks (standing more) d.tip d.homes p.exec (kind_behind kind.Eval f) (task_behind (kind_behind kind.Eval f))
-    fork_task false = tt
-    fork_task true = record { same_kind = refl; urgent = refl; waits = fork_waits; held = fork_free }
-
-    -- an evaluation: nobody waits for it any more, and where its command forks, the fork comes
-    pub tasks_behind : (tasks : ℕ → Option Task) → tasks p.exec ≡ task_behind (kind_behind p.kind (forks l d.homes p.exec))
-        → ((e : ℕ) → e ≢ p.exec → tasks e ≡ option_map (without p.exec) (t.tasks e))
-        → ((e : ℕ) → e ≢ p.exec → option_map_or (λ (s : Task). has_input s.inputs p.exec) (tasks e) false ≡ false)
-        → (e : ℕ) → HasTask l more d e (tasks e)
-    tasks_behind tasks at others free e = go (p.exec == e) refl
-      where
-        mine : AreTasks (standing more) d.tip d.homes p.exec (kind_behind p.kind (forks l d.homes p.exec)) (tasks p.exec)
-        mine = subst (AreTasks (standing more) d.tip d.homes p.exec (kind_behind p.kind (forks l d.homes p.exec))) (sym at)
-            (subst (λ x. AreTasks (standing more) d.tip d.homes p.exec (kind_behind x (forks l d.homes p.exec))
-            (task_behind (kind_behind x (forks l d.homes p.exec)))) (sym own) (fork_task (forks l d.homes p.exec)))
-
-        go : (b : Bool) → (p.exec == e) ≡ b → HasTask l more d e (tasks e)
-        go true is = subst (λ x. HasTask l more d x (tasks x)) (eqb-true p.exec e is) (task_here (tasks p.exec) mine)
-        go false is =
-            let differ = λ (same : e ≡ p.exec). false≢true (sym is ∙ eq-eqb p.exec e (sym same)) in
-            let was = others e differ in
-            task_apart e (tasks e) is (subst (AreTasks (standing more) d.tip d.homes e (present_kind l h d e)) (sym was)
-            (still_behind (standing h) (standing more) d.tip d.homes e (stands_apart e is) p.exec done_behind (present_kind l h d e) (t.tasks e)
-            (k.tasks e) (ap (λ o. option_map_or (λ (s : Task). has_input s.inputs p.exec) o false) (sym was) ∙ free e differ)))
-
   -- so for each kind of part
   pub tasks_then : (tasks : ℕ → Option Task) → tasks p.exec ≡ task_behind (kind_behind p.kind (forks l d.homes p.exec))
       → (p.kind ≡ kind.Eval → (e : ℕ) → e ≢ p.exec → tasks e ≡ option_map (without p.exec) (t.tasks e))
@@ -182,6 +92,6 @@ module _ {S : Type 0} (l : Lang S) (h : List Event) (t : Tables S) (k : IsKept l
   tasks_then tasks at waiters free others = go p.kind refl
     where
       go : (x : PartKind) → p.kind ≡ x → (e : ℕ) → HasTask l more d e (tasks e)
-      go kind.Eval is = tasks_behind is tasks at (waiters is) (free is)
+      go kind.Eval is = tasks_behind l h t k laws who p holds wanted is tasks at (waiters is) (free is)
       go kind.Fork is = let other = ap (λ y. same_kind y kind.Eval) is in tasks_gone other tasks at (others other)
       go kind.Print is = let other = ap (λ y. same_kind y kind.Eval) is in tasks_gone other tasks at (others other)

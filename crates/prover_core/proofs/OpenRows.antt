@@ -18,7 +18,7 @@ use Rattle.core_rules.specs.Standing.{is_finished, is_open}
 use Rattle.core_rules.specs.Doc.{Doc}
 use Rattle.prover_core.specs.Progress.{Completed, part, completed_in, progress_by, result, execution_by, row_by, row_of}
 use Rattle.prover_core.specs.Kept.{IsKnown}
-use Rattle.prover_core.proofs.NextParts.{is_in, finished_is}
+use Rattle.prover_core.proofs.KindsNext.{is_in, finished_is}
 
 module _ {R : Type 0} (brings : PartKind → R) where
   -- all parts are finished where none is unfinished

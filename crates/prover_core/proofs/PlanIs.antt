@@ -36,7 +36,8 @@ use Rattle.prover_core.proofs.UpdatedDoc.{NewLaws}
 use Rattle.prover_core.proofs.NewFacts.{new_laws}
 use Rattle.prover_core.proofs.PlanSources.{sources_told, homes_are, tasks_for}
 use Rattle.prover_core.proofs.TipLive.{tip_live}
-use Rattle.prover_core.proofs.PlanSteps.{PlanLaws, AreSteps}
+use Rattle.prover_core.specs.Laws.{PlanLaws}
+use Rattle.prover_core.proofs.PlanSteps.{AreSteps}
 use Rattle.prover_core.proofs.PlanTip.{below, same_made as made_same, same_new as new_same}
 
 module _ {S : Type 0} (l : Lang S) (h : List Event) (t : Tables S) (k : IsKept l h t) (all : PlanLaws l) (id : ℕ) (nodes : NodeList)

@@ -79,6 +79,7 @@ roomy_tables l h t k versions behind rows homes tasks room begins lives same_beh
   held_next = k.held_next;
   tasks = λ e. subst (HasTask l h (doc l h) e) (sym (same_tasks e)) (k.tasks e);
   ended = k.ended;
+  quiet = k.quiet;
   room = omega (arith, more, k.room);
 }
   where

@@ -39,6 +39,7 @@ use Rattle.prover_core.proofs.Olders.{numbered_last}
 use Rattle.prover_core.proofs.UpdatedDoc.{NewLaws}
 use Rattle.prover_core.proofs.UpdateTables.{no_row}
 use Rattle.core_rules.proofs.KnownNumbers.{numbered_within}
+use Rattle.prover_core.proofs.EvaluatedBy.{evaluated_by}
 
 each_has : (P : ℕ → Type 0) (xs : List ℕ) (e : ℕ) → AllByRecursion P xs → has xs e ≡ true → P e
 each_has P [] e all is = absurd (cc)
@@ -47,25 +48,6 @@ each_has P (x ∷ xs) e all is = go (or_cases (e == x) (has xs e) is) (each_has 
     go : ((e == x) ≡ true) ⊎ (has xs e ≡ true) → (has xs e ≡ true → P e) → P e
     go (inl same) rest = subst P (sym (eqb-true e x same)) all.0
     go (inr there) rest = rest there
-
--- what is evaluated has a result
-evaluated_by : {R : Type 0} (brings : PartKind → R) (forking : Bool) (i : Input) (c : Completed) → is_evaluation i ≡ true
-    → is_some (result_of kind.Eval (progress_by brings forking i c)) ≡ c.eval
-evaluated_by {R} brings forking i c evaluates = go i evaluates
-  where
-    behind : (f g : Bool) → is_some (result_of kind.Eval (behind_eval brings f g)) ≡ true
-    behind false g = refl
-    behind true false = refl
-    behind true true = refl
-
-    by : (b : Bool) → c.eval ≡ b → is_some (result_of kind.Eval (progress_by brings forking (input.Next 0) c)) ≡ b
-    by true is = ap (λ b. is_some (result_of kind.Eval (cond b (behind_eval brings forking c.fork) progress.Evaluating))) is ∙ behind forking c.fork
-    by false is = ap (λ b. is_some (result_of kind.Eval (cond b (behind_eval brings forking c.fork) progress.Evaluating))) is
-
-    go : (i : Input) → is_evaluation i ≡ true → is_some (result_of kind.Eval (progress_by brings forking i c)) ≡ c.eval
-    go (input.First head) so = by c.eval refl
-    go (input.Next e) so = by c.eval refl
-    go (input.Print e) so = absurd (cc)
 
 module _ {S : Type 0} (l : Lang S) (h : List Event) (t : Tables S) (k : IsKept l h t) (id : ℕ) (nodes : NodeList) (blobs : BlobList)
     (laws : NewLaws l h id nodes blobs) (tip_live : (e : ℕ) → assigns (doc l h).tip e ≡ true → is_assigned (doc l h).live e ≡ true)

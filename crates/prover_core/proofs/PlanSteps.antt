@@ -1,4 +1,4 @@
--- What is worked out of an update, and the laws that a plan goes by.
+-- What is worked out of an update.
 use Rattle.std.proofs.Common.{◌≡◌, ℕ, ◌<◌, ◌≤◌, true, false, not, ◌&&◌, List, map, reverse, Some, sym, subst}
 use Rattle.std.specs.Prelude.{slice_get}
 use Rattle.std.specs.List.{AllByRecursion}
@@ -22,16 +22,7 @@ use Rattle.core_rules.specs.Legal.{IsLegal}
 use Rattle.update_plans.specs.declared.steps.Steps.{Steps}
 use Rattle.update_plans.specs.Begun.{AreBegun}
 use Rattle.update_plans.specs.Steps.{update_by, made_by_update, Succeeds}
-use Rattle.prover_core.proofs.PlannedKept.{UpdateLaws}
-
--- what laws say of documents and of assignments, beside those of an update
-pub record PlanLaws {S : Type 0} (l : Lang S) : Type 0 where
-  pub update : UpdateLaws l
-  pub once : (h : List Event) (name other : List ℕ) (i j e : ℕ) (r s : Row) → IsLegal l h → slice_get (rows_in (doc l h).tip name) i ≡ Some r
-      → slice_get (rows_in (doc l h).tip other) j ≡ Some s → has (executions r) e ≡ true → has (executions s) e ≡ true → (name ≡ other) × (i ≡ j)
-  pub same : (tip : Version) (nodes : NodeList) (blobs : BlobList) (one other : List ℕ) (next : ℕ) → AgreeAt tip one other
-      → assignment (record { tip = tip; nodes = nodes; blobs = blobs; cancelled = one }) next
-      ≡ assignment (record { tip = tip; nodes = nodes; blobs = blobs; cancelled = other }) next
+use Rattle.prover_core.specs.Laws.{UpdateLaws}
 
 -- the steps of an update, as they are worked out
 pub record AreSteps {R : Type 0} (rows : List (TableRow R)) (before : Version) (nodes : NodeList) (blobs : BlobList) (next : ℕ) (s : Steps) : Type 0 where

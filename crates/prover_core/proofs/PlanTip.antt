@@ -26,13 +26,14 @@ use Rattle.core_rules.specs.Legal.{IsLegal}
 use Rattle.core_rules.specs.Updates.{FitsUpdate}
 use Rattle.core_jobs.specs.declared.done.Done.{Done}
 use Rattle.update_plans.specs.Beside.{HasKept}
-use Rattle.update_plans.specs.Cancelled.{cancelled_in}
+use Rattle.update_plans.specs.Cancelled.{cancelled_in, IsQuiet as Quiet}
 use Rattle.update_plans.specs.Steps.{update_by, made_by_update, IsSuccessor, Succeeds}
 use Rattle.update_plans.proofs.KnownCancelled.{has_cancelled}
 use Rattle.prover_core.specs.Progress.{completed_in, execution_by, row_by}
-use Rattle.prover_core.specs.Kept.{Tables, IsKnown, IsKept}
+use Rattle.prover_core.specs.Kept.{Tables, IsKnown, IsKept, IsQuiet}
 use Rattle.prover_core.proofs.TipLive.{tip_live}
-use Rattle.prover_core.proofs.PlanSteps.{PlanLaws}
+use Rattle.prover_core.proofs.TipTold.{agree}
+use Rattle.prover_core.specs.Laws.{PlanLaws}
 
 module _ {S : Type 0} (l : Lang S) (h : List Event) (t : Tables S) (k : IsKept l h t) (all : PlanLaws l) (id : ℕ) (nodes : NodeList)
     (blobs : BlobList) (going : has_ended h ≡ false) (fits : (assignment_of (doc l h) nodes blobs).next ≤ id_end → FitsUpdate (doc l h) id nodes blobs)
@@ -55,25 +56,8 @@ module _ {S : Type 0} (l : Lang S) (h : List Event) (t : Tables S) (k : IsKept l
   pub live : (e : ℕ) → assigns d.tip e ≡ true → is_assigned d.live e ≡ true
   live = tip_live l h t k
 
-  row_cancelled : (e : ℕ) (o : Option Home) (s : Option (Setting S)) (x : Home) (y : Setting S) → o ≡ Some x → s ≡ Some y
-      → option_map_or (λ (one : Execution (Done S)). one.cancelled) (row_by l (has d.cancelled e) e (completed_in h e) o s) false ≡ has d.cancelled e
-  row_cancelled e o s x y homed set =
-      ap (λ p. option_map_or (λ (one : Execution (Done S)). one.cancelled) (row_by l (has d.cancelled e) e (completed_in h e) p s) false) homed
-      ∙ ap (λ p. option_map_or (λ (one : Execution (Done S)). one.cancelled) (option_map (execution_by l (has d.cancelled e) e (completed_in h e) x) p) false) set
-
-  -- of what the tip assigns, the table tells what is cancelled
-  agree : AgreeAt d.tip (cancelled_in rows) d.cancelled
-  agree e is =
-      let there = live e is in
-      let known : IsKnown l d.homes e = k.known e there in
-      has_cancelled rows e
-      ∙ ap (λ (o : Option (Execution (Done S))). option_map_or (λ (one : Execution (Done S)). one.cancelled) o false) (are e ∙ k.rows e)
-      ∙ ap (λ b. option_map_or (λ (one : Execution (Done S)). one.cancelled)
-      (cond b (row_by l (has d.cancelled e) e (completed_in h e) (numbered d.homes e) (setting l d.homes e)) None) false) there
-      ∙ row_cancelled e (numbered d.homes e) (setting l d.homes e) known.home known.works_on known.homed known.setting_is
-
   pub same_made : assignment u (next_number d.homes) ≡ made
-  same_made = all.same d.tip nodes blobs (cancelled_in rows) d.cancelled (next_number d.homes) agree
+  same_made = all.same d.tip nodes blobs (cancelled_in rows) d.cancelled (next_number d.homes) (agree l h t k rows are)
 
   pub same_new : made_by_update u (next_number d.homes) ≡ new
   same_new = ap (λ (a : Assignment). version_of nodes blobs a) same_made

@@ -44,25 +44,12 @@ use Rattle.prover_core.proofs.FreshPlan.{homes_in, tasks_in}
 use Rattle.prover_core.proofs.UpdatedDoc.{NewLaws}
 use Rattle.prover_core.proofs.NewFacts.{new_laws}
 use Rattle.prover_core.proofs.UpdatedKept.{updated_kept}
-use Rattle.prover_core.proofs.PlanTables.{rows_are, homes_then, tasks_then}
+use Rattle.prover_core.proofs.PlanTables.{rows_are, homes_then}
+use Rattle.prover_core.proofs.PlanTasks.{tasks_then}
 use Rattle.prover_core.proofs.FreshNew.{fresh_new}
 use Rattle.prover_core.proofs.TipLive.{tip_live}
 use Rattle.prover_core.proofs.LiveIds.{live_ids, fresh_id}
-
--- what laws say of documents and of assignments
-pub record UpdateLaws {S : Type 0} (l : Lang S) : Type 0 where
-  pub tip : (h : List Event) (e : ℕ) → IsLegal l h → assigns (doc l h).tip e ≡ true → HasHome l (doc l h) (doc l h).tip e
-  pub made : (h : List Event) (e : ℕ) → IsLegal l h → is_assigned (doc l h).live e ≡ true → e ≤ length (doc l h).homes
-  pub unmade : (h : List Event) (p : Part) → IsLegal l h → length (doc l h).homes < p.exec → standing h p ≡ Free
-  pub not_again : (h : List Event) (id : ℕ) (nodes : NodeList) (blobs : BlobList) (e : ℕ) → has (doc l h).cancelled e ≡ true
-      → assigns (doc l (event.Update id nodes blobs ∷ h)).tip e ≡ false
-  pub found : (h : List Event) (e : ℕ) → IsLegal l h → assigns (doc l h).tip e ≡ true → RowOf (doc l h).tip e
-  pub there : (v : Version) (name : List ℕ) (i e : ℕ) (row : Row) → slice_get (rows_in v name) i ≡ Some row
-      → has (executions row) e ≡ true → assigns v e ≡ true
-  pub held : (u : Update) (first : ℕ) → AreHeld first u.tip (made_by u (assignment u first).assigned)
-  pub new : (u : Update) (first : ℕ) → AreBelow first u.tip
-      → new_in u first (assignment u first).assigned ≡ with_numbers first (assignment u first).homes
-  pub numbers : (u : Update) (next : ℕ) → (assignment u next).next ≡ next + length (assignment u next).homes
+use Rattle.prover_core.specs.Laws.{UpdateLaws}
 
 module _ {S : Type 0} (l : Lang S) (h : List Event) (t : Tables S) (k : IsKept l h t) (all : UpdateLaws l) (p : PlanState)
     (fresh : List Fresh) (tasks_are : p.tasks ≡ tasks_in fresh) (homes_are : homes_in fresh ≡ p.assignment.homes)
@@ -146,6 +133,7 @@ module _ {S : Type 0} (l : Lang S) (h : List Event) (t : Tables S) (k : IsKept l
         homes = homes;
         tasks = tasks3;
         room = room;
+        quiet = true;
       })
   planned_kept versions begins lives rows1 rows2 tasks1 tasks2 tasks3 homes drop add put out queue see behind number room roomy =
       updated_kept l h t k p.version p.nodes p.blobs laws live legal versions begins

@@ -21,60 +21,7 @@ use Rattle.core_rules.specs.Ready.{is_part, is_wanted, has_inputs, is_ready_in, 
 use Rattle.prover_core.specs.Progress.{part, completed_in, next_of}
 use Rattle.prover_core.specs.Tasks.{present_kind, is_held, IsTaskOf, AreTasks, HasTask}
 use Rattle.prover_core.proofs.NextParts.{next_is_part, next_is_open, open_is_next, next_opens}
-
-not_true : (b : Bool) → not b ≡ true → b ≡ false
-not_true true x = absurd (cc)
-not_true false x = refl
-
--- a part that nobody holds and that is unfinished is free
-free_by : (s : Standing) → is_held s ≡ false → is_done s ≡ false → is_free s ≡ true
-free_by Free x y = refl
-free_by (Held w) x y = absurd (cc)
-free_by Done x y = absurd (cc)
-
-free_so : (s : Standing) → is_free s ≡ true → (is_held s ≡ false) × (is_done s ≡ false)
-free_so Free x = (refl, refl)
-free_so (Held w) x = absurd (cc)
-free_so Done x = absurd (cc)
-
--- all that is waited for is finished, where nothing of it is left
-none_left : (done : ℕ → Bool) (es : List ℕ) → ((f : ℕ) → (has es f && not (done f)) ≡ false) → list_all done es ≡ true
-none_left done [] left = refl
-none_left done (e ∷ es) left = both-hold (done e) (list_all done es) (here (e == e) (eq-eqb e e refl) (has es e) (done e) (left e))
-    (none_left done es (λ f. there (f == e) (has es f) (done f) (left f)))
-  where
-    here : (a : Bool) → a ≡ true → (b c : Bool) → ((a || b) && not c) ≡ false → c ≡ true
-    here true x b true y = refl
-    here true x b false y = absurd (cc)
-    here false x b c y = absurd (cc)
-
-    there : (a b c : Bool) → ((a || b) && not c) ≡ false → (b && not c) ≡ false
-    there true false c y = refl
-    there true true c y = y
-    there false b c y = y
-
--- nothing of it is left, where all is finished
-all_done : (done : ℕ → Bool) (es : List ℕ) → list_all done es ≡ true → (f : ℕ) → (has es f && not (done f)) ≡ false
-all_done done [] all f = refl
-all_done done (e ∷ es) all f = go (f == e) refl (both-parts (done e) (list_all done es) all)
-    (λ rest. all_done done es rest f)
-  where
-    no_left : (a b : Bool) → b ≡ true → ((true || a) && not b) ≡ false
-    no_left a true x = refl
-    no_left a false x = absurd (cc)
-
-    go : (b : Bool) → (f == e) ≡ b → (done e ≡ true) × (list_all done es ≡ true)
-        → (list_all done es ≡ true → (has es f && not (done f)) ≡ false) → ((b || has es f) && not (done f)) ≡ false
-    go true x parts rest = no_left (has es f) (done f) (ap done (eqb-true f e x) ∙ parts.0)
-    go false x parts rest = rest parts.1
-
-no_inputs : (es : List ℕ) → ((f : ℕ) → has_input es f ≡ false) → (length es == 0) ≡ true
-no_inputs [] none = refl
-no_inputs (e ∷ es) none = absurd (false≢true (sym (none e) ∙ or_left (e == e) (has_input es e) (eq-eqb e e refl)))
-
-nothing_waits : (es : List ℕ) → (length es == 0) ≡ true → (f : ℕ) → has_input es f ≡ false
-nothing_waits [] none f = refl
-nothing_waits (e ∷ es) none f = let same = eqb-true (length (e ∷ es)) 0 none in absurd (omega (arith, same))
+use Rattle.prover_core.proofs.WaitedFor.{not_true, free_by, free_so, none_left, all_done, no_inputs, nothing_waits}
 
 module _ {S : Type 0} (l : Lang S) (h : List Event) (d : Doc) (all : ℕ → Option Task) where
   -- the table of tasks is that of the document, all that is wanted and unfinished is in the tip, and

@@ -24,7 +24,7 @@ use Rattle.core_jobs.specs.declared.done.Done.{Done}
 use Rattle.update_plans.specs.declared.known.Known.{Known}
 use Rattle.prover_core.specs.Progress.{completed_in, row_by, row_of}
 use Rattle.prover_core.specs.Kept.{Tables, IsKept, home_of}
-use Rattle.prover_core.specs.Removal.{all_of, named}
+use Rattle.exec_lists.specs.Gathered.{all_of, named}
 use Rattle.prover_core.proofs.AssignedBy.{has_all, some_assigned, parted, has_turned}
 use Rattle.prover_core.proofs.BehindLeft.{left_behind, left_live}
 use Rattle.prover_core.proofs.OpenRows.{row_known}
@@ -139,5 +139,6 @@ module _ {S : Type 0} (l : Lang S) (h : List Event) (t : Tables S) (k : IsKept l
           held_next = k.held_next;
           tasks = k.tasks;
           ended = k.ended;
+          quiet = k.quiet;
           room = k.room;
         }

@@ -30,5 +30,6 @@ roomier l h t k holders holding tasks room same len are more = record {
   held_next = k.held_next;
   tasks = λ e. subst (HasTask l h (doc l h) e) (sym (are e)) (k.tasks e);
   ended = k.ended;
+  quiet = k.quiet;
   room = omega (arith, len, more, k.room);
 }

@@ -21,7 +21,7 @@ use Rattle.core_rules.specs.Ready.{is_part, has_inputs}
 use Rattle.core_rules.specs.Sources.{is_evaluation, IsSource, HasHome}
 use Rattle.core_rules.specs.Stuck.{is_marked, is_stuck, is_over, is_settled}
 use Rattle.prover_core.specs.Progress.{part}
-use Rattle.prover_core.proofs.NextParts.{among_kinds}
+use Rattle.prover_core.proofs.KindsNext.{among_kinds}
 use Rattle.prover_core.proofs.PartKinds.{all_kinds, fork_evaluates, evaluation_among}
 use Rattle.prover_core.proofs.StuckMarks.{AllBelow, marks, marked_at}
 

@@ -20,7 +20,8 @@ use Rattle.core_rules.specs.Doc.{Doc, doc}
 use Rattle.core_rules.specs.Shown.{PartShown, shown_with, commands_parts}
 use Rattle.core_rules.proofs.KnownNumbers.{numbered_within}
 use Rattle.prover_core.specs.Kept.{Tables, IsKept}
-use Rattle.prover_core.specs.Results.{is_reported, parts_known, rows_known, is_unfinished}
+use Rattle.exec_lists.specs.Parts.{parts_known, rows_known, is_unfinished}
+use Rattle.prover_core.specs.Results.{is_reported}
 use Rattle.prover_core.proofs.OpenRows.{row_known, done_closed}
 use Rattle.prover_core.proofs.UpdatedDoc.{has_filter}
 use Rattle.prover_core.proofs.RisenRange.{risen_range}

@@ -30,23 +30,11 @@ use Rattle.prover_core.specs.Progress.{completed_in, next_kind, next_of, row_by,
 use Rattle.prover_core.specs.Kept.{Tables, IsKept, home_of}
 use Rattle.core_rules.proofs.KnownNumbers.{numbered_within}
 use Rattle.prover_core.proofs.BehindKept.{now_behind, now_behind_live}
-use Rattle.prover_core.proofs.UpdatedDoc.{NewLaws, same_home, old_live, new_live}
+use Rattle.prover_core.proofs.UpdatedDoc.{NewLaws, same_home, old_live, new_live, not_cancelled}
 use Rattle.prover_core.proofs.UpdatedRows.{AreRows, known_now, beyond, stays_row, dropped_row, new_row}
-use Rattle.prover_core.proofs.UpdatedTasks.{AreTasksThen, next_old, tasks_now}
-
-last_is : {A : Type 0} (xs : List A) (x : A) → slice_get (xs ++ x ∷ []) (length (xs ++ x ∷ []) - 1) ≡ Some x
-last_is xs x = ap (slice_get (xs ++ x ∷ [])) (long xs) ∙ at xs
-  where
-    long : (ys : List _) → length (ys ++ x ∷ []) - 1 ≡ length ys
-    long ys = omega (arith, counted ys)
-      where
-        counted : (zs : List _) → length (zs ++ x ∷ []) ≡ suc (length zs)
-        counted [] = refl
-        counted (z ∷ zs) = ap suc (counted zs)
-
-    at : (ys : List _) → slice_get (ys ++ x ∷ []) (length ys) ≡ Some x
-    at [] = refl
-    at (y ∷ ys) = at ys
+use Rattle.prover_core.proofs.UpdatedTasks.{AreTasksThen, tasks_now}
+use Rattle.prover_core.proofs.TasksOver.{next_old}
+use Rattle.prover_core.proofs.LastOf.{last_is}
 
 module _ {S : Type 0} (l : Lang S) (h : List Event) (t : Tables S) (k : IsKept l h t) (id : ℕ) (nodes : NodeList) (blobs : BlobList)
     (laws : NewLaws l h id nodes blobs) (tip_live : (e : ℕ) → assigns (doc l h).tip e ≡ true → is_assigned (doc l h).live e ≡ true) where
@@ -129,6 +117,7 @@ module _ {S : Type 0} (l : Lang S) (h : List Event) (t : Tables S) (k : IsKept l
         homes = homes;
         tasks = tasks;
         room = room;
+        quiet = true;
       })
   updated_kept legal versions begins lives fits next next_is within rows are_rows homes are_homes tasks are_tasks free behind put room roomy = record {
     legal = legal;
@@ -152,5 +141,6 @@ module _ {S : Type 0} (l : Lang S) (h : List Event) (t : Tables S) (k : IsKept l
         next_old l h t k id nodes blobs laws tip_live p.exec (made_next p.exec p.kind was) ∙ was;
     tasks = tasks_now l h t k id nodes blobs laws tip_live tasks are_tasks;
     ended = k.ended;
+    quiet = λ is. not_cancelled l h id nodes blobs laws tip_live;
     room = roomy;
   }

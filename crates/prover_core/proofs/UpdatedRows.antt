@@ -25,7 +25,7 @@ use Rattle.prover_core.specs.Plans.{begun}
 use Rattle.prover_core.specs.Kept.{Tables, IsKept, IsKnown}
 use Rattle.core_rules.proofs.KnownNumbers.{numbered_within}
 use Rattle.prover_core.proofs.OpenRows.{row_known, row_with_mark}
-use Rattle.prover_core.proofs.CancelledKept.{after_told}
+use Rattle.prover_core.proofs.CancelTold.{after_told}
 use Rattle.prover_core.proofs.UpdatedDoc.{NewLaws, three, same_home, same_setting, old_live, new_live, cancelled_now, not_cancelled, nothing_done}
 
 module _ {S : Type 0} (l : Lang S) (h : List Event) (t : Tables S) (k : IsKept l h t) (id : ℕ) (nodes : NodeList) (blobs : BlobList)

@@ -30,6 +30,7 @@ use Rattle.prover_core.specs.Plans.{ranked}
 use Rattle.prover_core.specs.Kept.{Tables, IsKept}
 use Rattle.prover_core.proofs.RankedTasks.{ranked_same, ranked_held, ranked_inputs, ranked_urgent}
 use Rattle.prover_core.proofs.UpdatedDoc.{NewLaws, three, same_home, same_setting, not_cancelled, nothing_done}
+use Rattle.prover_core.proofs.TasksOver.{present_old, ranked_are, same_are}
 
 module _ {S : Type 0} (l : Lang S) (h : List Event) (t : Tables S) (k : IsKept l h t) (id : ℕ) (nodes : NodeList) (blobs : BlobList)
     (laws : NewLaws l h id nodes blobs) (tip_live : (e : ℕ) → assigns (doc l h).tip e ≡ true → is_assigned (doc l h).live e ≡ true) where
@@ -45,49 +46,6 @@ module _ {S : Type 0} (l : Lang S) (h : List Event) (t : Tables S) (k : IsKept l
   abbrev new : Version
   new = version_of nodes blobs (assignment_of d nodes blobs)
 
-  pub next_old : (e : ℕ) → e ≤ length d.homes → next_of l more now e ≡ next_of l h d e
-  next_old e le =
-      ap (λ s. option_and_then (λ (x : Home). next_kind x.input (option_map_or (λ w. (made_of l w).forks) s false) (completed_in h e))
-      (numbered now.homes e)) (same_setting l h id nodes blobs laws tip_live e le)
-      ∙ ap (option_and_then (λ (x : Home). next_kind x.input (forks l d.homes e) (completed_in h e)))
-      (same_home l h id nodes blobs laws tip_live e le)
-
-  present_old : (e : ℕ) → e ≤ length d.homes → assigns new e ≡ true → present_kind l more now e ≡ present_kind l h d e
-  present_old e le is =
-      ap (λ b. cond (assigns new e && not b) (next_of l more now e) None) (not_cancelled l h id nodes blobs laws tip_live e is)
-      ∙ ap (λ b. cond (b && true) (next_of l more now e) None) is
-      ∙ next_old e le
-      ∙ sym (ap (λ b. cond (assigns d.tip e && not b) (next_of l h d e) None) (was_not (has d.cancelled e) refl)
-      ∙ ap (λ b. cond (b && true) (next_of l h d e) None) (laws.kept e is le))
-    where
-      was_not : (b : Bool) → has d.cancelled e ≡ b → b ≡ false
-      was_not false x = refl
-      was_not true x = absurd (false≢true (sym (laws.not_again e x) ∙ is))
-
-  waits_old : (e : ℕ) (x : PartKind) → e ≤ length d.homes → waits_by now.homes x e ≡ waits_by d.homes x e
-  waits_old e kind.Fork le = refl
-  waits_old e kind.Eval le = ap (λ o. option_map_or (λ (y : Home). sources_of y.input) o []) (same_home l h id nodes blobs laws tip_live e le)
-  waits_old e kind.Print le = ap (λ o. option_map_or (λ (y : Home). sources_of y.input) o []) (same_home l h id nodes blobs laws tip_live e le)
-
-  ranked_task : (e : ℕ) (x : PartKind) (s : Task) → e ≤ length d.homes → IsTaskOf (standing h) d.tip d.homes e x s
-      → IsTaskOf (standing more) new now.homes e x (ranked (is_visible new e) s)
-  ranked_task e x s le task = record {
-    same_kind = ranked_same (is_visible new e) s ∙ task.same_kind;
-    urgent = ranked_urgent (is_visible new e) (is_visible d.tip e) x s task.same_kind task.urgent;
-    waits = λ f. ap (λ es. has_input es f) (ranked_inputs (is_visible new e) s) ∙ task.waits f
-        ∙ ap (λ ws. has ws f && not (is_done (standing h (evaluation f)))) (sym (waits_old e x le));
-    held = ranked_held (is_visible new e) s ∙ task.held;
-  }
-
-  same_task : (e : ℕ) (x : PartKind) (s : Task) → e ≤ length d.homes → is_visible new e ≡ is_visible d.tip e
-      → IsTaskOf (standing h) d.tip d.homes e x s → IsTaskOf (standing more) new now.homes e x s
-  same_task e x s le sees task = record {
-    same_kind = task.same_kind;
-    urgent = task.urgent ∙ ap (priority_by x) (sym sees);
-    waits = λ f. task.waits f ∙ ap (λ ws. has ws f && not (is_done (standing h (evaluation f)))) (sym (waits_old e x le));
-    held = task.held;
-  }
-
   -- the tasks of an update: those that are dropped are gone, others have their priority told anew
   -- where that is another, and new ones are put in
   pub record AreTasksThen (tasks : ℕ → Option Task) : Type 0 where
@@ -98,20 +56,6 @@ module _ {S : Type 0} (l : Lang S) (h : List Event) (t : Tables S) (k : IsKept l
     pub fresh : (e : ℕ) (x : Home) → length d.homes < e → numbered now.homes e ≡ Some x
         → (s : Task) × (tasks e ≡ Some s) × IsTaskOf (standing more) new now.homes e (first_kind x.input) s
     pub others : (e : ℕ) → length now.homes < e → tasks e ≡ None
-
-  ranked_are : (e : ℕ) (o : Option PartKind) (s : Option Task) → e ≤ length d.homes → AreTasks (standing h) d.tip d.homes e o s
-      → AreTasks (standing more) new now.homes e o (option_map (ranked (is_visible new e)) s)
-  ranked_are e None None le are = are
-  ranked_are e None (Some s) le are = absurd (are)
-  ranked_are e (Some x) None le are = absurd (are)
-  ranked_are e (Some x) (Some s) le are = ranked_task e x s le are
-
-  same_are : (e : ℕ) (o : Option PartKind) (s : Option Task) → e ≤ length d.homes → is_visible new e ≡ is_visible d.tip e
-      → AreTasks (standing h) d.tip d.homes e o s → AreTasks (standing more) new now.homes e o s
-  same_are e None None le sees are = are
-  same_are e None (Some s) le sees are = absurd (are)
-  same_are e (Some x) None le sees are = absurd (are)
-  same_are e (Some x) (Some s) le sees are = same_task e x s le sees are
 
   nothing_there : (e : ℕ) (o : Option PartKind) (s : Option Task) → o ≡ None → AreTasks (standing h) d.tip d.homes e o s → s ≡ None
   nothing_there e None None is are = refl
@@ -148,10 +92,10 @@ module _ {S : Type 0} (l : Lang S) (h : List Event) (t : Tables S) (k : IsKept l
               ⊎ ((tasks e ≡ t.tasks e) × (is_visible new e ≡ is_visible d.tip e)) → HasTask l more now e (tasks e)
           by (inl x) = subst (λ o. AreTasks (standing more) new now.homes e (present_kind l more now e) o) (sym x)
               (subst (λ o. AreTasks (standing more) new now.homes e o (option_map (ranked (is_visible new e)) (t.tasks e)))
-              (sym (present_old e le is)) (ranked_are e (present_kind l h d e) (t.tasks e) le (k.tasks e)))
+              (sym (present_old l h t k id nodes blobs laws tip_live e le is)) (ranked_are l h t k id nodes blobs laws tip_live e (present_kind l h d e) (t.tasks e) le (k.tasks e)))
           by (inr x) = subst (λ o. AreTasks (standing more) new now.homes e (present_kind l more now e) o) (sym x.0)
               (subst (λ o. AreTasks (standing more) new now.homes e o (t.tasks e))
-              (sym (present_old e le is)) (same_are e (present_kind l h d e) (t.tasks e) le x.1 (k.tasks e)))
+              (sym (present_old l h t k id nodes blobs laws tip_live e le is)) (same_are l h t k id nodes blobs laws tip_live e (present_kind l h d e) (t.tasks e) le x.1 (k.tasks e)))
 
       present_new : (x : Home) → length d.homes < e → assigns new e ≡ true → numbered now.homes e ≡ Some x
           → present_kind l more now e ≡ Some (first_kind x.input)

@@ -1,5 +1,6 @@
 -- What a core keeps (this project's own): by all that has happened, each table is told.
-use Rattle.std.specs.Prelude.{◌≡◌, ℕ, ◌<◌, ◌≤◌, Bool, true, if◌then◌else◌, List, Option, Some, None}
+use Rattle.std.specs.Prelude.{◌≡◌, ℕ, ◌<◌, ◌≤◌, Bool, true, false, if◌then◌else◌, List, Option, Some, None}
+use Rattle.import_rounds.specs.Rounds.{has}
 use Rattle.pide_base.specs.Ids.{id_end}
 use Rattle.pide_base.specs.declared.part.Part.{Part}
 use Rattle.doc_versions.specs.Live.{History, version_of, tip_of}
@@ -21,7 +22,7 @@ use Rattle.prover_core.specs.Progress.{row_of, next_of, InOrder, completed_in}
 use Rattle.prover_core.specs.Tasks.{HasTask}
 
 -- the tables of a core, each read by its key; how many parts are held, and how many more tasks
--- there is room for
+-- there is room for; whether it is known that the tip has nothing that is cancelled
 pub record Tables (S : Type 0) : Type 0 where
   pub versions : History Version
   pub behind : ℕ → Option ℕ
@@ -33,6 +34,7 @@ pub record Tables (S : Type 0) : Type 0 where
   pub tasks : ℕ → Option Task
   pub room : ℕ
   pub ended : Bool
+  pub quiet : Bool
 
 -- what an execution goes by that a live version assigns
 abbrev pub home_of : Doc → ℕ → Option Home
@@ -44,6 +46,10 @@ pub record IsBehind (d : Doc) (version : Version) (n : ℕ) : Type 0 where
   pub above : (e : ℕ) → assigns version e ≡ true → e < n
   pub still : (e : ℕ) → assigns d.tip e ≡ true → e < n → assigns version e ≡ true
 
+-- nothing that the tip assigns is cancelled
+abbrev pub IsQuiet : Doc → Type 0
+IsQuiet d = (e : ℕ) → assigns d.tip e ≡ true → has d.cancelled e ≡ false
+
 -- it is known what an execution goes by and works on
 pub record IsKnown {S : Type 0} (l : Lang S) (homes : List Home) (e : ℕ) : Type 0 where
   pub home : Home
@@ -52,9 +58,9 @@ pub record IsKnown {S : Type 0} (l : Lang S) (homes : List Home) (e : ℕ) : Typ
   pub setting_is : setting l homes e ≡ Some works_on
 
 -- they are told by all that has happened: the live versions, with the numbers that came next when
--- they were made; the next execution; of each execution
--- that a live version assigns how far it is, and what it goes by; who holds what; the tasks of the
--- tip; whether all has ended
+-- they were made; the next execution; of each execution that a live version assigns how far it is,
+-- and what it goes by; who holds what; the tasks of the tip; whether all has ended, and whether
+-- something of the tip may be cancelled
 pub record IsKept {S : Type 0} (l : Lang S) (h : List Event) (t : Tables S) : Type 0 where
   pub legal : IsLegal l h
   pub start_is : t.versions.start ≡ start
@@ -76,5 +82,6 @@ pub record IsKept {S : Type 0} (l : Lang S) (h : List Event) (t : Tables S) : Ty
       → next_of l h (doc l h) p.exec ≡ Some p.kind
   pub tasks : (e : ℕ) → HasTask l h (doc l h) e (t.tasks e)
   pub ended : t.ended ≡ has_ended h
+  pub quiet : t.quiet ≡ true → IsQuiet (doc l h)
   -- a finished evaluation whose command forks is followed by its fork's task, in room that is there
   pub room : t.holding ≤ t.room

@@ -4,7 +4,6 @@ pub mod Progress
 pub mod Brought
 pub mod Tasks
 pub mod Kept
-pub mod Inputs
 pub mod Answers
 pub mod Plans
 pub mod Fresh
@@ -13,3 +12,4 @@ pub mod Removal
 pub mod Results
 pub mod Settling
 pub mod Planned
+pub mod Laws

@@ -30,6 +30,7 @@ impl<L: Language> Core<L> {
             Cancelling::Cancelled => {
                 ask_to_stop(&self.known, exec);
                 self.queue.cancel_group(exec);
+                self.quiet = false;
                 self.past.add(Event::Cancel { exec });
                 Cancelling::Cancelled
             }

@@ -74,7 +74,8 @@ pub(crate) fn see_all(queue: &mut TaskQueue, sights: &[Sight])
 
 fn see_one(queue: &mut TaskQueue, sight: &Sight)
     ensures tasks { (e : ℕ) → standing queue.new e
-        ≡ with_standing (standing queue.old) sight.now.exec (option_map (ranked sight.now.visible) (standing queue.old sight.now.exec)) e }
+        ≡ with_standing (standing queue.old) sight.now.exec
+        (option_map (ranked sight.now.visible) (standing queue.old sight.now.exec)) e }
     ensures room { queue.old.room ≤ queue.new.room }
 {
     let evaluates = match queue.get(sight.exec) {

@@ -13,12 +13,12 @@ ghost use Rattle.prover_core.specs.Looked.{looked};
 ghost use Rattle.prover_core.specs.Claims.{ClaimedSo};
 
 use crate::following::same;
-use crate::inputs::Sources;
 use crate::prover::Core;
 use crate::table::{Table, put, reserve_one};
 use core_jobs::Job;
 use core_rules::{Event, first_law, holders_law, homes_law, tip_law};
 use doc_nodes::Shared;
+use job_inputs::input_of;
 use language::Language;
 use past_items::Past;
 use pide_base::Part;
@@ -104,8 +104,7 @@ impl<L: Language> Core<L> {
         };
         let home = known.home.get();
         let nodes = &self.versions.tip().get().nodes;
-        let sources = Sources::of(alloc, lang, &self.execs, nodes);
-        let input = sources.input_of(home)?;
+        let input = input_of(alloc, lang, &self.execs, nodes, home)?;
         let source = home.source.copy()?;
         let blob = copied(&home.blob)?;
         let flag = known.flag.share()?;

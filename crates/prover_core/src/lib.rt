@@ -6,16 +6,13 @@
 #![tactic(auto)]
 
 mod adding;
-mod called;
 mod cancelling;
 mod changing;
 mod claiming;
 mod finishing;
 mod following;
 mod forgetting;
-mod gathering;
-mod imported;
-mod inputs;
+mod laws;
 mod numbers;
 mod plan;
 mod planning;
@@ -23,15 +20,15 @@ mod prover;
 mod removing;
 mod results;
 mod settling;
-mod shown;
 mod spare;
 mod table;
 mod updating;
 
 pub use claiming::Claim;
+pub use exec_lists::{NodeResults, PartResult};
 pub use finishing::{Finish, GiveUp};
 pub use plan::Plan;
 pub use planning::PlanFault;
 pub use prover::Core;
-pub use results::{NodeResults, PartResult};
+
 pub use settling::Settled;

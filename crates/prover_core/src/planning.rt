@@ -10,14 +10,15 @@ ghost use Rattle.update_plans.specs.Alive.{HaveCommands};
 ghost use Rattle.prover_core.specs.Plans.{IsPlanOf, HasRoom};
 ghost use Rattle.prover_core.specs.Planned.{plan_of};
 
+use crate::laws::plan_laws;
 use crate::plan::Plan;
 use crate::prover::Core;
 use crate::spare::make_room;
-use core_rules::{Event, cancelled_law, homes_law, places_law};
+use core_rules::Event;
 use doc_nodes::Nodes;
 use doc_versions::Version as SharedVersion;
-use exec_assign::{AssignFault, ChangedBlobs, new_numbers_law};
-use exec_rules::{Blobs, numbers_law};
+use exec_assign::{AssignFault, ChangedBlobs};
+use exec_rules::Blobs;
 use language::Language;
 use pide_base::VersionId;
 use std::alloc::{AllocError, Global};
@@ -30,7 +31,8 @@ pub type PlanFault = AssignFault;
 impl<L: Language> Core<L> {
     /// Works an update out, and makes all room for it: nothing but spare room changes. The names of
     /// the blobs that changed are told, and by marks, in the order of names, which nodes have the
-    /// commands that they had. `Limit` comes exactly where a new execution would have no id.
+    /// commands that they had. `Limit` comes only where a new execution would have no id, and there
+    /// nothing is planned.
     pub fn plan(
         &mut self,
         alloc: Global,
@@ -89,12 +91,7 @@ impl<L: Language> Core<L> {
         ensures limit { result ≡ Err Limit
             → id_end < (assignment_of (doc L.lang self.now.past) nodes.now blobs.now).next }
     {
-        homes_law::<L>();
-        places_law::<L>();
-        cancelled_law::<L>();
-        exec_assign::cancelled_law();
-        new_numbers_law();
-        numbers_law();
+        plan_laws::<L>();
         let tip = self.versions.tip().get();
         let steps = work_out(
             alloc,
@@ -105,6 +102,7 @@ impl<L: Language> Core<L> {
             blobs,
             changed,
             marks,
+            self.quiet,
         )?;
         Ok(steps)
     }

@@ -37,6 +37,8 @@ pub struct Core<L: Language> {
     pub(crate) holders: Table<Part>,
     pub(crate) queue: TaskQueue,
     pub(crate) ended: bool,
+    /// Whether nothing that the tip assigns was cancelled since it was made.
+    pub(crate) quiet: bool,
 }
 
 impl<L: Language> Model for Core<L> {
@@ -72,6 +74,7 @@ impl<L: Language> Model for Core<L> {
       tasks = λ e. standing c.queue e;
       room = c.queue.room;
       ended = c.ended;
+      quiet = c.quiet;
     }) };
 }
 
@@ -98,6 +101,7 @@ impl<L: Language> Core<L> {
                 holders: HashMap::new(alloc),
                 queue: TaskQueue::new(alloc),
                 ended: false,
+                quiet: true,
             }),
         }
     }

@@ -7,11 +7,11 @@ ghost use Rattle.core_rules.specs.Legal.{IsLegal};
 ghost use Rattle.prover_core.specs.Removal.{with_removal};
 
 use crate::forgetting::forget_all;
-use crate::gathering::{departing, rising, staying};
 use crate::numbers::forget_ids;
 use crate::prover::Core;
 use core_rules::Event;
 use doc_versions::Removing;
+use exec_lists::{departing, rising, staying};
 use language::Language;
 use past_items::Past;
 use pide_base::VersionId;

@@ -1,26 +1,19 @@
 //! How far versions are.
-ghost use Rattle.std.specs.Prelude.{◌≡◌, ◌<◌, ◌≤◌, ℕ, true, false, filter, length, slice_index_or, is_some, Some, AllPairs, IfSome, IfNone, IfOk, OnErr};
-ghost use Rattle.std.specs.List.Sorted.{IsStrictlyIncreasing};
-ghost use Rattle.import_rounds.specs.Rounds.{has};
+ghost use Rattle.std.specs.Prelude.{◌≡◌, ◌<◌, ◌≤◌, ℕ, true, false, length, slice_index_or, is_some, Some, AllPairs, IfSome, IfNone, IfOk, OnErr};
 ghost use Rattle.pide_base.specs.declared.part.Part.{Part};
-ghost use Rattle.exec_table.specs.Rows.{execution_of};
 ghost use Rattle.task_queue.specs.Tasks.{standing};
 ghost use Rattle.task_queue.specs.Ready.{IsReadyPart, priority_of, comes_first};
-ghost use Rattle.core_rules.specs.Assigned.{executions_of};
 ghost use Rattle.prover_core.specs.Looked.{looked};
-ghost use Rattle.prover_core.specs.Results.{is_unfinished};
 ghost use Rattle.prover_core.specs.Settling.{IsSettled, SettledSo};
 
 use crate::following::{is_present, same};
-use crate::gathering::{add_version, open_of, rising};
 use crate::prover::Core;
 use crate::table::Table;
 use core_rules::{holders_law, homes_law, tip_law};
-use exec_rules::Version;
-use exec_table::Execs;
+use exec_lists::open_in;
 use language::Language;
 use pide_base::{ExecId, Part, VersionId};
-use std::alloc::{AllocError, Global};
+use std::alloc::AllocError;
 use task_queue::{Priority, TaskQueue};
 
 /// How far a version is.
@@ -58,18 +51,6 @@ impl<L: Language> Core<L> {
         }
         Ok(Settled::Settled(open_in(self.alloc, &self.execs, version.get())?))
     }
-}
-
-/// The executions that a version assigns with an unfinished part, rising.
-fn open_in<R>(alloc: Global, execs: &Execs<R>, version: &Version) -> Result<Vec<ExecId>, AllocError>
-    ensures rises { IfOk result (λ found. IsStrictlyIncreasing found.items) }
-    ensures same { IfOk result (λ found. (e : ℕ) → has found.items e
-        ≡ has (filter (λ n. is_unfinished (execution_of execs.now.rows n))
-        (executions_of version.now)) e) }
-{
-    let mut all = Vec::new(alloc);
-    add_version(&mut all, version)?;
-    Ok(rising(open_of(alloc, execs, &all)?))
 }
 
 /// A ready part of an execution below this number: one of the oldest of its priority.

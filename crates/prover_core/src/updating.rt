@@ -10,12 +10,11 @@ ghost use Rattle.prover_core.specs.Plans.{IsPlanOf, HasRoom, made_version};
 
 use crate::adding::add_all;
 use crate::changing::{drop_all, see_all};
+use crate::laws::plan_laws;
 use crate::numbers::note;
 use crate::plan::Plan;
 use crate::prover::Core;
-use core_rules::{cancelled_law, homes_law, places_law};
-use exec_assign::{ToldNode, new_numbers_law};
-use exec_rules::numbers_law;
+use exec_assign::ToldNode;
 use language::Language;
 use past_items::Past;
 
@@ -33,11 +32,7 @@ impl<L: Language> Core<L> {
             ≡ listed (doc L.lang self.old.past).tip (made_version plan) }
         ensures legal { IsLegal L.lang self.new.past }
     {
-        homes_law::<L>();
-        places_law::<L>();
-        cancelled_law::<L>();
-        new_numbers_law();
-        numbers_law();
+        plan_laws::<L>();
         let Plan {
             id,
             version,
@@ -54,6 +49,7 @@ impl<L: Language> Core<L> {
         self.versions.push(id, version);
         note(&mut self.behind, id, next);
         self.next = next;
+        self.quiet = true;
         self.past.add(event);
         told
     }

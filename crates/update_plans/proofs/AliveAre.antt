@@ -16,14 +16,26 @@ use Rattle.exec_rules.specs.Kept.{BlobList}
 use Rattle.exec_rules.specs.Rows.{live_print}
 use Rattle.exec_rules.specs.Assigning.{rows_in}
 use Rattle.exec_assign.specs.Untouched.{IsAlive, AreUntouched}
-use Rattle.update_plans.specs.Cancelled.{is_cancelled, cancelled_in}
+use Rattle.exec_rules.specs.Listed.{executions}
+use Rattle.core_rules.specs.Assigned.{assigns}
+use Rattle.import_rounds.specs.Rounds.{has}
+use Rattle.update_plans.specs.Cancelled.{is_cancelled, cancelled_in, IsQuiet}
 use Rattle.update_plans.specs.Alive.{is_alive, lives, HaveCommands}
 use Rattle.update_plans.proofs.KnownCancelled.{has_cancelled}
+use Rattle.update_plans.proofs.Named.{there_row, of_row}
 
 all_at : {X : Type 0} (test : X → Bool) (xs : List X) (i : ℕ) (x : X) → list_all test xs ≡ true → slice_get xs i ≡ Some x → test x ≡ true
 all_at test [] i x all at = absurd (cc)
 all_at test (y ∷ xs) zero x all at = let same : y ≡ x = cc in ap test (sym same) ∙ (both-parts (test y) (list_all test xs) all).0
 all_at test (y ∷ xs) (suc i) x all at = all_at test xs i x (both-parts (test y) (list_all test xs) all).1 at
+
+all_so : {X : Type 0} (test : X → Bool) (xs : List X) → ((i : ℕ) (x : X) → slice_get xs i ≡ Some x → test x ≡ true) → list_all test xs ≡ true
+all_so test [] each = refl
+all_so test (x ∷ xs) each = both (test x) (list_all test xs) (each 0 x refl) (all_so test xs (λ i y at. each (suc i) y at))
+  where
+    both : (a b : Bool) → a ≡ true → b ≡ true → (a && b) ≡ true
+    both true b is all = all
+    both false b is all = is
 
 unless : (b : Bool) → not b ≡ true → b ≡ false
 unless true is = absurd (false≢true is)
@@ -81,3 +93,28 @@ module _ {R : Type 0} (rows : List (TableRow R)) where
         commands = commands p pair both.0 at;
         alive = λ i row on. living row (all_at (is_alive rows) (rows_in before pair.0) i row both.1 on);
       }
+
+  -- where nothing that a version assigns is cancelled, its rows are alive
+  pub quiet_alive : (v : Version) (name : List ℕ) → IsQuiet rows v → list_all (is_alive rows) (rows_in v name) ≡ true
+  quiet_alive v name quiet = all_so (is_alive rows) (rows_in v name) alive
+    where
+      never : (e : ℕ) → is_cancelled rows e ≡ false → not (is_cancelled rows e) ≡ true
+      never e is = ap not is
+
+      alive : (i : ℕ) (row : Row) → slice_get (rows_in v name) i ≡ Some row → is_alive rows row ≡ true
+      alive i row at = both (not (is_cancelled rows row.evaluation)) (lives rows row.print)
+          (never row.evaluation (quiet row.evaluation (there_row v name i row.evaluation row at (of_row row row.evaluation (inl refl)))))
+          (printed row.print refl)
+        where
+          both : (a b : Bool) → a ≡ true → b ≡ true → (a && b) ≡ true
+          both true b is all = all
+          both false b is all = is
+
+          printed : (o : Option ℕ) → row.print ≡ o → lives rows o ≡ true
+          printed None is = refl
+          printed (Some q) is = never q (quiet q (there_row v name i q row at (of_row row q (inr is))))
+
+  -- so a node that is marked is untouched
+  pub quiet_marked : (v : Version) (name : List ℕ) (b : Bool) → b ≡ true → IsQuiet rows v
+      → true ≡ (b && list_all (is_alive rows) (rows_in v name))
+  quiet_marked v name b is quiet = sym (ap (λ x. x && list_all (is_alive rows) (rows_in v name)) is ∙ quiet_alive v name quiet)

@@ -6,7 +6,7 @@ ghost use Rattle.doc_nodes.specs.declared.node.Node.{Node};
 ghost use Rattle.exec_rules.specs.Assigning.{rows_in};
 ghost use Rattle.exec_rules.specs.Kept.{BlobList};
 ghost use Rattle.exec_assign.specs.Untouched.{AreUntouched};
-ghost use Rattle.update_plans.specs.Cancelled.{cancelled_in};
+ghost use Rattle.update_plans.specs.Cancelled.{cancelled_in, IsQuiet};
 ghost use Rattle.update_plans.specs.Alive.{is_alive, lives, HaveCommands};
 
 use crate::beside::{has_mark, rows_in};
@@ -26,8 +26,10 @@ pub fn untouched<R>(
     before: &Version,
     nodes: &Nodes,
     marks: &[bool],
+    quiet: bool,
 ) -> Result<Vec<bool>, AllocError>
-    requires { HaveCommands before.now nodes.now marks.now }
+    requires commands { HaveCommands before.now nodes.now marks.now }
+    requires quiet { quiet ≡ true → IsQuiet execs.now.rows before.now }
     ensures marks { IfOk result (λ all. (p : ℕ) (pair : List ℕ × Node)
         → slice_get nodes.now p ≡ Some pair → marked all.items p
         ≡ (marked marks.now p && list_all (is_alive execs.now.rows) (rows_in before.now pair.0))) }
@@ -40,7 +42,7 @@ pub fn untouched<R>(
 {
     let mut all = Vec::new(alloc);
     'nodes: for place in 0..nodes.len() {
-        all.push(is_untouched(execs, before, nodes, marks, place))?;
+        all.push(is_untouched(execs, before, nodes, marks, quiet, place))?;
     }
     Ok(all)
 }
@@ -51,14 +53,19 @@ fn is_untouched<R>(
     before: &Version,
     nodes: &Nodes,
     marks: &[bool],
+    quiet: bool,
     place: usize,
 ) -> bool
+    requires { quiet ≡ true → IsQuiet execs.now.rows before.now }
     ensures { (pair : List ℕ × Node) → slice_get nodes.now place ≡ Some pair
         → result ≡ (marked marks.now place
         && list_all (is_alive execs.now.rows) (rows_in before.now pair.0)) }
 {
     if !has_mark(marks, place) {
         return false;
+    }
+    if quiet {
+        return true;
     }
     match nodes.at(place) {
         Some((name, _)) => are_alive(execs, rows_in(before, name)),

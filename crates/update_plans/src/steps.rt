@@ -1,5 +1,5 @@
 //! All that an update will do.
-ghost use Rattle.std.specs.Prelude.{◌≡◌, ◌&&◌, ◌+◌, ◌<◌, ◌≤◌, ℕ, false, not, length, map, reverse, Err, IfOk};
+ghost use Rattle.std.specs.Prelude.{◌≡◌, ◌&&◌, ◌+◌, ◌<◌, ◌≤◌, ℕ, true, false, not, length, map, reverse, Err, IfOk};
 ghost use Rattle.std.specs.List.{AllByRecursion};
 ghost use Rattle.import_rounds.specs.Rounds.{has};
 ghost use Rattle.pide_base.specs.Ids.{id_end};
@@ -12,6 +12,7 @@ ghost use Rattle.exec_assign.specs.Untouched.{AreChanged};
 ghost use Rattle.core_rules.specs.Assigned.{assigns, is_visible};
 ghost use Rattle.update_plans.specs.Alive.{HaveCommands};
 ghost use Rattle.update_plans.specs.Begun.{AreBegun};
+ghost use Rattle.update_plans.specs.Cancelled.{IsQuiet};
 ghost use Rattle.update_plans.specs.Steps.{update_by, made_by_update, Succeeds};
 
 use crate::beginning::Fresh;
@@ -45,8 +46,10 @@ pub struct Steps {
 
 /// What the update of a version to these nodes and blobs will do, when the table has how far its
 /// executions are and this is the next one's number. The names of the blobs that changed are told,
-/// and by marks, in the order of names, which nodes have the commands that they had. `Limit` comes
-/// exactly where a new execution would have no id.
+/// and by marks, in the order of names, which nodes have the commands that they had. Where it is
+/// quiet, nothing that the version assigns is cancelled, and no row of a node that is marked is
+/// looked at to see that. `Limit` comes only where a new execution would have no id, and there
+/// nothing is worked out.
 pub fn work_out<R>(
     alloc: Global,
     execs: &Execs<R>,
@@ -56,11 +59,13 @@ pub fn work_out<R>(
     blobs: &Blobs,
     changed: &ChangedBlobs,
     marks: &[bool],
+    quiet: bool,
 ) -> Result<Steps, AssignFault>
     requires first { 1 ≤ next }
     requires next { next ≤ id_end }
     requires changed { AreChanged changed.now before.now.blobs blobs.now }
     requires commands { HaveCommands before.now nodes.now marks.now }
+    requires quiet { quiet ≡ true → IsQuiet execs.now.rows before.now }
     requires fits { RowsFit before.now }
     requires succeeds { Succeeds (update_by execs.now.rows before.now nodes.now blobs.now) next }
     ensures version { IfOk result (λ steps. steps.version
@@ -85,7 +90,7 @@ pub fn work_out<R>(
         < (assignment (update_by execs.now.rows before.now nodes.now blobs.now) next).next }
 {
     numbers_law();
-    let marks = untouched(alloc, execs, before, nodes, marks)?;
+    let marks = untouched(alloc, execs, before, nodes, marks, quiet)?;
     let cancelled = CancelledOf::of(execs);
     let update = Update::of(alloc, before, nodes, blobs, &cancelled, changed, &marks)?;
     let made = update.assign(alloc, next)?;

@@ -17,6 +17,6 @@ returns-clause-marks g c =
 
 pub returns-clause-untouched : goal.returns-clause-untouched
 returns-clause-untouched g c = λ blobs.
-    untouched_are c.args.execs.now.rows c.args.before.now c.args.nodes.now blobs c.args.marks.now c.nodes.all.items c.requires
+    untouched_are c.args.execs.now.rows c.args.before.now c.args.nodes.now blobs c.args.marks.now c.nodes.all.items c.requires.commands
     (all_told c.args.execs.now.rows c.args.before.now c.args.nodes.now c.args.marks.now c.nodes.place c.nodes.all.items
     (omega (arith, c.nodes-test.false, c.len-place-end.ensures)) c.nodes.invariant.tells)

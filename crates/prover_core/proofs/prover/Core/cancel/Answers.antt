@@ -2,7 +2,8 @@ use Rattle.std.proofs.Common.{◌≡◌, false, sym, subst, ◌∙◌}
 use Rattle.core_rules.specs.Standing.{has_ended}
 use Rattle.prover_core.specs.States.{CoreState}
 use Rattle.prover_core.proofs.EndedKept.{moved}
-use Rattle.prover_core.proofs.CancelledKept.{told_idle, told_cancelled, idle_kept, cancelled_kept}
+use Rattle.prover_core.proofs.CancelTold.{told_idle, told_cancelled}
+use Rattle.prover_core.proofs.CancelledKept.{idle_kept, cancelled_kept}
 use Rattle.prover_core.proofs.prover.Core.cancel.Goals as goal
 
 pub invariant_of-self-in-Idle : goal.invariant_of-self-in-Idle

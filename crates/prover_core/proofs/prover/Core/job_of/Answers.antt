@@ -1,12 +1,10 @@
 use Rattle.std.proofs.Common.{◌≡◌, Some, sym, ap, subst, ◌∙◌, rules}
-use Rattle.std.specs.Option.{IsSome, option_copied, option_map}
+use Rattle.std.specs.Option.{option_copied, option_map}
 use Rattle.exec_rules.specs.declared.home.Home.{Home}
 use Rattle.exec_rules.specs.declared.version.Version.{Version}
 use Rattle.core_rules.specs.Doc.{doc}
 use Rattle.core_rules.specs.Ready.{first_ready}
 use Rattle.core_rules.specs.Settings.{setting}
-use Rattle.exec_table.specs.Rows.{Table}
-use Rattle.prover_core.specs.Inputs.{known_state, found_input}
 use Rattle.prover_core.specs.Looked.{looked}
 use Rattle.prover_core.specs.States.{CoreState}
 use Rattle.prover_core.proofs.TipLive.{laws_of}
@@ -29,16 +27,12 @@ input_of-requires g c =
     let laws = laws_of _ _ _ c.self.invariant c.tip_law.ensures c.holders_law.ensures.told in
     let home = ap (option_map (λ k. k.home)) (ap (looked c.self.inside.known) (sym c.number.ensures.value) ∙ sym c.get.ensures.value
     ∙ ap option_copied c.in-Some.is) ∙ ap (λ (x : Home). Some x) (sym c.get-home.ensures) in
-    let nodes = c.of-sources.ensures.nodes ∙ ap (λ (v : Version). v.nodes) (c.get-2.ensures ∙ c.tip.ensures) in
+    let nodes = ap (λ (v : Version). v.nodes) (c.get-2.ensures ∙ c.tip.ensures) in
     let there = job_there _ _ _ c.self.invariant laws (c.first_law.ensures.first c.self.inside.past) (c.first_law.ensures.none c.self.inside.past)
     (λ e is. c.homes_law.ensures.tip c.self.inside.past e c.self.invariant.legal is)
-    (λ p going. c.homes_law.ensures.begun c.self.inside.past p c.self.invariant.legal going) c.args.part.now first c.of-sources.result.nodes.now nodes c.get-home.result.now home in (
+    (λ p going. c.homes_law.ensures.begun c.self.inside.past p c.self.invariant.legal going) c.args.part.now first c.get-2.result.now.nodes nodes c.get-home.result.now home in (
       search rules,
-      (
-        search rules,
-        subst (λ (x : Table _). IsSome (found_input g.L.Language.lang c.of-sources.result.nodes.now
-            (known_state x.rows) c.get-home.result.now.input)) (sym c.of-sources.ensures.execs) there,
-      ),
+      (search rules, there),
     )
 
 pub returns : goal.returns
@@ -47,13 +41,11 @@ returns g c =
     let laws = laws_of _ _ _ c.self.invariant c.tip_law.ensures c.holders_law.ensures.told in
     let home = ap (option_map (λ k. k.home)) (ap (looked c.self.inside.known) (sym c.number.ensures.value) ∙ sym c.get.ensures.value
     ∙ ap option_copied c.in-Some.is) ∙ ap (λ (x : Home). Some x) (sym c.get-home.ensures) in
-    let nodes = c.of-sources.ensures.nodes ∙ ap (λ (v : Version). v.nodes) (c.get-2.ensures ∙ c.tip.ensures) in
-    let found = subst (λ (x : Table _). found_input g.L.Language.lang c.of-sources.result.nodes.now
-    (known_state x.rows) c.get-home.result.now.input ≡ Some c.in_ok-input.input) c.of-sources.ensures.execs c.in_ok-input.ensures in
+    let nodes = ap (λ (v : Version). v.nodes) (c.get-2.ensures ∙ c.tip.ensures) in
     let right = job_right _ _ _ c.self.invariant laws (c.first_law.ensures.first c.self.inside.past) (c.first_law.ensures.none c.self.inside.past)
     (λ e is. c.homes_law.ensures.tip c.self.inside.past e c.self.invariant.legal is)
-    (λ p going. c.homes_law.ensures.begun c.self.inside.past p c.self.invariant.legal going) c.args.part.now first c.of-sources.result.nodes.now nodes c.get-home.result.now home
-    c.in_ok-input.input found in
+    (λ p going. c.homes_law.ensures.begun c.self.inside.past p c.self.invariant.legal going) c.args.part.now first c.get-2.result.now.nodes nodes c.get-home.result.now home
+    c.in_ok-input.input c.in_ok-input.ensures in
     job_made g.L.Language.lang (doc g.L.Language.lang c.args.self.now.past).homes c.args.part.now c.same.result _ _ _ _ _
     c.same.ensures c.in_ok-source.ensures c.in_ok-blob.ensures
     (ap (λ (s : CoreState). setting g.L.Language.lang (doc g.L.Language.lang s.past).homes c.args.part.now.exec) (sym c.self.view_is) ∙ right)

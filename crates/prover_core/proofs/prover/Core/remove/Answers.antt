@@ -9,7 +9,7 @@ use Rattle.core_rules.specs.Standing.{has_ended}
 use Rattle.core_rules.specs.declared.event.Event.TheVariants.{Remove}
 use Rattle.prover_core.specs.States.{CoreState}
 use Rattle.prover_core.specs.Looked.{looked}
-use Rattle.prover_core.specs.Removal.{all_of, named}
+use Rattle.exec_lists.specs.Gathered.{all_of, named}
 use Rattle.prover_core.proofs.EndedKept.{moved}
 use Rattle.prover_core.proofs.RemovedKept.{removed_kept}
 use Rattle.prover_core.proofs.prover.Core.remove.Goals as goal

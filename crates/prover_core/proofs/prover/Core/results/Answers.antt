@@ -6,9 +6,10 @@ use Rattle.doc_nodes.specs.Imports.{place_of}
 use Rattle.doc_versions.specs.Live.{version_of}
 use Rattle.exec_rules.specs.Assigning.{entries_at}
 use Rattle.exec_rules.specs.Listed.{executions}
-use Rattle.prover_core.specs.declared.results.NodeResults.{NodeResults}
+use Rattle.exec_lists.specs.declared.results.NodeResults.{NodeResults}
 use Rattle.prover_core.specs.States.{CoreState}
-use Rattle.prover_core.specs.Results.{rows_known, is_unfinished, AreResultsIn}
+use Rattle.exec_lists.specs.Parts.{rows_known, is_unfinished}
+use Rattle.prover_core.specs.Results.{AreResultsIn}
 use Rattle.prover_core.proofs.NodeShown.{results_so}
 use Rattle.prover_core.proofs.prover.Core.results.Goals as goal
 
@@ -20,10 +21,7 @@ returns g c =
     let table = λ (e : ℕ). execution_of c.self.inside.execs.rows e in
     let live = ap (λ lv. version_of lv c.args.id) (sym c.self.invariant.live) ∙ sym c.in-Some.ensures ∙ ap Some (sym c.get-version.ensures) in
     let at : place_of v.nodes c.args.name.now ≡ Some place = search rules in
-    let found : NodeResults = record { parts = c.in_ok-finished_parts.field-0; pending = c.in_ok-pending_in.field-0 } in
+    let found : NodeResults = c.in_ok-results.results in
     subst (λ (s : CoreState). AreResultsIn l s.past c.args.id c.args.name.now found) c.self.view_is
     (results_so l _ _ c.self.invariant c.args.id c.args.name.now v c.places_law.ensures.there live found place at
-    (c.in_ok-finished_parts.ensures ∙ ap (λ es. rows_known table es c.rows_at-rows.result.now) c.entries_at-entries.ensures
-    ∙ ap (λ rs. rows_known table (entries_at v.nodes place) rs) c.rows_at-rows.ensures)
-    c.in_ok-pending_in.ensures.rises
-    (λ e. c.in_ok-pending_in.ensures.same e ∙ ap (λ rs. has (filter (λ n. is_unfinished (table n)) (flat_map executions rs)) e) c.rows_at-rows.ensures))
+    c.in_ok-results.ensures.parts c.in_ok-results.ensures.rises c.in_ok-results.ensures.pending)

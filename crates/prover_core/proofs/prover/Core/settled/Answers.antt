@@ -4,7 +4,7 @@ use Rattle.import_rounds.specs.Rounds.{has}
 use Rattle.exec_table.specs.Rows.{execution_of}
 use Rattle.core_rules.specs.Assigned.{executions_of}
 use Rattle.core_rules.specs.Stuck.{stuck_in}
-use Rattle.prover_core.specs.Results.{is_unfinished}
+use Rattle.exec_lists.specs.Parts.{is_unfinished}
 use Rattle.pide_base.specs.declared.part.Part.{Part}
 use Rattle.task_queue.specs.Tasks.{standing}
 use Rattle.task_queue.specs.Ready.{IsReadyPart}

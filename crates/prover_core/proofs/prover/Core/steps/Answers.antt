@@ -1,41 +1,38 @@
 use Rattle.std.proofs.Common.{◌≡◌, ◌≤◌, ◌<◌, false, sym, subst, ◌∙◌, refl, rules}
 use Rattle.pide_base.specs.Ids.{id_end}
+use Rattle.exec_rules.specs.declared.version.Version.{Version}
 use Rattle.exec_rules.specs.Assigning.{assignment}
 use Rattle.exec_assign.specs.Fitting.{RowsFit}
 use Rattle.core_rules.specs.Standing.{has_ended}
 use Rattle.core_rules.specs.Doc.{doc, assignment_of}
 use Rattle.core_rules.specs.Updates.{FitsUpdate}
 use Rattle.update_plans.specs.Steps.{update_by}
+use Rattle.update_plans.specs.Cancelled.{IsQuiet as Quiet}
 use Rattle.prover_core.specs.Plans.{IsPlanOf}
 use Rattle.prover_core.specs.Planned.{plan_of}
 use Rattle.prover_core.specs.States.{CoreState}
 use Rattle.prover_core.proofs.PlanIs.{plan_is}
-use Rattle.prover_core.proofs.PlanSteps.{PlanLaws, AreSteps, steps_are, succeeds_then, limit_at}
+use Rattle.prover_core.specs.Laws.{PlanLaws}
+use Rattle.prover_core.proofs.PlanSteps.{AreSteps, steps_are, succeeds_then, limit_at}
 use Rattle.prover_core.proofs.PlanTip.{succeeds, limit_then}
+use Rattle.prover_core.proofs.TipTold.{quiet_tip}
 use Rattle.prover_core.proofs.prover.Core.steps.Goals as goal
 
 pub work_out-requires-clause-fits : goal.work_out-requires-clause-fits
 work_out-requires-clause-fits g c =
     subst RowsFit (sym (c.get-tip.ensures ∙ c.tip.ensures ∙ c.self.invariant.tip)) c.self.invariant.rows_fit
 
+pub work_out-requires-clause-quiet : goal.work_out-requires-clause-quiet
+work_out-requires-clause-quiet g c = λ is.
+    let l = g.L.Language.lang in
+    let tip = c.get-tip.ensures ∙ c.tip.ensures ∙ c.self.invariant.tip in
+    subst (λ (v : Version). Quiet c.self.inside.execs.rows v) (sym tip)
+    (quiet_tip l _ _ c.self.invariant c.self.inside.execs.rows (λ e. refl) (c.self.invariant.quiet is))
+
 pub work_out-requires-clause-succeeds : goal.work_out-requires-clause-succeeds
 work_out-requires-clause-succeeds g c =
     let l = g.L.Language.lang in
-    let all : PlanLaws l = record {
-      update = record {
-        tip = c.homes_law.ensures.tip;
-        made = c.homes_law.ensures.made;
-        unmade = c.homes_law.ensures.unmade;
-        not_again = c.cancelled_law.ensures.not_again;
-        found = c.places_law.ensures.found;
-        there = c.places_law.ensures.there;
-        held = c.new_numbers_law.ensures.held;
-        new = c.new_numbers_law.ensures.new;
-        numbers = c.numbers_law.ensures;
-      };
-      once = c.places_law.ensures.once;
-      same = c.cancelled_law-2.ensures.assignment;
-    } in
+    let all : PlanLaws l = c.plan_laws.ensures in
     let going = subst (λ (s : CoreState). has_ended s.past ≡ false) (sym c.self.view_is) c.requires.going in
     let fits = subst (λ (s : CoreState). (assignment_of (doc l s.past) c.args.nodes.now c.args.blobs.now).next ≤ id_end
     → FitsUpdate (doc l s.past) c.args.id c.args.nodes.now c.args.blobs.now) (sym c.self.view_is) c.requires.fits in
@@ -46,21 +43,7 @@ work_out-requires-clause-succeeds g c =
 pub returns-clause-ok : goal.returns-clause-ok
 returns-clause-ok g c =
     let l = g.L.Language.lang in
-    let all : PlanLaws l = record {
-      update = record {
-        tip = c.homes_law.ensures.tip;
-        made = c.homes_law.ensures.made;
-        unmade = c.homes_law.ensures.unmade;
-        not_again = c.cancelled_law.ensures.not_again;
-        found = c.places_law.ensures.found;
-        there = c.places_law.ensures.there;
-        held = c.new_numbers_law.ensures.held;
-        new = c.new_numbers_law.ensures.new;
-        numbers = c.numbers_law.ensures;
-      };
-      once = c.places_law.ensures.once;
-      same = c.cancelled_law-2.ensures.assignment;
-    } in
+    let all : PlanLaws l = c.plan_laws.ensures in
     let going = subst (λ (s : CoreState). has_ended s.past ≡ false) (sym c.self.view_is) c.requires.going in
     let fits = subst (λ (s : CoreState). (assignment_of (doc l s.past) c.args.nodes.now c.args.blobs.now).next ≤ id_end
     → FitsUpdate (doc l s.past) c.args.id c.args.nodes.now c.args.blobs.now) (sym c.self.view_is) c.requires.fits in
@@ -85,21 +68,7 @@ returns-clause-ok g c =
 pub returns-in_err-steps-clause-limit : goal.returns-in_err-steps-clause-limit
 returns-in_err-steps-clause-limit g c = λ is.
     let l = g.L.Language.lang in
-    let all : PlanLaws l = record {
-      update = record {
-        tip = c.homes_law.ensures.tip;
-        made = c.homes_law.ensures.made;
-        unmade = c.homes_law.ensures.unmade;
-        not_again = c.cancelled_law.ensures.not_again;
-        found = c.places_law.ensures.found;
-        there = c.places_law.ensures.there;
-        held = c.new_numbers_law.ensures.held;
-        new = c.new_numbers_law.ensures.new;
-        numbers = c.numbers_law.ensures;
-      };
-      once = c.places_law.ensures.once;
-      same = c.cancelled_law-2.ensures.assignment;
-    } in
+    let all : PlanLaws l = c.plan_laws.ensures in
     let going = subst (λ (s : CoreState). has_ended s.past ≡ false) (sym c.self.view_is) c.requires.going in
     let fits = subst (λ (s : CoreState). (assignment_of (doc l s.past) c.args.nodes.now c.args.blobs.now).next ≤ id_end
     → FitsUpdate (doc l s.past) c.args.id c.args.nodes.now c.args.blobs.now) (sym c.self.view_is) c.requires.fits in

@@ -23,7 +23,8 @@ use Rattle.prover_core.specs.Plans.{PlanState, ranked, IsPlanOf}
 use Rattle.prover_core.proofs.EndedKept.{moved}
 use Rattle.prover_core.proofs.LiveIds.{live_ids, fresh_id}
 use Rattle.prover_core.proofs.FreshAll.{homes_of, links_of}
-use Rattle.prover_core.proofs.PlannedKept.{UpdateLaws, can_add, seen_so, planned_kept, has_room}
+use Rattle.prover_core.specs.Laws.{UpdateLaws}
+use Rattle.prover_core.proofs.PlannedKept.{can_add, seen_so, planned_kept, has_room}
 use Rattle.prover_core.proofs.prover.Core.update.Goals as goal
 
 pub add_all-requires-clause-new : goal.add_all-requires-clause-new
@@ -32,17 +33,7 @@ add_all-requires-clause-new g c =
     let going = subst (λ (s : CoreState). has_ended s.past ≡ false) (sym c.self.view_is) c.requires.going in
     let planned = subst (λ (p : PlanState). IsPlanOf l c.self.inside.past p) (sym c.plan.view_is)
     (subst (λ (s : CoreState). IsPlanOf l s.past c.args.plan) (sym c.self.view_is) c.requires.planned) in
-    let all : UpdateLaws l = record {
-      tip = c.homes_law.ensures.tip;
-      made = c.homes_law.ensures.made;
-      unmade = c.homes_law.ensures.unmade;
-      not_again = c.cancelled_law.ensures.not_again;
-      found = c.places_law.ensures.found;
-      there = c.places_law.ensures.there;
-      held = c.new_numbers_law.ensures.held;
-      new = c.new_numbers_law.ensures.new;
-      numbers = c.numbers_law.ensures;
-    } in
+    let all : UpdateLaws l = c.plan_laws.ensures.update in
     let rows = subst (λ (ds : List ℕ). (e : ℕ) → execution_of c.drop_all.new.execs.rows e ≡ cond (has ds e)
     (after_cancelling (execution_of c.self.inside.execs.rows e)) (execution_of c.self.inside.execs.rows e)) c.deref.ensures.value
     c.drop_all.ensures.rows in
@@ -113,17 +104,7 @@ invariant_of-self g c =
     let going = subst (λ (s : CoreState). has_ended s.past ≡ false) (sym c.self.view_is) c.requires.going in
     let planned = subst (λ (p : PlanState). IsPlanOf l c.self.inside.past p) (sym c.plan.view_is)
     (subst (λ (s : CoreState). IsPlanOf l s.past c.args.plan) (sym c.self.view_is) c.requires.planned) in
-    let all : UpdateLaws l = record {
-      tip = c.homes_law.ensures.tip;
-      made = c.homes_law.ensures.made;
-      unmade = c.homes_law.ensures.unmade;
-      not_again = c.cancelled_law.ensures.not_again;
-      found = c.places_law.ensures.found;
-      there = c.places_law.ensures.there;
-      held = c.new_numbers_law.ensures.held;
-      new = c.new_numbers_law.ensures.new;
-      numbers = c.numbers_law.ensures;
-    } in
+    let all : UpdateLaws l = c.plan_laws.ensures.update in
     let rows = subst (λ (ds : List ℕ). (e : ℕ) → execution_of c.drop_all.new.execs.rows e ≡ cond (has ds e)
     (after_cancelling (execution_of c.self.inside.execs.rows e)) (execution_of c.self.inside.execs.rows e)) c.deref.ensures.value
     c.drop_all.ensures.rows in

@@ -1,0 +1,14 @@
+//! The executions that versions and nodes assign, as lists, and what came of a node's commands: by
+//! rows and a table of executions.
+//!
+//! It must not know a language, what has happened, tasks or workers.
+#![tactic(auto)]
+
+mod gathering;
+mod opened;
+mod results;
+mod shown;
+
+pub use gathering::{departing, rising, staying};
+pub use opened::open_in;
+pub use results::{NodeResults, PartResult, results_at};

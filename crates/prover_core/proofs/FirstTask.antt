@@ -1,0 +1,91 @@
+-- The task of a new execution, with its priority told anew or not.
+use Rattle.std.proofs.Common.{◌≡◌, ◌⊎◌, inl, inr, ℕ, suc, ◌<◌, ◌≤◌, Bool, true, false, cond, not, ◌&&◌, List, [], ◌∷◌, length, Option, Some, None, refl, ap, sym, subst, ◌∙◌, arith}
+use Rattle.std.specs.Option.{option_map, option_map_or}
+use Rattle.import_rounds.specs.Rounds.{has}
+use Rattle.doc_nodes.specs.Imports.{NodeList}
+use Rattle.exec_table.specs.declared.execution.Execution.{Execution}
+use Rattle.exec_table.specs.Finish.{after_cancelling}
+use Rattle.task_queue.specs.declared.task.Standing.{Standing as Task}
+use Rattle.task_queue.specs.Tasks.{has as has_input}
+use Rattle.task_queue.specs.Changes.{waiting}
+use Rattle.exec_rules.specs.declared.home.Home.{Home}
+use Rattle.exec_rules.specs.declared.home.Input.{Input}
+use Rattle.exec_rules.specs.declared.home.Input.TheVariants as input
+use Rattle.exec_rules.specs.declared.version.Version.{Version}
+use Rattle.exec_rules.specs.Kept.{BlobList}
+use Rattle.language.specs.Lang.{Lang}
+use Rattle.core_rules.specs.declared.event.Event.{Event}
+use Rattle.core_rules.specs.declared.event.Event.TheVariants.{Update}
+use Rattle.core_rules.specs.Numbered.{numbered, grown}
+use Rattle.core_rules.specs.Assigned.{assigns, is_visible, is_assigned}
+use Rattle.core_rules.specs.Parts.{waits_by, sources_of, evaluation}
+use Rattle.core_rules.specs.Standing.{standing, is_finished}
+use Rattle.core_rules.specs.Doc.{Doc, doc, assignment_of, version_of}
+use Rattle.core_rules.specs.Ready.{priority_by}
+use Rattle.core_rules.specs.Sources.{HasHome}
+use Rattle.core_jobs.specs.declared.done.Done.{Done}
+use Rattle.update_plans.specs.declared.beginning.Fresh.{Fresh}
+use Rattle.update_plans.specs.Begun.{first_kind}
+use Rattle.prover_core.specs.Progress.{part, next_of}
+use Rattle.prover_core.specs.Tasks.{is_held, IsTaskOf, AreTasks}
+use Rattle.prover_core.specs.Plans.{begun, begun_as, ranked, AreTasksFor}
+use Rattle.prover_core.specs.Fresh.{fresh_at, with_fresh}
+use Rattle.prover_core.specs.Kept.{Tables, IsKept}
+use Rattle.core_rules.proofs.KnownNumbers.{length_grown}
+use Rattle.prover_core.proofs.FreshPlan.{homes_in, tasks_in, Found, none_before, none_behind, found}
+use Rattle.prover_core.proofs.RankedTasks.{ranked_same, ranked_held, ranked_inputs, ranked_urgent}
+use Rattle.prover_core.proofs.UpdatedDoc.{NewLaws}
+use Rattle.prover_core.proofs.UpdatedRows.{AreRows}
+use Rattle.prover_core.proofs.UpdatedTasks.{AreTasksThen}
+use Rattle.prover_core.proofs.UpdatedKept.{AreHomes}
+use Rattle.prover_core.proofs.UpdateTables.{not_tip, no_row, no_home, no_task}
+use Rattle.prover_core.proofs.PlanFresh.{fresh_none as at_none, fresh_behind as at_none_behind, beyond_old as behind_old, fresh_found as found_new, not_dropped as new_kept}
+
+module _ {S : Type 0} (l : Lang S) (h : List Event) (t : Tables S) (k : IsKept l h t) (id : ℕ) (nodes : NodeList) (blobs : BlobList)
+    (laws : NewLaws l h id nodes blobs) (tip_live : (e : ℕ) → assigns (doc l h).tip e ≡ true → is_assigned (doc l h).live e ≡ true)
+    (tip_homes : (e : ℕ) → assigns (doc l h).tip e ≡ true → HasHome l (doc l h) (doc l h).tip e)
+    (dropped : List ℕ) (drops : (e : ℕ) → has dropped e
+    ≡ (assigns (doc l h).tip e && not (assigns (version_of nodes blobs (assignment_of (doc l h) nodes blobs)) e)))
+    (fresh : List Fresh) (are : AreTasksFor h (suc (length (doc l h).homes)) (homes_in fresh) (tasks_in fresh))
+    (homes_are : homes_in fresh ≡ (assignment_of (doc l h) nodes blobs).homes) where
+  abbrev d : Doc
+  d = doc l h
+
+  abbrev more : List Event
+  more = Update id nodes blobs ∷ h
+
+  abbrev now : Doc
+  now = doc l more
+
+  abbrev new : Version
+  new = version_of nodes blobs (assignment_of d nodes blobs)
+
+  waits_first : (i : Input) (e : ℕ) → waits_by now.homes (first_kind i) e
+      ≡ option_map_or (λ (y : Home). sources_of y.input) (numbered now.homes e) []
+  waits_first (input.First head) e = refl
+  waits_first (input.Next f) e = refl
+  waits_first (input.Print f) e = refl
+
+  waits_new : (e : ℕ) (x : Home) → numbered now.homes e ≡ Some x → waits_by now.homes (first_kind x.input) e ≡ sources_of x.input
+  waits_new e x at = waits_first x.input e ∙ ap (λ o. option_map_or (λ (y : Home). sources_of y.input) o []) at
+
+  -- the task of a new execution, with its priority told anew or not
+  pub plain_task : (e : ℕ) (x : Home) → length d.homes < e → numbered now.homes e ≡ Some x → (one : Found h fresh e x)
+      → is_visible new e ≡ false → IsTaskOf (standing more) new now.homes e (first_kind x.input) (waiting one.one.task)
+  plain_task e x past at one hidden = record {
+    same_kind = one.task.same_kind;
+    urgent = one.task.urgent ∙ ap (priority_by (first_kind x.input)) (sym hidden);
+    waits = λ f. one.task.waits f ∙ ap (λ ws. has ws f && not (is_finished h (evaluation f))) (sym (waits_new e x at));
+    held = sym (ap is_held (laws.unmade (part e (first_kind x.input)) past));
+  }
+
+  pub seen_task : (e : ℕ) (x : Home) → length d.homes < e → numbered now.homes e ≡ Some x → (one : Found h fresh e x)
+      → IsTaskOf (standing more) new now.homes e (first_kind x.input) (ranked (is_visible new e) (waiting one.one.task))
+  seen_task e x past at one = record {
+    same_kind = ranked_same (is_visible new e) (waiting one.one.task) ∙ one.task.same_kind;
+    urgent = ranked_urgent (is_visible new e) false (first_kind x.input) (waiting one.one.task) one.task.same_kind one.task.urgent;
+    waits = λ f. ap (λ es. has_input es f) (ranked_inputs (is_visible new e) (waiting one.one.task))
+        ∙ one.task.waits f ∙ ap (λ ws. has ws f && not (is_finished h (evaluation f))) (sym (waits_new e x at));
+    held = ranked_held (is_visible new e) (waiting one.one.task)
+        ∙ sym (ap is_held (laws.unmade (part e (first_kind x.input)) past));
+  }

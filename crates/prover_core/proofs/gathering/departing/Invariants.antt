@@ -1,6 +1,0 @@
-use Rattle.std.proofs.Common.{◌≡◌, ◌++◌, drop}
-use Rattle.prover_core.specs.Removal.{all_of, named}
-use Rattle.prover_core.proofs.gathering.departing.Given as goal
-
-abbrev pub invariant-loop-one : goal.invariant-loop-one
-invariant-loop-one l = l.execs.items ++ all_of (named l.ids (drop l.one-index l.live)) ≡ all_of (named l.ids l.live)
