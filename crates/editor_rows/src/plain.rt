@@ -57,7 +57,7 @@ fn moved_all(alloc: Global, edit: &Edit, ranges: &[Range]) -> Result<Vec<Range>,
 
 /// Where the commands of a text stand.
 fn commands(alloc: Global, text: &[char]) -> Result<Vec<Range>, Fail> {
-    let spans = Spans::of(alloc, Text::from_slice(alloc, text)?, &[])?;
+    let spans = Spans::of(alloc, text, &[])?;
     let mut all = Vec::new(alloc);
     for span in spans.spans() {
         if !matches!(span.kind, SpanKind::Ignored) {
