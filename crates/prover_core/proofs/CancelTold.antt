@@ -1,29 +1,25 @@
 -- What is told of an execution that is to be cancelled.
-use Rattle.std.proofs.Common.{◌≡◌, ℕ, ◌≤◌, Bool, true, false, cond, not, ◌&&◌, ◌||◌, List, ◌∷◌, Option, Some, None, refl, ap, sym, subst, ◌∙◌, arith}
+use Rattle.std.proofs.Common.{◌≡◌, ℕ, Bool, true, false, cond, not, ◌&&◌, ◌||◌, List, ◌∷◌, Some, None, refl, ap, sym, ◌∙◌}
 use Rattle.std.proofs.lemmas.Bool.{eqb-true, eq-eqb, false≢true}
 use Rattle.std.specs.Prelude.{◌==◌}
 use Rattle.import_rounds.specs.Rounds.{has}
-use Rattle.pide_base.specs.declared.part.PartKind.{PartKind}
 use Rattle.exec_table.specs.declared.execution.Execution.{Execution}
 use Rattle.exec_table.specs.declared.execs.Cancelling.TheVariants as answer
 use Rattle.exec_table.specs.Progress.{is_done}
 use Rattle.exec_table.specs.Finish.{cancelling, after_cancelling}
-use Rattle.task_queue.specs.declared.task.Standing.{Standing as Task}
-use Rattle.task_queue.specs.Ready.{with_standing}
 use Rattle.language.specs.Lang.{Lang}
 use Rattle.core_rules.specs.declared.event.Event.{Event}
 use Rattle.core_rules.specs.declared.event.Event.TheVariants.{Cancel}
 use Rattle.core_rules.specs.Numbered.{numbered}
-use Rattle.core_rules.specs.Assigned.{assigns, is_assigned}
+use Rattle.core_rules.specs.Assigned.{is_assigned}
 use Rattle.core_rules.specs.Settings.{setting}
-use Rattle.core_rules.specs.Standing.{standing, is_open, has_ended}
+use Rattle.core_rules.specs.Standing.{is_open}
 use Rattle.core_rules.specs.Doc.{Doc, doc}
 use Rattle.core_rules.specs.Ready.{is_wanted}
 use Rattle.core_jobs.specs.declared.done.Done.{Done}
-use Rattle.prover_core.specs.Progress.{completed_in, next_of, execution_by, row_by, row_of}
-use Rattle.prover_core.specs.Tasks.{AreTasks, HasTask}
-use Rattle.prover_core.specs.Kept.{Tables, IsKept, IsKnown, IsQuiet}
-use Rattle.prover_core.proofs.OpenRows.{row_known, row_with_mark, done_closed}
+use Rattle.prover_core.specs.Progress.{completed_in, execution_by, row_by}
+use Rattle.prover_core.specs.Kept.{Tables, IsKept, IsKnown}
+use Rattle.prover_core.proofs.OpenRows.{row_known, done_closed}
 
 turned_by : (e f : ℕ) (b : Bool) → (f == e) ≡ b → (e == f) ≡ false → b ≡ false
 turned_by e f false x is = refl

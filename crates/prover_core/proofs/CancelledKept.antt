@@ -5,9 +5,7 @@ use Rattle.std.specs.Prelude.{◌==◌}
 use Rattle.import_rounds.specs.Rounds.{has}
 use Rattle.pide_base.specs.declared.part.PartKind.{PartKind}
 use Rattle.exec_table.specs.declared.execution.Execution.{Execution}
-use Rattle.exec_table.specs.declared.execs.Cancelling.TheVariants as answer
-use Rattle.exec_table.specs.Progress.{is_done}
-use Rattle.exec_table.specs.Finish.{cancelling, after_cancelling}
+use Rattle.exec_table.specs.Finish.{after_cancelling}
 use Rattle.task_queue.specs.declared.task.Standing.{Standing as Task}
 use Rattle.task_queue.specs.Ready.{with_standing}
 use Rattle.language.specs.Lang.{Lang}
@@ -18,12 +16,11 @@ use Rattle.core_rules.specs.Assigned.{assigns, is_assigned}
 use Rattle.core_rules.specs.Settings.{setting}
 use Rattle.core_rules.specs.Standing.{standing, is_open, has_ended}
 use Rattle.core_rules.specs.Doc.{Doc, doc}
-use Rattle.core_rules.specs.Ready.{is_wanted}
 use Rattle.core_jobs.specs.declared.done.Done.{Done}
-use Rattle.prover_core.specs.Progress.{completed_in, next_of, execution_by, row_by, row_of}
+use Rattle.prover_core.specs.Progress.{completed_in, next_of, row_by, row_of}
 use Rattle.prover_core.specs.Tasks.{AreTasks, HasTask}
 use Rattle.prover_core.specs.Kept.{Tables, IsKept, IsKnown, IsQuiet}
-use Rattle.prover_core.proofs.OpenRows.{row_known, row_with_mark, done_closed}
+use Rattle.prover_core.proofs.OpenRows.{row_known, row_with_mark}
 use Rattle.prover_core.proofs.CancelTold.{turned, row as told_row, after_told as told_after}
 
 module _ {S : Type 0} (l : Lang S) (h : List Event) (t : Tables S) (k : IsKept l h t) (e : ℕ) where

@@ -1,34 +1,30 @@
 -- What is present, and what its tasks go by, once a part is finished.
-use Rattle.std.proofs.Common.{◌≡◌, ◌≢◌, ℕ, Bool, true, false, cond, not, ◌&&◌, ◌||◌, List, [], ◌∷◌, Option, Some, None, refl, ap, sym, subst, ◌∙◌}
-use Rattle.std.proofs.lemmas.Bool.{eqb-true, eq-eqb, false≢true}
+use Rattle.std.proofs.Common.{◌≡◌, ℕ, Bool, true, false, cond, not, ◌&&◌, List, ◌∷◌, Option, Some, None, refl, ap, sym, subst, ◌∙◌}
 use Rattle.text_words.proofs.KnownTests.{both-parts}
 use Rattle.std.specs.Prelude.{◌==◌}
 use Rattle.import_rounds.specs.Rounds.{has}
-use Rattle.std.specs.Option.{option_map, option_map_or, option_and_then}
+use Rattle.std.specs.Option.{option_and_then}
 use Rattle.pide_base.specs.declared.part.Part.{Part}
 use Rattle.pide_base.specs.declared.part.PartKind.{PartKind}
 use Rattle.pide_base.specs.declared.part.PartKind.TheVariants as kind
 use Rattle.task_queue.specs.declared.task.Standing.{Standing as Task}
-use Rattle.task_queue.specs.Tasks.{has as has_input}
-use Rattle.task_queue.specs.Changes.{without}
 use Rattle.exec_rules.specs.declared.home.Home.{Home}
 use Rattle.language.specs.Lang.{Lang}
 use Rattle.core_rules.specs.declared.event.Event.{Event}
 use Rattle.core_rules.specs.declared.event.Event.TheVariants.{Finished}
 use Rattle.core_rules.specs.Numbered.{numbered}
 use Rattle.core_rules.specs.Assigned.{assigns, is_assigned}
-use Rattle.core_rules.specs.Parts.{same_kind, forks, evaluation}
-use Rattle.core_rules.specs.Standing.{Standing, Free, Held, Done, standing, is_done, held}
+use Rattle.core_rules.specs.Parts.{forks}
+use Rattle.core_rules.specs.Standing.{Done, standing, held}
 use Rattle.core_rules.specs.Doc.{Doc, doc}
 use Rattle.core_rules.specs.Ready.{is_wanted}
 use Rattle.prover_core.specs.Progress.{part, completed_in, and_also, next_kind, kind_behind, next_of}
-use Rattle.prover_core.specs.Tasks.{task_behind, is_held, AreTasks, HasTask, present_kind}
+use Rattle.prover_core.specs.Tasks.{AreTasks, HasTask, present_kind}
 use Rattle.prover_core.specs.Kept.{Tables, IsKept}
 use Rattle.prover_core.proofs.PartsAlike.{elsewhere}
 use Rattle.prover_core.proofs.KindsBehind.{next_behind, fork_behind}
 use Rattle.prover_core.proofs.NextParts.{next_opens}
 use Rattle.prover_core.proofs.Quiet.{next_with, present_same}
-use Rattle.prover_core.proofs.TasksStill.{still, still_behind}
 use Rattle.prover_core.proofs.TipLive.{Laws, in_tip}
 use Rattle.prover_core.proofs.FinishedKept.{apart, here}
 

@@ -1,23 +1,20 @@
 -- The first unfinished part of an execution is one of its parts, and unfinished.
-use Rattle.std.proofs.Common.{◌≡◌, ℕ, Bool, true, false, cond, not, ◌&&◌, ◌||◌, List, [], ◌∷◌, map, Option, Some, None, refl, ap, sym, ◌∙◌}
-use Rattle.std.proofs.lemmas.Bool.{eq-eqb, false≢true, or_left, or_right}
-use Rattle.std.specs.Prelude.{◌==◌}
+use Rattle.std.proofs.Common.{◌≡◌, ℕ, Bool, true, false, not, ◌||◌, List, [], ◌∷◌, map, Option, Some, None, refl, ap, sym, ◌∙◌}
+use Rattle.std.proofs.lemmas.Bool.{or_left, or_right}
 use Rattle.std.specs.List.{list_any}
 use Rattle.std.specs.Option.{option_map_or, option_and_then}
 use Rattle.pide_base.specs.declared.part.Part.{Part}
 use Rattle.pide_base.specs.declared.part.PartKind.{PartKind}
 use Rattle.pide_base.specs.declared.part.PartKind.TheVariants as kind
 use Rattle.exec_rules.specs.declared.home.Home.{Home}
-use Rattle.exec_rules.specs.declared.home.Input.{Input}
-use Rattle.exec_rules.specs.declared.home.Input.TheVariants as input
 use Rattle.language.specs.Lang.{Lang}
 use Rattle.core_rules.specs.declared.event.Event.{Event}
 use Rattle.core_rules.specs.Numbered.{numbered}
-use Rattle.core_rules.specs.Parts.{same_kind, same_part, forks, kinds_by, parts_of}
+use Rattle.core_rules.specs.Parts.{same_part, forks, kinds_by, parts_of}
 use Rattle.core_rules.specs.Standing.{is_finished, is_open}
 use Rattle.core_rules.specs.Doc.{Doc}
 use Rattle.core_rules.specs.Ready.{is_part}
-use Rattle.prover_core.specs.Progress.{Completed, InOrder, part, completed_in, and_also, next_kind, kind_behind, next_of}
+use Rattle.prover_core.specs.Progress.{part, completed_in, next_kind, next_of}
 use Rattle.core_rules.proofs.KnownParts.{part_is}
 use Rattle.prover_core.proofs.KindsNext.{is_in, finished_is, next_unfinished, among_kinds, next_among, is_next}
 

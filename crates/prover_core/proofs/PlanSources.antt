@@ -5,17 +5,13 @@ use Rattle.std.specs.Prelude.{◌==◌, is_some}
 use Rattle.std.specs.List.{AllByRecursion}
 use Rattle.std.specs.Option.{option_map, option_and_then}
 use Rattle.import_rounds.specs.Rounds.{has}
-use Rattle.pide_base.specs.declared.part.PartKind.{PartKind}
 use Rattle.pide_base.specs.declared.part.PartKind.TheVariants as kind
 use Rattle.doc_nodes.specs.Imports.{NodeList}
 use Rattle.exec_table.specs.declared.execution.Execution.{Execution}
 use Rattle.exec_table.specs.declared.execs.Row.{Row}
-use Rattle.exec_table.specs.declared.execution.Progress.TheVariants as progress
 use Rattle.exec_table.specs.Progress.{result_of}
 use Rattle.exec_table.specs.Rows.{execution_of}
 use Rattle.exec_rules.specs.declared.home.Home.{Home}
-use Rattle.exec_rules.specs.declared.home.Input.{Input}
-use Rattle.exec_rules.specs.declared.home.Input.TheVariants as input
 use Rattle.exec_rules.specs.Kept.{BlobList}
 use Rattle.language.specs.Lang.{Lang}
 use Rattle.core_rules.specs.declared.event.Event.{Event}
@@ -30,7 +26,7 @@ use Rattle.core_rules.specs.Sources.{is_evaluation, IsSource, HasHome}
 use Rattle.core_jobs.specs.declared.done.Done.{Done}
 use Rattle.update_plans.specs.declared.beginning.Fresh.{Fresh}
 use Rattle.update_plans.specs.Begun.{is_evaluated, IsBegun, AreBegun}
-use Rattle.prover_core.specs.Progress.{Completed, completed_in, behind_eval, progress_by, execution_by, row_by, result as brought}
+use Rattle.prover_core.specs.Progress.{completed_in, execution_by, row_by, result as brought}
 use Rattle.prover_core.specs.Plans.{IsTaskFor, AreTasksFor}
 use Rattle.prover_core.specs.Kept.{Tables, IsKnown, IsKept}
 use Rattle.prover_core.proofs.FreshPlan.{homes_in, tasks_in}

@@ -1,28 +1,20 @@
 -- What is worked out of an update.
-use Rattle.std.proofs.Common.{◌≡◌, ℕ, ◌<◌, ◌≤◌, true, false, not, ◌&&◌, List, map, reverse, Some, sym, subst}
-use Rattle.std.specs.Prelude.{slice_get}
+use Rattle.std.proofs.Common.{◌≡◌, ℕ, ◌<◌, ◌≤◌, false, not, ◌&&◌, List, map, reverse, sym, subst}
 use Rattle.std.specs.List.{AllByRecursion}
 use Rattle.import_rounds.specs.Rounds.{has}
 use Rattle.pide_base.specs.Ids.{id_end}
 use Rattle.doc_nodes.specs.Imports.{NodeList}
 use Rattle.exec_table.specs.declared.execs.Row.{Row as TableRow}
-use Rattle.exec_rules.specs.declared.row.Row.{Row}
 use Rattle.exec_rules.specs.declared.version.Version.{Version}
 use Rattle.exec_rules.specs.Kept.{BlobList}
-use Rattle.exec_rules.specs.Assigning.{rows_in, assignment}
-use Rattle.exec_rules.specs.Listed.{executions, listed}
-use Rattle.exec_assign.specs.Agreeing.{AgreeAt}
+use Rattle.exec_rules.specs.Assigning.{assignment}
+use Rattle.exec_rules.specs.Listed.{listed}
 use Rattle.exec_assign.specs.Fitting.{RowsFit}
 use Rattle.exec_assign.specs.Told.{told_node}
-use Rattle.language.specs.Lang.{Lang}
-use Rattle.core_rules.specs.declared.event.Event.{Event}
 use Rattle.core_rules.specs.Assigned.{assigns, is_visible}
-use Rattle.core_rules.specs.Doc.{doc}
-use Rattle.core_rules.specs.Legal.{IsLegal}
 use Rattle.update_plans.specs.declared.steps.Steps.{Steps}
 use Rattle.update_plans.specs.Begun.{AreBegun}
 use Rattle.update_plans.specs.Steps.{update_by, made_by_update, Succeeds}
-use Rattle.prover_core.specs.Laws.{UpdateLaws}
 
 -- the steps of an update, as they are worked out
 pub record AreSteps {R : Type 0} (rows : List (TableRow R)) (before : Version) (nodes : NodeList) (blobs : BlobList) (next : ℕ) (s : Steps) : Type 0 where

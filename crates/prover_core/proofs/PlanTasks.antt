@@ -1,44 +1,32 @@
 -- The tasks that a planned update leaves are those of the document with the new version.
-use Rattle.std.proofs.Common.{◌≡◌, ◌⊎◌, inl, inr, ℕ, suc, ◌<◌, ◌≤◌, Bool, true, false, cond, not, ◌&&◌, List, [], ◌∷◌, length, Option, Some, None, refl, ap, sym, subst, ◌∙◌, arith}
+use Rattle.std.proofs.Common.{◌≡◌, ◌⊎◌, inl, inr, ℕ, suc, ◌<◌, ◌≤◌, Bool, true, false, cond, not, ◌&&◌, List, ◌∷◌, length, Option, Some, None, refl, ap, sym, subst, ◌∙◌}
 use Rattle.std.specs.Option.{option_map, option_map_or}
 use Rattle.import_rounds.specs.Rounds.{has}
 use Rattle.doc_nodes.specs.Imports.{NodeList}
-use Rattle.exec_table.specs.declared.execution.Execution.{Execution}
-use Rattle.exec_table.specs.Finish.{after_cancelling}
 use Rattle.task_queue.specs.declared.task.Standing.{Standing as Task}
-use Rattle.task_queue.specs.Tasks.{has as has_input}
 use Rattle.task_queue.specs.Changes.{waiting}
 use Rattle.exec_rules.specs.declared.home.Home.{Home}
-use Rattle.exec_rules.specs.declared.home.Input.{Input}
-use Rattle.exec_rules.specs.declared.home.Input.TheVariants as input
 use Rattle.exec_rules.specs.declared.version.Version.{Version}
 use Rattle.exec_rules.specs.Kept.{BlobList}
 use Rattle.language.specs.Lang.{Lang}
 use Rattle.core_rules.specs.declared.event.Event.{Event}
 use Rattle.core_rules.specs.declared.event.Event.TheVariants.{Update}
-use Rattle.core_rules.specs.Numbered.{numbered, grown}
+use Rattle.core_rules.specs.Numbered.{numbered}
 use Rattle.core_rules.specs.Assigned.{assigns, is_visible, is_assigned}
-use Rattle.core_rules.specs.Parts.{waits_by, sources_of, evaluation}
-use Rattle.core_rules.specs.Standing.{standing, is_finished}
+use Rattle.core_rules.specs.Standing.{standing}
 use Rattle.core_rules.specs.Doc.{Doc, doc, assignment_of, version_of}
-use Rattle.core_rules.specs.Ready.{priority_by}
 use Rattle.core_rules.specs.Sources.{HasHome}
-use Rattle.core_jobs.specs.declared.done.Done.{Done}
 use Rattle.update_plans.specs.declared.beginning.Fresh.{Fresh}
 use Rattle.update_plans.specs.Begun.{first_kind}
-use Rattle.prover_core.specs.Progress.{part, next_of}
-use Rattle.prover_core.specs.Tasks.{is_held, IsTaskOf, AreTasks}
-use Rattle.prover_core.specs.Plans.{begun, begun_as, ranked, AreTasksFor}
+use Rattle.prover_core.specs.Progress.{next_of}
+use Rattle.prover_core.specs.Tasks.{IsTaskOf, AreTasks}
+use Rattle.prover_core.specs.Plans.{ranked, AreTasksFor}
 use Rattle.prover_core.specs.Fresh.{fresh_at, with_fresh}
 use Rattle.prover_core.specs.Kept.{Tables, IsKept}
-use Rattle.core_rules.proofs.KnownNumbers.{length_grown}
-use Rattle.prover_core.proofs.FreshPlan.{homes_in, tasks_in, Found, none_before, none_behind, found}
-use Rattle.prover_core.proofs.RankedTasks.{ranked_same, ranked_held, ranked_inputs, ranked_urgent}
+use Rattle.prover_core.proofs.FreshPlan.{homes_in, tasks_in, Found}
 use Rattle.prover_core.proofs.UpdatedDoc.{NewLaws}
-use Rattle.prover_core.proofs.UpdatedRows.{AreRows}
 use Rattle.prover_core.proofs.UpdatedTasks.{AreTasksThen}
-use Rattle.prover_core.proofs.UpdatedKept.{AreHomes}
-use Rattle.prover_core.proofs.UpdateTables.{not_tip, no_row, no_home, no_task}
+use Rattle.prover_core.proofs.UpdateTables.{no_task}
 use Rattle.prover_core.proofs.PlanFresh.{fresh_none as at_none, fresh_behind as at_none_behind, beyond_old as behind_old, fresh_found as found_new, not_dropped as new_kept}
 use Rattle.prover_core.proofs.FirstTask.{plain_task, seen_task}
 

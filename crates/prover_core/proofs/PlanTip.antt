@@ -1,36 +1,28 @@
 -- The version that an update makes by the tables of a core succeeds the tip.
-use Rattle.std.proofs.Common.{◌≡◌, ℕ, ◌<◌, ◌≤◌, true, false, cond, List, ◌∷◌, Option, Some, None, ap, sym, subst, ◌∙◌, arith}
+use Rattle.std.proofs.Common.{◌≡◌, ℕ, ◌<◌, ◌≤◌, true, false, List, ◌∷◌, Some, ap, sym, subst, arith}
 use Rattle.std.specs.Prelude.{slice_get}
-use Rattle.std.specs.Option.{option_map, option_map_or}
-use Rattle.import_rounds.specs.Rounds.{has}
 use Rattle.pide_base.specs.Ids.{id_end}
 use Rattle.doc_nodes.specs.Imports.{NodeList}
-use Rattle.exec_table.specs.declared.execution.Execution.{Execution}
 use Rattle.exec_table.specs.declared.execs.Row.{Row as TableRow}
 use Rattle.exec_table.specs.Rows.{execution_of}
 use Rattle.exec_rules.specs.declared.row.Row.{Row}
-use Rattle.exec_rules.specs.declared.home.Home.{Home}
 use Rattle.exec_rules.specs.declared.version.Version.{Version}
 use Rattle.exec_rules.specs.Kept.{BlobList}
 use Rattle.exec_rules.specs.Assigning.{Update, Assignment, rows_in, assignment}
-use Rattle.exec_assign.specs.Agreeing.{AgreeAt}
 use Rattle.language.specs.Lang.{Lang}
 use Rattle.core_rules.specs.declared.event.Event.{Event}
 use Rattle.core_rules.specs.declared.event.Event.TheVariants as event
-use Rattle.core_rules.specs.Numbered.{numbered, next_number}
+use Rattle.core_rules.specs.Numbered.{next_number}
 use Rattle.core_rules.specs.Assigned.{assigns, is_assigned}
-use Rattle.core_rules.specs.Settings.{Setting, setting}
 use Rattle.core_rules.specs.Standing.{has_ended}
 use Rattle.core_rules.specs.Doc.{Doc, doc, update_of, assignment_of, version_of}
 use Rattle.core_rules.specs.Legal.{IsLegal}
 use Rattle.core_rules.specs.Updates.{FitsUpdate}
 use Rattle.core_jobs.specs.declared.done.Done.{Done}
 use Rattle.update_plans.specs.Beside.{HasKept}
-use Rattle.update_plans.specs.Cancelled.{cancelled_in, IsQuiet as Quiet}
+use Rattle.update_plans.specs.Cancelled.{cancelled_in}
 use Rattle.update_plans.specs.Steps.{update_by, made_by_update, IsSuccessor, Succeeds}
-use Rattle.update_plans.proofs.KnownCancelled.{has_cancelled}
-use Rattle.prover_core.specs.Progress.{completed_in, execution_by, row_by}
-use Rattle.prover_core.specs.Kept.{Tables, IsKnown, IsKept, IsQuiet}
+use Rattle.prover_core.specs.Kept.{Tables, IsKept}
 use Rattle.prover_core.proofs.TipLive.{tip_live}
 use Rattle.prover_core.proofs.TipTold.{agree}
 use Rattle.prover_core.specs.Laws.{PlanLaws}

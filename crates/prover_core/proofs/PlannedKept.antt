@@ -1,36 +1,28 @@
 -- What is kept once a planned update is made.
-use Rattle.std.proofs.Common.{◌≡◌, ℕ, suc, ◌+◌, ◌<◌, ◌≤◌, true, false, cond, not, ◌&&◌, List, [], ◌∷◌, ◌++◌, length, map, Option, Some, None, ap, sym, subst, ◌∙◌, arith}
-use Rattle.std.specs.Prelude.{◌==◌, slice_get}
+use Rattle.std.proofs.Common.{◌≡◌, ℕ, suc, ◌≤◌, true, false, cond, not, ◌&&◌, List, [], ◌∷◌, ◌++◌, length, map, Option, Some, None, ap, sym, subst, ◌∙◌, arith}
+use Rattle.std.specs.Prelude.{◌==◌}
 use Rattle.std.specs.List.{AllByRecursion}
 use Rattle.std.specs.Option.{option_map}
 use Rattle.import_rounds.specs.Rounds.{has}
 use Rattle.pide_base.specs.Ids.{id_end}
-use Rattle.pide_base.specs.declared.part.Part.{Part}
-use Rattle.doc_nodes.specs.Imports.{NodeList}
 use Rattle.doc_versions.specs.Live.{History, version_of as found_version}
 use Rattle.exec_table.specs.declared.execution.Execution.{Execution}
 use Rattle.exec_table.specs.Finish.{after_cancelling}
 use Rattle.task_queue.specs.declared.task.Standing.{Standing as Task}
 use Rattle.task_queue.specs.Changes.{waiting}
-use Rattle.exec_rules.specs.declared.row.Row.{Row}
 use Rattle.exec_rules.specs.declared.home.Home.{Home}
 use Rattle.exec_rules.specs.declared.version.Version.{Version}
-use Rattle.exec_rules.specs.Kept.{BlobList}
-use Rattle.exec_rules.specs.Assigning.{Update, Assignment, rows_in, assignment}
-use Rattle.exec_rules.specs.Listed.{executions}
+use Rattle.exec_rules.specs.Assigning.{Assignment}
 use Rattle.exec_assign.specs.Fitting.{RowsFit}
-use Rattle.exec_assign.specs.Numbered.{new_in, with_numbers, AreBelow, AreHeld}
-use Rattle.exec_assign.specs.Telling.{made_by}
 use Rattle.language.specs.Lang.{Lang}
 use Rattle.core_rules.specs.declared.event.Event.{Event}
 use Rattle.core_rules.specs.declared.event.Event.TheVariants as event
 use Rattle.core_rules.specs.Numbered.{next_number}
 use Rattle.core_rules.specs.Assigned.{assigns, is_visible, is_assigned}
-use Rattle.core_rules.specs.Standing.{Free, standing, has_ended}
+use Rattle.core_rules.specs.Standing.{has_ended}
 use Rattle.core_rules.specs.Doc.{Doc, doc, update_of, assignment_of, version_of}
 use Rattle.core_rules.specs.Legal.{IsLegal}
 use Rattle.core_rules.specs.Sources.{HasHome}
-use Rattle.core_rules.specs.Placed.{RowOf}
 use Rattle.core_jobs.specs.declared.done.Done.{Done}
 use Rattle.update_plans.specs.declared.known.Known.{Known}
 use Rattle.update_plans.specs.declared.beginning.Fresh.{Fresh}

@@ -1,9 +1,7 @@
 -- The parts that are ready in the queue are those that are ready in the document.
-use Rattle.std.proofs.Common.{◌≡◌, ℕ, Bool, true, false, cond, not, ◌&&◌, ◌||◌, List, [], ◌∷◌, length, Option, Some, None, refl, ap, sym, subst, ◌∙◌, arith}
-use Rattle.std.proofs.lemmas.Bool.{false≢true, eqb-true, eq-eqb, or_left}
+use Rattle.std.proofs.Common.{◌≡◌, ℕ, Bool, true, false, cond, not, ◌&&◌, List, length, Option, Some, None, refl, ap, sym, subst, ◌∙◌}
 use Rattle.text_words.proofs.KnownTests.{both-parts, both-hold}
 use Rattle.std.specs.Prelude.{◌==◌}
-use Rattle.std.specs.List.{list_all}
 use Rattle.import_rounds.specs.Rounds.{has}
 use Rattle.pide_base.specs.declared.part.Part.{Part}
 use Rattle.pide_base.specs.declared.part.PartKind.{PartKind}
@@ -15,11 +13,11 @@ use Rattle.language.specs.Lang.{Lang}
 use Rattle.core_rules.specs.declared.event.Event.{Event}
 use Rattle.core_rules.specs.Assigned.{assigns, is_assigned}
 use Rattle.core_rules.specs.Parts.{waits_for, evaluation}
-use Rattle.core_rules.specs.Standing.{Standing, Free, Held, Done, standing, is_done, is_free, is_finished, is_open}
+use Rattle.core_rules.specs.Standing.{standing, is_free, is_finished, is_open}
 use Rattle.core_rules.specs.Doc.{Doc}
 use Rattle.core_rules.specs.Ready.{is_part, is_wanted, has_inputs, is_ready_in, priority_of}
 use Rattle.prover_core.specs.Progress.{part, completed_in, next_of}
-use Rattle.prover_core.specs.Tasks.{present_kind, is_held, IsTaskOf, AreTasks, HasTask}
+use Rattle.prover_core.specs.Tasks.{present_kind, IsTaskOf, AreTasks, HasTask}
 use Rattle.prover_core.proofs.NextParts.{next_is_part, next_is_open, open_is_next, next_opens}
 use Rattle.prover_core.proofs.WaitedFor.{not_true, free_by, free_so, none_left, all_done, no_inputs, nothing_waits}
 

@@ -1,6 +1,6 @@
 -- The tasks of executions that the version before had as well.
-use Rattle.std.proofs.Common.{◌≡◌, ◌⊎◌, inl, inr, ℕ, ◌<◌, ◌≤◌, Bool, true, false, cond, not, ◌&&◌, List, [], ◌∷◌, length, Option, Some, None, refl, ap, sym, subst, ◌∙◌}
-use Rattle.std.proofs.lemmas.Bool.{false≢true, cases_lt}
+use Rattle.std.proofs.Common.{◌≡◌, ℕ, ◌≤◌, Bool, true, false, cond, not, ◌&&◌, List, [], ◌∷◌, length, Option, Some, None, refl, ap, sym, ◌∙◌}
+use Rattle.std.proofs.lemmas.Bool.{false≢true}
 use Rattle.std.specs.Option.{option_map, option_map_or, option_and_then}
 use Rattle.import_rounds.specs.Rounds.{has}
 use Rattle.pide_base.specs.declared.part.PartKind.{PartKind}
@@ -9,8 +9,6 @@ use Rattle.doc_nodes.specs.Imports.{NodeList}
 use Rattle.task_queue.specs.declared.task.Standing.{Standing as Task}
 use Rattle.task_queue.specs.Tasks.{has as has_input}
 use Rattle.exec_rules.specs.declared.home.Home.{Home}
-use Rattle.exec_rules.specs.declared.home.Input.{Input}
-use Rattle.exec_rules.specs.declared.home.Input.TheVariants as input
 use Rattle.exec_rules.specs.declared.version.Version.{Version}
 use Rattle.exec_rules.specs.Kept.{BlobList}
 use Rattle.language.specs.Lang.{Lang}
@@ -24,12 +22,11 @@ use Rattle.core_rules.specs.Standing.{standing, is_done}
 use Rattle.core_rules.specs.Doc.{Doc, doc, assignment_of, version_of}
 use Rattle.core_rules.specs.Ready.{priority_by}
 use Rattle.prover_core.specs.Progress.{completed_in, next_kind, next_of}
-use Rattle.prover_core.specs.Tasks.{present_kind, IsTaskOf, AreTasks, HasTask}
-use Rattle.update_plans.specs.Begun.{first_kind}
+use Rattle.prover_core.specs.Tasks.{present_kind, IsTaskOf, AreTasks}
 use Rattle.prover_core.specs.Plans.{ranked}
 use Rattle.prover_core.specs.Kept.{Tables, IsKept}
 use Rattle.prover_core.proofs.RankedTasks.{ranked_same, ranked_held, ranked_inputs, ranked_urgent}
-use Rattle.prover_core.proofs.UpdatedDoc.{NewLaws, three, same_home, same_setting, not_cancelled, nothing_done}
+use Rattle.prover_core.proofs.UpdatedDoc.{NewLaws, same_home, same_setting, not_cancelled}
 
 module _ {S : Type 0} (l : Lang S) (h : List Event) (t : Tables S) (k : IsKept l h t) (id : ℕ) (nodes : NodeList) (blobs : BlobList)
     (laws : NewLaws l h id nodes blobs) (tip_live : (e : ℕ) → assigns (doc l h).tip e ≡ true → is_assigned (doc l h).live e ≡ true) where

@@ -1,5 +1,5 @@
 -- Of what the tip assigns, the table of executions tells what is cancelled.
-use Rattle.std.proofs.Common.{◌≡◌, ℕ, true, false, cond, List, Option, Some, None, ap, sym, ◌∙◌}
+use Rattle.std.proofs.Common.{◌≡◌, ℕ, false, cond, List, Option, Some, None, ap, sym, ◌∙◌}
 use Rattle.std.specs.Option.{option_map, option_map_or}
 use Rattle.import_rounds.specs.Rounds.{has}
 use Rattle.exec_table.specs.declared.execution.Execution.{Execution}
@@ -10,7 +10,6 @@ use Rattle.exec_assign.specs.Agreeing.{AgreeAt}
 use Rattle.language.specs.Lang.{Lang}
 use Rattle.core_rules.specs.declared.event.Event.{Event}
 use Rattle.core_rules.specs.Numbered.{numbered}
-use Rattle.core_rules.specs.Assigned.{assigns, is_assigned}
 use Rattle.core_rules.specs.Settings.{Setting, setting}
 use Rattle.core_rules.specs.Doc.{Doc, doc}
 use Rattle.core_jobs.specs.declared.done.Done.{Done}

@@ -1,13 +1,11 @@
 -- The tasks of the tip that an update makes.
-use Rattle.std.proofs.Common.{◌≡◌, ◌⊎◌, inl, inr, ℕ, ◌<◌, ◌≤◌, Bool, true, false, cond, not, ◌&&◌, List, [], ◌∷◌, length, Option, Some, None, refl, ap, sym, subst, ◌∙◌}
+use Rattle.std.proofs.Common.{◌≡◌, ◌⊎◌, inl, inr, ℕ, ◌<◌, ◌≤◌, Bool, true, false, cond, not, ◌&&◌, List, ◌∷◌, length, Option, Some, None, refl, ap, sym, subst, ◌∙◌}
 use Rattle.std.proofs.lemmas.Bool.{false≢true, cases_lt}
-use Rattle.std.specs.Option.{option_map, option_map_or, option_and_then}
+use Rattle.std.specs.Option.{option_map, option_and_then}
 use Rattle.import_rounds.specs.Rounds.{has}
 use Rattle.pide_base.specs.declared.part.PartKind.{PartKind}
-use Rattle.pide_base.specs.declared.part.PartKind.TheVariants as kind
 use Rattle.doc_nodes.specs.Imports.{NodeList}
 use Rattle.task_queue.specs.declared.task.Standing.{Standing as Task}
-use Rattle.task_queue.specs.Tasks.{has as has_input}
 use Rattle.exec_rules.specs.declared.home.Home.{Home}
 use Rattle.exec_rules.specs.declared.home.Input.{Input}
 use Rattle.exec_rules.specs.declared.home.Input.TheVariants as input
@@ -18,18 +16,15 @@ use Rattle.core_rules.specs.declared.event.Event.{Event}
 use Rattle.core_rules.specs.declared.event.Event.TheVariants.{Update}
 use Rattle.core_rules.specs.Numbered.{numbered}
 use Rattle.core_rules.specs.Assigned.{assigns, is_visible, is_assigned}
-use Rattle.core_rules.specs.Settings.{made_of}
-use Rattle.core_rules.specs.Parts.{forks, waits_by, sources_of, evaluation}
-use Rattle.core_rules.specs.Standing.{standing, is_done}
+use Rattle.core_rules.specs.Parts.{forks}
+use Rattle.core_rules.specs.Standing.{standing}
 use Rattle.core_rules.specs.Doc.{Doc, doc, assignment_of, version_of}
-use Rattle.core_rules.specs.Ready.{priority_by}
 use Rattle.prover_core.specs.Progress.{completed_in, next_kind, next_of}
 use Rattle.prover_core.specs.Tasks.{present_kind, IsTaskOf, AreTasks, HasTask}
 use Rattle.update_plans.specs.Begun.{first_kind}
 use Rattle.prover_core.specs.Plans.{ranked}
 use Rattle.prover_core.specs.Kept.{Tables, IsKept}
-use Rattle.prover_core.proofs.RankedTasks.{ranked_same, ranked_held, ranked_inputs, ranked_urgent}
-use Rattle.prover_core.proofs.UpdatedDoc.{NewLaws, three, same_home, same_setting, not_cancelled, nothing_done}
+use Rattle.prover_core.proofs.UpdatedDoc.{NewLaws, three, not_cancelled, nothing_done}
 use Rattle.prover_core.proofs.TasksOver.{present_old, ranked_are, same_are}
 
 module _ {S : Type 0} (l : Lang S) (h : List Event) (t : Tables S) (k : IsKept l h t) (id : ℕ) (nodes : NodeList) (blobs : BlobList)

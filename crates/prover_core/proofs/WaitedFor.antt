@@ -1,26 +1,13 @@
 -- What is free, and what waits for nothing.
-use Rattle.std.proofs.Common.{◌≡◌, ℕ, Bool, true, false, cond, not, ◌&&◌, ◌||◌, List, [], ◌∷◌, length, Option, Some, None, refl, ap, sym, subst, ◌∙◌, arith}
+use Rattle.std.proofs.Common.{◌≡◌, ℕ, Bool, true, false, not, ◌&&◌, ◌||◌, List, [], ◌∷◌, length, refl, ap, sym, ◌∙◌, arith}
 use Rattle.std.proofs.lemmas.Bool.{false≢true, eqb-true, eq-eqb, or_left}
 use Rattle.text_words.proofs.KnownTests.{both-parts, both-hold}
 use Rattle.std.specs.Prelude.{◌==◌}
 use Rattle.std.specs.List.{list_all}
 use Rattle.import_rounds.specs.Rounds.{has}
-use Rattle.pide_base.specs.declared.part.Part.{Part}
-use Rattle.pide_base.specs.declared.part.PartKind.{PartKind}
-use Rattle.pide_base.specs.declared.part.PartKind.TheVariants as kind
-use Rattle.task_queue.specs.declared.task.Standing.{Standing as Task}
-use Rattle.task_queue.specs.Tasks.{has as has_input, is_ready as is_ready_task}
-use Rattle.task_queue.specs.Ready.{IsReadyPart}
-use Rattle.language.specs.Lang.{Lang}
-use Rattle.core_rules.specs.declared.event.Event.{Event}
-use Rattle.core_rules.specs.Assigned.{assigns, is_assigned}
-use Rattle.core_rules.specs.Parts.{waits_for, evaluation}
-use Rattle.core_rules.specs.Standing.{Standing, Free, Held, Done, standing, is_done, is_free, is_finished, is_open}
-use Rattle.core_rules.specs.Doc.{Doc}
-use Rattle.core_rules.specs.Ready.{is_part, is_wanted, has_inputs, is_ready_in, priority_of}
-use Rattle.prover_core.specs.Progress.{part, completed_in, next_of}
-use Rattle.prover_core.specs.Tasks.{present_kind, is_held, IsTaskOf, AreTasks, HasTask}
-use Rattle.prover_core.proofs.NextParts.{next_is_part, next_is_open, open_is_next, next_opens}
+use Rattle.task_queue.specs.Tasks.{has as has_input}
+use Rattle.core_rules.specs.Standing.{Standing, Free, Held, Done, is_done, is_free}
+use Rattle.prover_core.specs.Tasks.{is_held}
 
 pub not_true : (b : Bool) → not b ≡ true → b ≡ false
 not_true true x = absurd (cc)

@@ -30,5 +30,4 @@ pub use finishing::{Finish, GiveUp};
 pub use plan::Plan;
 pub use planning::PlanFault;
 pub use prover::Core;
-
 pub use settling::Settled;

@@ -1,14 +1,10 @@
-use Rattle.std.proofs.Common.{◌≡◌, ℕ, filter, rules, ap, sym, subst, ◌∙◌}
-use Rattle.std.specs.Prelude.{Some, flat_map}
-use Rattle.import_rounds.specs.Rounds.{has}
+use Rattle.std.proofs.Common.{◌≡◌, ℕ, rules, ap, sym, subst, ◌∙◌}
+use Rattle.std.specs.Prelude.{Some}
 use Rattle.exec_table.specs.Rows.{execution_of}
 use Rattle.doc_nodes.specs.Imports.{place_of}
 use Rattle.doc_versions.specs.Live.{version_of}
-use Rattle.exec_rules.specs.Assigning.{entries_at}
-use Rattle.exec_rules.specs.Listed.{executions}
 use Rattle.exec_lists.specs.declared.results.NodeResults.{NodeResults}
 use Rattle.prover_core.specs.States.{CoreState}
-use Rattle.exec_lists.specs.Parts.{rows_known, is_unfinished}
 use Rattle.prover_core.specs.Results.{AreResultsIn}
 use Rattle.prover_core.proofs.NodeShown.{results_so}
 use Rattle.prover_core.proofs.prover.Core.results.Goals as goal
