@@ -11,7 +11,7 @@ use toplevel::Isar;
 
 /// Never asks to stop.
 #[derive(Drop)]
-struct Never;
+pub(crate) struct Never;
 
 impl Stop for Never {
     ghost yeses = { λ _. 0 };
@@ -31,7 +31,7 @@ fn given<T: Drop>(answer: Answer<T>) -> Result<T, Fail> {
 }
 
 /// The kind of each report and its text, each behind a blank.
-fn tell(text: &mut String, reports: &[Report]) -> Result<(), AllocError> {
+pub(crate) fn tell(text: &mut String, reports: &[Report]) -> Result<(), AllocError> {
     for report in reports {
         text.push_str(" ")?;
         text.push_str(report.kind.word())?;

@@ -5,7 +5,14 @@ use std::alloc::Global;
 use std::test::Fail;
 
 /// What is shown, commands, and what is told of the last one.
-struct Row(&'static str, &'static [&'static str], &'static str);
+pub(crate) struct Row(
+    pub(crate) &'static str,
+    pub(crate) &'static [&'static str],
+    pub(crate) &'static str,
+);
+
+/// The text of every blob.
+pub(crate) const BLOB: &str = "b: Q";
 
 const HEADER: &str = "theory A begin";
 
@@ -13,7 +20,7 @@ const LEMMA: &str = "lemma l: \"P --> P\"";
 
 const BY: &str = "by (impI h h)";
 
-const ROWS: &[Row] = &[
+pub(crate) const ROWS: &[Row] = &[
     Row(
         "a theory begins",
         &[HEADER],
@@ -83,7 +90,7 @@ const ROWS: &[Row] = &[
 
 /// What is told of the last of the commands.
 fn told_of_last(alloc: Global, sources: &[&'static str]) -> Result<String, Fail> {
-    let blob: Vec<char> = "b: Q".chars().collect(alloc)?;
+    let blob: Vec<char> = BLOB.chars().collect(alloc)?;
     let mut state = started(alloc)?;
     let mut last = String::new(alloc);
     for source in sources {
