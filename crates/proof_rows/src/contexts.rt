@@ -3,31 +3,24 @@ use nj_formula::{Formula, Name};
 use sqlite_items::Items;
 use std::alloc::{AllocError, Global};
 use std::test::Fail;
-use theory_ctx::{AddError, Ctx, Lookup, Scope};
+use theory_ctx::{AddError, Ctx, FactName, Lookup};
 
 /// A propositional atom.
-fn atom(alloc: Global, name: &str) -> Result<Formula, AllocError> {
+pub(crate) fn atom(alloc: Global, name: &str) -> Result<Formula, AllocError> {
     Formula::atom(alloc, Name::new(alloc, name)?, Items::new(alloc))
 }
 
-/// A context with one fact, whose formula is an atom of the theory's name.
-fn with_fact(alloc: Global, theory: &str, name: &str) -> Result<Ctx, AddError> {
-    let mut ctx = Ctx::new();
-    ctx.add(alloc, theory, name, atom(alloc, theory)?)?;
-    Ok(ctx)
-}
-
 /// The name of an atom.
-fn said(formula: &Formula) -> &str {
+pub(crate) fn said(formula: &Formula) -> &str {
     match formula {
         Formula::Atom(predicate, _) => predicate.as_str(),
         _ => "?",
     }
 }
 
-/// Whether the answer is told so: `T.n: P`, `local.n: P`, `unknown` or `ambiguous B.n, C.n`.
-fn is_told(alloc: Global, lookup: Lookup, wanted: &str) -> Result<bool, AllocError> {
-    let told = match lookup {
+/// What a name means: `T.n: P`, `local.n: P`, `unknown` or `ambiguous B.n, C.n`.
+pub(crate) fn meaning(alloc: Global, lookup: Lookup) -> Result<String, AllocError> {
+    match lookup {
         Lookup::Found {
             theory,
             name,
@@ -35,146 +28,247 @@ fn is_told(alloc: Global, lookup: Lookup, wanted: &str) -> Result<bool, AllocErr
         } => {
             let theory = theory.unwrap_or("local");
             let said = said(formula);
-            format!(in alloc; "{theory}.{name}: {said}")?
+            format!(in alloc; "{theory}.{name}: {said}")
         }
-        Lookup::Unknown => String::from_str(alloc, "unknown")?,
-        Lookup::Ambiguous { first, second } => format!(in alloc; "ambiguous {first}, {second}")?,
-    };
-    Ok(told.as_str() == wanted)
+        Lookup::Unknown => String::from_str(alloc, "unknown"),
+        Lookup::Ambiguous { first, second } => format!(in alloc; "ambiguous {first}, {second}"),
+    }
 }
 
-/// How many of these names are told so in the theory.
-fn count_told(
+/// Something that is done with a context, or asked of it.
+enum Call {
+    /// Adds a fact: the theory, its name, and an atom.
+    Add(&'static str, &'static str, &'static str),
+    Set(&'static str, &'static str, &'static str),
+    /// Whether the theory has a fact of this name.
+    Has(&'static str, &'static str),
+    /// Whether the name is free in a fact.
+    Free(&'static str),
+    /// What is meant in the theory by the name.
+    Means(&'static str, &'static str),
+    /// All facts, in their order.
+    Facts,
+    /// A copy is kept beside it.
+    Keep,
+    /// It and what is kept beside it change places.
+    Swap,
+    /// It begins without facts.
+    Clear,
+    /// It is merged with what is kept beside it, and once more with itself.
+    Merge,
+}
+
+use Call::{Add, Clear, Facts, Free, Has, Keep, Means, Merge, Set, Swap};
+
+/// A call, and what it tells.
+struct Row(Call, &'static str);
+
+/// What is shown, and calls one after the other, from a context of no facts.
+struct Script(&'static str, &'static [Row]);
+
+const SCRIPTS: &[Script] = &[
+    Script(
+        "imported facts of one name",
+        &[
+            Row(Add("B", "n", "B"), "done"),
+            Row(Keep, "done"),
+            Row(Clear, "done"),
+            Row(Add("C", "n", "C"), "done"),
+            Row(Merge, "done"),
+            Row(Means("A", "n"), "ambiguous B.n, C.n"),
+            Row(Means("A", "B.n"), "B.n: B"),
+            Row(Means("A", "C.n"), "C.n: C"),
+            Row(Means("A", "m"), "unknown"),
+            Row(Means("A", "A.n"), "unknown"),
+            Row(Means("A", "B.C.n"), "unknown"),
+            Row(Means("B", "n"), "B.n: B"),
+            Row(Facts, " B.n: B; C.n: C;"),
+        ],
+    ),
+    Script(
+        "of two facts of one theory and name the earlier part's is merged",
+        &[
+            Row(Add("B", "n", "P"), "done"),
+            Row(Keep, "done"),
+            Row(Clear, "done"),
+            Row(Add("B", "n", "Q"), "done"),
+            Row(Merge, "done"),
+            Row(Facts, " B.n: Q;"),
+        ],
+    ),
+    Script(
+        "a name is taken once",
+        &[
+            Row(Add("B", "n", "B"), "done"),
+            Row(Add("A", "n", "A"), "done"),
+            Row(Add("A", "n", "D"), "taken"),
+            Row(Means("A", "n"), "A.n: A"),
+            Row(Has("A", "n"), "yes"),
+            Row(Has("C", "n"), "no"),
+            Row(Set("A", "n", "D"), "done"),
+            Row(Means("A", "n"), "A.n: D"),
+        ],
+    ),
+    Script(
+        "a copy goes its own way",
+        &[
+            Row(Add("A", "n", "A"), "done"),
+            Row(Keep, "done"),
+            Row(Swap, "done"),
+            Row(Add("A", "m", "P"), "done"),
+            Row(Means("A", "m"), "A.m: P"),
+            Row(Swap, "done"),
+            Row(Means("A", "m"), "unknown"),
+        ],
+    ),
+    Script(
+        "facts are walked by name and theory",
+        &[
+            Row(Facts, ""),
+            Row(Add("C", "n", "C"), "done"),
+            Row(Add("B", "n", "P"), "done"),
+            Row(Add("C", "m", "P"), "done"),
+            Row(Facts, " C.m: P; B.n: P; C.n: C;"),
+        ],
+    ),
+    Script(
+        "a predicate is no free name",
+        &[Row(Add("A", "n", "A"), "done"), Row(Free("A"), "no")],
+    ),
+];
+
+/// What is told where nothing else is to be told.
+fn done(alloc: Global) -> Result<String, AllocError> {
+    String::from_str(alloc, "done")
+}
+
+/// What a question tells.
+fn word(alloc: Global, holds: bool) -> Result<String, AllocError> {
+    String::from_str(alloc, if holds { "yes" } else { "no" })
+}
+
+/// Adds a fact.
+fn add(
     alloc: Global,
-    ctx: &Ctx,
+    ctx: &mut Ctx,
     theory: &str,
-    rows: &[(&str, &str)],
-) -> Result<usize, AllocError> {
-    let mut count = 0usize;
-    for (name, wanted) in rows {
-        if is_told(alloc, ctx.lookup(theory, name), wanted)? {
-            count = count.saturating_add(1);
+    name: &str,
+    said: &str,
+) -> Result<String, AllocError> {
+    match ctx.add(alloc, theory, name, atom(alloc, said)?) {
+        Ok(()) => done(alloc),
+        Err(AddError::Taken) => String::from_str(alloc, "taken"),
+        Err(AddError::NoMemory) => Err(AllocError),
+    }
+}
+
+/// Puts a fact in the place of another.
+fn set(
+    alloc: Global,
+    ctx: &mut Ctx,
+    theory: &str,
+    name: &str,
+    said: &str,
+) -> Result<String, AllocError> {
+    ctx.set(alloc, theory, name, atom(alloc, said)?)?;
+    done(alloc)
+}
+
+/// Adds the long name of a fact, and its atom.
+fn put_fact(
+    alloc: Global,
+    text: &mut String,
+    fact: &FactName,
+    formula: &Formula,
+) -> Result<(), AllocError> {
+    let long = fact.long_name();
+    let said = said(formula);
+    text.push_str(format!(in alloc; " {long}: {said};")?.as_str())
+}
+
+/// The long name of each fact, and its atom.
+fn facts(alloc: Global, ctx: &Ctx) -> Result<String, AllocError> {
+    let mut text = String::new(alloc);
+    for (fact, formula) in ctx.facts() {
+        put_fact(alloc, &mut text, fact, formula)?;
+    }
+    Ok(text)
+}
+
+/// Keeps a copy beside it.
+fn keep(alloc: Global, ctx: &Ctx, kept: &mut Ctx) -> Result<String, AllocError> {
+    *kept = ctx.copy()?;
+    done(alloc)
+}
+
+/// Lets the two change places.
+fn swap(alloc: Global, ctx: &mut Ctx, kept: &mut Ctx) -> Result<String, AllocError> {
+    std::mem::swap(ctx, kept);
+    done(alloc)
+}
+
+/// Begins without facts.
+fn clear(alloc: Global, ctx: &mut Ctx) -> Result<String, AllocError> {
+    *ctx = Ctx::new();
+    done(alloc)
+}
+
+/// Merges it with another, and once more with itself.
+fn merge(alloc: Global, ctx: &mut Ctx, kept: &Ctx) -> Result<String, AllocError> {
+    let merged = merged(alloc, ctx, kept)?;
+    *ctx = merged;
+    done(alloc)
+}
+
+/// A context merged with another, and once more with itself.
+fn merged(alloc: Global, ctx: &Ctx, kept: &Ctx) -> Result<Ctx, AllocError> {
+    Ctx::merge(alloc, &[ctx, kept, ctx])
+}
+
+/// What the call tells.
+fn told(alloc: Global, ctx: &mut Ctx, kept: &mut Ctx, call: &Call) -> Result<String, AllocError> {
+    match call {
+        Add(theory, name, said) => add(alloc, ctx, theory, name, said),
+        Set(theory, name, said) => set(alloc, ctx, theory, name, said),
+        Has(theory, name) => word(alloc, ctx.has(theory, name)),
+        Free(name) => word(alloc, ctx.has_free(name)),
+        Means(theory, name) => meaning(alloc, ctx.lookup(theory, name)),
+        Facts => facts(alloc, ctx),
+        Keep => keep(alloc, ctx, kept),
+        Swap => swap(alloc, ctx, kept),
+        Clear => clear(alloc, ctx),
+        Merge => merge(alloc, ctx, kept),
+    }
+}
+
+/// The first row that tells something else, from a context and one beside it.
+fn first_other_in(
+    alloc: Global,
+    ctx: &mut Ctx,
+    kept: &mut Ctx,
+    rows: &[Row],
+) -> Result<Option<String>, AllocError> {
+    for Row(call, want) in rows {
+        let told = told(alloc, ctx, kept, call)?;
+        if told.as_str() != *want {
+            return Ok(Some(told));
         }
     }
-    Ok(count)
+    Ok(None)
+}
+
+/// The first row of a script that tells something else.
+fn first_other(alloc: Global, rows: &[Row]) -> Result<Option<String>, AllocError> {
+    let mut ctx = Ctx::new();
+    let mut kept = Ctx::new();
+    first_other_in(alloc, &mut ctx, &mut kept, rows)
 }
 
 #[test]
-fn imported_facts_of_one_name(rt: HostRuntime) -> Result<(), Fail> {
-    let alloc = rt.alloc();
-    let b = with_fact(alloc, "B", "n")?;
-    let c = with_fact(alloc, "C", "n")?;
-    let ctx = Ctx::merge(alloc, &[&c, &b, &c])?;
-    let rows = [
-        ("n", "ambiguous B.n, C.n"),
-        ("B.n", "B.n: B"),
-        ("m", "unknown"),
-        ("A.n", "unknown"),
-        ("B.C.n", "unknown"),
-    ];
-    assert_eq!(rt; count_told(alloc, &ctx, "A", &rows)?, 5);
-    assert_eq!(rt; count_told(alloc, &ctx, "B", &[("n", "B.n: B")])?, 1);
-    Ok(())
-}
-
-#[test]
-fn a_name_is_taken_once(rt: HostRuntime) -> Result<(), Fail> {
-    let alloc = rt.alloc();
-    let mut ctx = with_fact(alloc, "B", "n")?;
-    assert_eq!(rt; ctx.add(alloc, "A", "n", atom(alloc, "A")?), Ok(()));
-    assert_eq!(rt;
-        ctx.add(alloc, "A", "n", atom(alloc, "D")?),
-        Err(AddError::Taken)
-    );
-    assert_eq!(rt; count_told(alloc, &ctx, "A", &[("n", "A.n: A")])?, 1);
-    assert!(rt; ctx.has("A", "n"));
-    assert!(rt; !ctx.has("C", "n"));
-    ctx.set(alloc, "A", "n", atom(alloc, "D")?)?;
-    assert_eq!(rt; count_told(alloc, &ctx, "A", &[("n", "A.n: D")])?, 1);
-    Ok(())
-}
-
-#[test]
-fn a_local_fact_hides_a_fact_of_a_theory(rt: HostRuntime) -> Result<(), Fail> {
-    let alloc = rt.alloc();
-    let ctx = with_fact(alloc, "A", "h")?;
-    let mut scope = Scope::new(alloc, "A", &ctx);
-    scope.push(alloc, "h", atom(alloc, "P")?)?;
-    scope.push(alloc, "h", atom(alloc, "Q")?)?;
-    assert!(rt; is_told(alloc, scope.lookup("h"), "local.h: Q")?);
-    assert!(rt; is_told(alloc, scope.lookup("A.h"), "A.h: A")?);
-    let _ = scope.pop();
-    assert!(rt; is_told(alloc, scope.lookup("h"), "local.h: P")?);
-    let _ = scope.pop();
-    assert!(rt; is_told(alloc, scope.lookup("h"), "A.h: A")?);
-    Ok(())
-}
-
-#[test]
-fn a_copy_goes_its_own_way(rt: HostRuntime) -> Result<(), Fail> {
-    let alloc = rt.alloc();
-    let ctx = with_fact(alloc, "A", "n")?;
-    let mut copy = ctx.copy()?;
-    copy.add(alloc, "A", "m", atom(alloc, "P")?)?;
-    assert!(rt; is_told(alloc, copy.lookup("A", "m"), "A.m: P")?);
-    assert!(rt; is_told(alloc, ctx.lookup("A", "m"), "unknown")?);
-    Ok(())
-}
-
-#[test]
-fn an_inner_scope_comes_and_goes(rt: HostRuntime) -> Result<(), Fail> {
-    let alloc = rt.alloc();
-    let ctx = Ctx::new();
-    let mut scope = Scope::new(alloc, "A", &ctx);
-    scope.push(alloc, "h", atom(alloc, "P")?)?;
-    let mut inner = scope.inner(alloc);
-    assert!(rt; is_told(alloc, inner.lookup("h"), "local.h: P")?);
-    inner.push(alloc, "h", atom(alloc, "Q")?)?;
-    assert!(rt; is_told(alloc, inner.lookup("h"), "local.h: Q")?);
-    assert!(rt; is_told(alloc, scope.lookup("h"), "local.h: P")?);
-    let _ = inner.pop();
-    assert!(rt; inner.pop().is_none());
-    assert!(rt; is_told(alloc, inner.lookup("h"), "local.h: P")?);
-    Ok(())
-}
-
-#[test]
-fn local_facts_are_walked_from_the_innermost(rt: HostRuntime) -> Result<(), Fail> {
-    let alloc = rt.alloc();
-    let ctx = Ctx::new();
-    let mut scope = Scope::new(alloc, "A", &ctx);
-    scope.push(alloc, "g", atom(alloc, "P")?)?;
-    scope.push(alloc, "h", atom(alloc, "Q")?)?;
-    for (depth, name) in [(0, "h"), (1, "g")] {
-        assert!(rt;
-            scope
-                .local_at(depth)
-                .is_some_and(|local| local.name.is(name))
-        );
+fn contexts_tell_what_their_scripts_say(rt: HostRuntime) -> Result<(), Fail> {
+    for Script(shows, rows) in SCRIPTS {
+        let other = first_other(rt.alloc(), rows)?;
+        assert!(rt; other.is_none(), "{shows}: {other:?}");
     }
-    assert!(rt; scope.local_at(2).is_none());
-    Ok(())
-}
-
-#[test]
-fn facts_are_walked_by_name_and_theory(rt: HostRuntime) -> Result<(), Fail> {
-    let alloc = rt.alloc();
-    let mut ctx = with_fact(alloc, "C", "n")?;
-    ctx.add(alloc, "B", "n", atom(alloc, "P")?)?;
-    ctx.add(alloc, "C", "m", atom(alloc, "P")?)?;
-    let mut names = ["C.m", "B.n", "C.n"].iter();
-    for (fact, _) in ctx.facts() {
-        let long = fact.long_name();
-        let told = format!(in alloc; "{long}")?;
-        assert_eq!(rt; Some(told.as_str()), names.next().copied());
-    }
-    assert!(rt; names.next().is_none());
-    Ok(())
-}
-
-#[test]
-fn a_predicate_is_no_free_name(rt: HostRuntime) -> Result<(), Fail> {
-    let ctx = with_fact(rt.alloc(), "A", "n")?;
-    assert!(rt; !ctx.has_free("A"));
     Ok(())
 }

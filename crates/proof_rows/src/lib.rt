@@ -6,6 +6,10 @@
 #[cfg(test)]
 mod contexts;
 #[cfg(test)]
+mod proof_commands;
+#[cfg(test)]
 mod proof_scripts;
+#[cfg(test)]
+mod scopes;
 #[cfg(test)]
 mod terms;

@@ -1,0 +1,201 @@
+//! Scopes of local facts (`theory_ctx`): which fact a name means inside a block.
+use crate::contexts::{atom, meaning, said};
+use std::alloc::{AllocError, Global};
+use std::test::Fail;
+use theory_ctx::{Ctx, InnerScope, Local, Scope};
+
+/// Something that is done with a scope, or asked of it.
+enum Call {
+    /// Adds a local fact: its name, and an atom.
+    Push(&'static str, &'static str),
+    Pop,
+    /// What the name means.
+    Means(&'static str),
+    /// The local fact this deep.
+    At(usize),
+    /// A scope inside it, for as long as these calls take.
+    Inside(&'static [InnerRow]),
+}
+
+/// Something that is done with a scope inside another, or asked of it.
+enum InnerCall {
+    Push(&'static str, &'static str),
+    Pop,
+    Means(&'static str),
+    /// What the name means in the scope around it.
+    Around(&'static str),
+}
+
+/// A call, and what it tells.
+struct Row(Call, &'static str);
+
+/// A call inside, and what it tells.
+struct InnerRow(InnerCall, &'static str);
+
+/// What is shown, the name of the one fact that the theory sees, or "", and calls one after the
+/// other.
+struct Script(&'static str, &'static str, &'static [Row]);
+
+use Call::{At, Inside, Means, Pop, Push};
+use InnerCall::{Around, Means as InnerMeans, Pop as InnerPop, Push as InnerPush};
+
+const SCRIPTS: &[Script] = &[
+    Script(
+        "a local fact hides a fact of a theory",
+        "h",
+        &[
+            Row(Push("h", "P"), "done"),
+            Row(Push("h", "Q"), "done"),
+            Row(Means("h"), "local.h: Q"),
+            Row(Means("A.h"), "A.h: A"),
+            Row(Pop, "h: Q"),
+            Row(Means("h"), "local.h: P"),
+            Row(Pop, "h: P"),
+            Row(Means("h"), "A.h: A"),
+            Row(Pop, "none"),
+        ],
+    ),
+    Script(
+        "an inner scope comes and goes",
+        "",
+        &[
+            Row(Push("h", "P"), "done"),
+            Row(
+                Inside(&[
+                    InnerRow(InnerMeans("h"), "local.h: P"),
+                    InnerRow(InnerPush("h", "Q"), "done"),
+                    InnerRow(InnerMeans("h"), "local.h: Q"),
+                    InnerRow(Around("h"), "local.h: P"),
+                    InnerRow(InnerPop, "h: Q"),
+                    InnerRow(InnerPop, "none"),
+                    InnerRow(InnerMeans("h"), "local.h: P"),
+                ]),
+                "as said",
+            ),
+            Row(Means("h"), "local.h: P"),
+        ],
+    ),
+    Script(
+        "local facts are walked from the innermost",
+        "",
+        &[
+            Row(Push("g", "P"), "done"),
+            Row(Push("h", "Q"), "done"),
+            Row(At(0), "h: Q"),
+            Row(At(1), "g: P"),
+            Row(At(2), "none"),
+        ],
+    ),
+];
+
+/// What is told where nothing else is to be told.
+fn done(alloc: Global) -> Result<String, AllocError> {
+    String::from_str(alloc, "done")
+}
+
+/// A local fact, if there is one.
+fn local(alloc: Global, local: Option<&Local>) -> Result<String, AllocError> {
+    match local {
+        Some(local) => {
+            let name = local.name.as_str();
+            let said = said(&local.formula);
+            format!(in alloc; "{name}: {said}")
+        }
+        None => String::from_str(alloc, "none"),
+    }
+}
+
+/// Adds a local fact.
+fn push(alloc: Global, scope: &mut Scope, name: &str, said: &str) -> Result<String, AllocError> {
+    scope.push(alloc, name, atom(alloc, said)?)?;
+    done(alloc)
+}
+
+/// Adds a local fact inside.
+fn push_inside(
+    alloc: Global,
+    inner: &mut InnerScope,
+    name: &str,
+    said: &str,
+) -> Result<String, AllocError> {
+    inner.push(alloc, name, atom(alloc, said)?)?;
+    done(alloc)
+}
+
+/// What the call inside tells.
+fn told_inside(
+    alloc: Global,
+    scope: &Scope,
+    inner: &mut InnerScope,
+    call: &InnerCall,
+) -> Result<String, AllocError> {
+    match call {
+        InnerPush(name, said) => push_inside(alloc, inner, name, said),
+        InnerPop => local(alloc, inner.pop().as_ref()),
+        InnerMeans(name) => meaning(alloc, inner.lookup(name)),
+        Around(name) => meaning(alloc, scope.lookup(name)),
+    }
+}
+
+/// `as said`, or what the first call inside tells that tells something else.
+fn inside(alloc: Global, scope: &Scope, rows: &[InnerRow]) -> Result<String, AllocError> {
+    let mut inner = scope.inner(alloc);
+    for InnerRow(call, want) in rows {
+        let told = told_inside(alloc, scope, &mut inner, call)?;
+        if told.as_str() != *want {
+            return Ok(told);
+        }
+    }
+    String::from_str(alloc, "as said")
+}
+
+/// What the call tells.
+fn told(alloc: Global, scope: &mut Scope, call: &Call) -> Result<String, AllocError> {
+    match call {
+        Push(name, said) => push(alloc, scope, name, said),
+        Pop => local(alloc, scope.pop().as_ref()),
+        Means(name) => meaning(alloc, scope.lookup(name)),
+        At(depth) => local(alloc, scope.local_at(*depth)),
+        Inside(rows) => inside(alloc, scope, rows),
+    }
+}
+
+/// The first row that tells something else, in a scope.
+fn first_other_in(
+    alloc: Global,
+    scope: &mut Scope,
+    rows: &[Row],
+) -> Result<Option<String>, AllocError> {
+    for Row(call, want) in rows {
+        let told = told(alloc, scope, call)?;
+        if told.as_str() != *want {
+            return Ok(Some(told));
+        }
+    }
+    Ok(None)
+}
+
+/// The context of a fact of this name, or of none.
+fn ctx_of(alloc: Global, name: &str) -> Result<Ctx, Fail> {
+    let mut ctx = Ctx::new();
+    if !name.is_empty() {
+        ctx.add(alloc, "A", name, atom(alloc, "A")?)?;
+    }
+    Ok(ctx)
+}
+
+/// The first row of a script that tells something else.
+fn first_other(alloc: Global, name: &str, rows: &[Row]) -> Result<Option<String>, Fail> {
+    let ctx = ctx_of(alloc, name)?;
+    let mut scope = Scope::new(alloc, "A", &ctx);
+    Ok(first_other_in(alloc, &mut scope, rows)?)
+}
+
+#[test]
+fn scopes_tell_what_their_scripts_say(rt: HostRuntime) -> Result<(), Fail> {
+    for Script(shows, name, rows) in SCRIPTS {
+        let other = first_other(rt.alloc(), name, rows)?;
+        assert!(rt; other.is_none(), "{shows}: {other:?}");
+    }
+    Ok(())
+}
