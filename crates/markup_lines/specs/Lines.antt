@@ -16,10 +16,18 @@ abbrev pub text_part : List ℕ → List ℕ
 text_part [] = []
 text_part (b ∷ bs) = codes ": " ++ b ∷ bs
 
--- `start-stop kind`, the properties, the text, and the end of the line
+-- `start-stop`
+abbrev pub place_text : Report → List ℕ
+place_text r = decimal r.range.start ++ codes "-" ++ decimal r.range.stop
+
+-- ` kind`, the properties, the text, and the end of the line
+abbrev pub said_text : Report → List ℕ
+said_text r = codes " " ++ kind_word r.kind ++ flat_map property_text r.properties
+    ++ text_part r.text ++ codes "\n"
+
+-- the line of a report
 abbrev pub line : Report → List ℕ
-line r = decimal r.range.start ++ codes "-" ++ decimal r.range.stop ++ codes " "
-    ++ kind_word r.kind ++ flat_map property_text r.properties ++ text_part r.text ++ codes "\n"
+line r = place_text r ++ said_text r
 
 -- the markup of a text, a report a line
 abbrev pub lines : {S : Type 0} → Lang S → List ℕ → List ℕ

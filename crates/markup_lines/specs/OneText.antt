@@ -1,9 +1,10 @@
 -- What checking one text from nothing reports: the text is the only node of a document, and all of
 -- its commands are wanted (this project's own).
-use Rattle.std.specs.Prelude.{ℕ, true, if◌then◌else◌, nat_le, List, [], ◌∷◌, ◌++◌, codes, length, map, zip}
+use Rattle.std.specs.Prelude.{ℕ, true, if◌then◌else◌, List, [], ◌∷◌, ◌++◌, codes, map, zip}
 use Rattle.std.specs.List.{flat_map}
 use Rattle.std.specs.Option.{option_map_or}
-use Rattle.pide_base.specs.NodeName.{most_characters}
+use Rattle.std.specs.Str.{encode_utf8_all}
+use Rattle.pide_base.specs.NodeName.{is_node_name}
 use Rattle.report_markup.specs.declared.report.Report.{Report}
 use Rattle.report_markup.specs.Ranges.{moved}
 use Rattle.report_markup.specs.Sorting.{in_order}
@@ -18,7 +19,7 @@ use Rattle.buffer_rules.specs.Nodes.{nodes_after}
 
 -- a name that a node can have, else `Scratch`
 abbrev pub named : List ℕ → List ℕ
-named name = if nat_le (length name) most_characters then name else codes "Scratch"
+named name = if is_node_name (encode_utf8_all name) then encode_utf8_all name else codes "Scratch"
 
 -- the name of the text's node: that of the theory, if it has a header
 abbrev pub name_of : List ℕ → List ℕ

@@ -1,8 +1,10 @@
 use Rattle.std.proofs.Common.{refl}
+use Rattle.std.specs.Char.{encode_utf8}
 use Rattle.std.specs.Fmt.{digits}
 use Rattle.markup_lines.proofs.laws.worked_examples.Goals as goal
 
 pub returns-clause-small_theories : goal.returns-clause-small_theories
+unfolding encode_utf8
 returns-clause-small_theories c = record {
   nothing = refl;
   empty = refl;
@@ -20,6 +22,7 @@ returns-clause-small_lines c = record {
 }
 
 pub returns-clause-small_facts : goal.returns-clause-small_facts
+unfolding encode_utf8
 returns-clause-small_facts c = record {
   an_axiom = refl;
   a_lemma = refl;

@@ -1,0 +1,30 @@
+-- Where the commands of one text stand.
+use Rattle.std.proofs.Common.{◌≡◌, ℕ, ◌≤◌, List, [], ◌∷◌, length, map, refl, ap, arith}
+use Rattle.std.specs.List.{AllByRecursion, zip}
+use Rattle.pide_base.specs.declared.range.Range.{Range}
+use Rattle.doc_nodes.specs.declared.node.Entry.{Entry}
+use Rattle.buffer_rules.specs.declared.sheet.Sheet.{Sheet}
+use Rattle.doc_blobs.specs.Needs.{AliasList}
+use Rattle.buffer_rules.specs.Nodes.{entry}
+use Rattle.core_rules.specs.Updates.{AreRising}
+use Rattle.text_check.specs.Walking.{LiesIn}
+
+-- the commands of these ids and ranges stand at these ranges
+pub ranges_so : (sheet : Sheet) (aliases : AliasList) (ids : List ℕ) (ranges : List Range) → length ids ≡ length ranges
+    → map (λ e. e.range) (map (entry sheet aliases) (zip ids ranges)) ≡ ranges
+ranges_so sheet aliases [] [] long = refl
+ranges_so sheet aliases (i ∷ ids) [] long = absurd (omega arith)
+ranges_so sheet aliases [] (r ∷ rs) long = absurd (omega arith)
+ranges_so sheet aliases (i ∷ ids) (r ∷ rs) long = ap (λ more. r ∷ more) (ranges_so sheet aliases ids rs (omega arith))
+
+-- commands one behind the other end within the text
+ends_within : (from len : ℕ) (es : List Entry) → AreRising from len es → from ≤ len
+ends_within from len [] rising = rising
+ends_within from len (e ∷ es) rising = let last = ends_within e.range.stop len es rising.2 in let first = rising.0 in let some = rising.1 in omega arith
+
+-- so each lies in it
+pub lie_within : (from len : ℕ) (es : List Entry) → AreRising from len es
+    → AllByRecursion (LiesIn len) (map (λ e. e.range) es)
+lie_within from len [] rising = tt
+lie_within from len (e ∷ es) rising =
+    ((rising.1, ends_within e.range.stop len es rising.2), lie_within e.range.stop len es rising.2)
