@@ -6,3 +6,4 @@ mod Stepping
 mod Running
 mod Needed
 mod Documents
+mod Alone

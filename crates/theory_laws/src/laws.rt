@@ -1,6 +1,6 @@
 //! The laws.
 
-ghost use Rattle.std.specs.Prelude.{ℕ, List, []};
+ghost use Rattle.std.specs.Prelude.{ℕ, List, [], ◌∷◌};
 ghost use Rattle.std.specs.List.{AllByRecursion};
 ghost use Rattle.doc_nodes.specs.declared.inherited.NodeAliases.{NodeAliases};
 ghost use Rattle.doc_nodes.specs.declared.node.Node.{Node};
@@ -15,6 +15,7 @@ ghost use Rattle.theory_laws.specs.Clean.{AreClean};
 ghost use Rattle.theory_laws.specs.Facts.{FactsFollow};
 ghost use Rattle.theory_laws.specs.Imports.{AreCleanFrom, IsAxiomFrom};
 
+use import_rounds::rounds_law;
 use proof_checks::checks_law;
 use proof_state::kept_law;
 
@@ -38,4 +39,16 @@ pub fn sound_law()
 {
     kept_law();
     checks_law();
+}
+
+/// A document of one node: where its commands report no error, each fact of its theory follows by
+/// natural deduction from the theory's own axioms.
+pub fn alone_law()
+    ensures { (name : List ℕ) (node : Node) (blobs : BlobList) → AllByRecursion (λ one.
+        AreClean one.1.commands → FactsFollow (IsAxiomOf one.1.commands) (final isar one.1))
+        (scratch isar ((name, node) ∷ []) blobs) }
+{
+    kept_law();
+    checks_law();
+    rounds_law();
 }

@@ -8,4 +8,4 @@
 
 mod laws;
 
-pub use laws::{node_law, sound_law};
+pub use laws::{alone_law, node_law, sound_law};
