@@ -1,0 +1,179 @@
+//! A version checked from nothing: its nodes in the order of imports, in each one command after the
+//! other. No execution, worker or version before is in it.
+use crate::tally::{Never, Tally};
+use doc_nodes::{Entry, ImportGraph, Node, NodeAliases, Nodes, Shared, aliases_of};
+use exec_rules::Blobs;
+use language::{Answer, Imported, Imports, Language, Made};
+use outer_tokens::scalars;
+use report_markup::Report;
+use sqlite_items::Items;
+use std::alloc::Global;
+use std::test::Fail;
+
+/// What is reported of a command, by the place where its span begins.
+#[derive(Drop)]
+pub(crate) struct Said {
+    pub(crate) start: usize,
+    pub(crate) report: Report,
+}
+
+/// All that is reported of a node.
+#[derive(Drop)]
+pub(crate) struct Checked {
+    pub(crate) name: String,
+    pub(crate) said: Vec<Said>,
+}
+
+fn given<T>(answer: Answer<T>) -> Result<T, Fail> {
+    match answer {
+        Answer::Given(value) => Ok(value),
+        Answer::Stopped => Err(Fail::new("stopped")),
+        Answer::NoMemory => Err(Fail::new("memory")),
+    }
+}
+
+fn shared(alloc: Global, number: u64) -> Result<Shared<u64>, Fail> {
+    match Shared::new(alloc, number) {
+        Ok(shared) => Ok(shared),
+        Err(_) => Err(Fail::new("memory")),
+    }
+}
+
+/// The language has one report of each part.
+fn add(said: &mut Vec<Said>, start: usize, reports: Items<Report>) -> Result<(), Fail> {
+    let mut reports = reports;
+    if let Some(report) = reports.pop() {
+        said.push(Said { start, report })?;
+    }
+    Ok(())
+}
+
+/// The states behind nodes that were checked, by place.
+type Ends = Vec<u64>;
+
+/// What a node begins with.
+fn imports_of(
+    alloc: Global,
+    graph: &ImportGraph,
+    place: usize,
+    node: &Node,
+    ends: &Ends,
+) -> Result<Imports<u64>, Fail> {
+    let names = node.imports.get().as_slice();
+    let mut imports = Items::new(alloc);
+    for (name, aim) in names.iter().zip(graph.aims(place)) {
+        let name = Items::from_slice(alloc, name.as_slice())?;
+        let end = match aim {
+            Some(aim) if graph.is_ordered(*aim) => ends.get(*aim),
+            _ => None,
+        };
+        match end {
+            None => return Ok(Imports::Bad(name)),
+            Some(end) => imports.push(Imported {
+                name,
+                state: shared(alloc, *end)?,
+            })?,
+        }
+    }
+    Ok(Imports::Ordered(imports))
+}
+
+/// What is reported of a command; the state behind it is answered.
+fn command(
+    alloc: Global,
+    node: &Node,
+    entry: &Entry,
+    blobs: &Blobs,
+    state: u64,
+    said: &mut Vec<Said>,
+) -> Result<u64, Fail> {
+    let source = scalars(node.text.get().as_slice(), entry.range);
+    let blob = match &entry.needs {
+        Some(name) => blobs.get(name),
+        None => None,
+    };
+    let blob = match blob {
+        Some(text) => Some(text.get().as_slice()),
+        None => None,
+    };
+    let start = entry.range.start;
+    let Made {
+        state: behind,
+        reports,
+        forks,
+    } = given(Tally.step(alloc, source, blob, &state, &mut Never))?;
+    add(said, start, reports)?;
+    if forks {
+        let forked = given(Tally.fork(alloc, source, &state, &mut Never))?;
+        add(said, start, forked)?;
+    }
+    if entry.visible {
+        add(said, start, Tally.print(alloc, source, &behind)?)?;
+    }
+    Ok(behind)
+}
+
+/// What is reported of all commands of a node; the state behind them is answered.
+fn commands(
+    alloc: Global,
+    node: &Node,
+    blobs: &Blobs,
+    begun: u64,
+    said: &mut Vec<Said>,
+) -> Result<u64, Fail> {
+    let mut state = begun;
+    for entry in node.entries.get().as_slice() {
+        state = command(alloc, node, entry, blobs, state, said)?;
+    }
+    Ok(state)
+}
+
+/// A version that is checked.
+#[derive(Drop)]
+struct Checking<'a> {
+    nodes: &'a Nodes,
+    blobs: &'a Blobs,
+    graph: ImportGraph,
+    aliases: Vec<NodeAliases>,
+}
+
+/// The node at a place; the state behind it goes in among the others.
+fn check_node(
+    alloc: Global,
+    version: &Checking<'_>,
+    place: usize,
+    ends: &mut Ends,
+) -> Result<Checked, Fail> {
+    let (name, node) = version.nodes.at(place).ok_or("node")?;
+    let aliases = version.aliases.get(place).ok_or("aliases")?;
+    let imports = imports_of(alloc, &version.graph, place, node, ends)?;
+    let begun = Tally.start(alloc, name, &imports, aliases)?;
+    let mut said = Vec::new(alloc);
+    let end = commands(alloc, node, version.blobs, begun, &mut said)?;
+    if let Some(there) = ends.get_mut(place) {
+        *there = end;
+    }
+    let name = String::from_str(alloc, name.as_str())?;
+    Ok(Checked { name, said })
+}
+
+/// All nodes, in the order of imports.
+pub(crate) fn check(alloc: Global, nodes: &Nodes, blobs: &Blobs) -> Result<Vec<Checked>, Fail> {
+    let graph = ImportGraph::of(alloc, nodes)?;
+    let aliases = aliases_of(alloc, nodes, &graph)?;
+    let version = Checking {
+        nodes,
+        blobs,
+        graph,
+        aliases,
+    };
+    let mut ends = Vec::new(alloc);
+    for _ in 0..nodes.len() {
+        ends.push(0)?;
+    }
+    let mut all = Vec::new(alloc);
+    for place in version.graph.order() {
+        all.push(check_node(alloc, &version, *place, &mut ends)?)?;
+    }
+    Ok(all)
+}
