@@ -69,7 +69,8 @@ impl<S> Job<S> {
         &self.flag
     }
 
-    pub(crate) fn source(&self) -> &[char]
+    /// The command's source, in scalars.
+    pub fn source(&self) -> &[char]
         ensures { result.now ≡ self.now.source }
     {
         self.source.get().as_slice()

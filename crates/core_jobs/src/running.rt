@@ -16,8 +16,8 @@ use sqlite_items::Items;
 use std::alloc::{AllocError, Global};
 
 impl<S: Send + Sync + Drop> Job<S> {
-    /// What comes of the part.
-    pub(crate) fn worked_on<L: Language<State = S>, P: Stop>(
+    /// Works on the part, as `run` does, and leaves the job to the caller.
+    pub fn worked_on<L: Language<State = S>, P: Stop>(
         &self,
         alloc: Global,
         lang: &L,

@@ -13,6 +13,7 @@ mod finishing;
 mod following;
 mod forgetting;
 mod laws;
+mod looking;
 mod numbers;
 mod plan;
 mod planning;
