@@ -53,8 +53,8 @@ impl<L: Language> Core<L> {
         }
     }
 
-    /// The first ready part.
-    fn first(&self) -> Option<Part>
+    /// The first ready part: None exactly where none is ready.
+    pub fn first(&self) -> Option<Part>
         ensures { result ≡ first_ready L.lang self.now.past }
     {
         tip_law::<L>();
