@@ -11,6 +11,7 @@ mod chunk;
 mod data;
 mod message;
 mod nodes;
+mod numbers;
 mod parts;
 mod reply;
 mod told;
@@ -18,6 +19,10 @@ mod total;
 mod versions;
 mod writing;
 
+pub use nodes::markup;
+pub use numbers::{cancelled, idle, protocol, refused};
+pub use parts::{claimed, dropped, report};
 pub use reply::{AssignedNode, AssignedRow, Executions, Reply, Reports};
 pub use told::{CommandRow, NodeRows, Told};
+pub use versions::{assign, removed, settled};
 pub use writing::write;

@@ -11,7 +11,8 @@ use crate::reply::Reports;
 use pide_base::{ExecId, NodeName, VersionId};
 use std::alloc::{AllocError, Global};
 
-pub(crate) fn markup<'a>(
+/// The reply that tells what is known of a node in the version.
+pub fn markup<'a>(
     alloc: Global,
     version: VersionId,
     node: &'a NodeName,

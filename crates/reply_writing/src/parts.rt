@@ -12,7 +12,8 @@ use message_values::Worker;
 use pide_base::Part;
 use std::alloc::{AllocError, Global};
 
-pub(crate) fn claimed(alloc: Global, worker: Worker, part: Part) -> Result<Vec<u8>, AllocError>
+/// The reply that the worker took the part.
+pub fn claimed(alloc: Global, worker: Worker, part: Part) -> Result<Vec<u8>, AllocError>
     ensures { IfOk result
         (λ bytes. bytes.items ≡ plain_spelling (reply_chunks (Claimed worker part))) }
 {
@@ -27,7 +28,8 @@ pub(crate) fn claimed(alloc: Global, worker: Worker, part: Part) -> Result<Vec<u
     )
 }
 
-pub(crate) fn report(alloc: Global, part: Part, reports: Reports<'_>) -> Result<Vec<u8>, AllocError>
+/// The reply that the part is finished, with what it reports.
+pub fn report(alloc: Global, part: Part, reports: Reports<'_>) -> Result<Vec<u8>, AllocError>
     ensures { IfOk result (λ bytes. bytes.items
         ≡ plain_spelling (reply_chunks (Report part (reports_of reports.entry)))) }
 {
@@ -42,7 +44,8 @@ pub(crate) fn report(alloc: Global, part: Part, reports: Reports<'_>) -> Result<
     )
 }
 
-pub(crate) fn dropped(alloc: Global, part: Part) -> Result<Vec<u8>, AllocError>
+/// The reply that the part was let go.
+pub fn dropped(alloc: Global, part: Part) -> Result<Vec<u8>, AllocError>
     ensures { IfOk result (λ bytes. bytes.items ≡ plain_spelling (reply_chunks (Dropped part))) }
 {
     spelled(

@@ -11,7 +11,8 @@ use crate::reply::AssignedNode;
 use pide_base::{ExecId, VersionId};
 use std::alloc::{AllocError, Global};
 
-pub(crate) fn assign<'a>(
+/// The reply that tells what the version assigns.
+pub fn assign<'a>(
     alloc: Global,
     version: VersionId,
     nodes: &'a [AssignedNode<'a>],
@@ -29,18 +30,16 @@ pub(crate) fn assign<'a>(
     )
 }
 
-pub(crate) fn removed(alloc: Global, versions: &[VersionId]) -> Result<Vec<u8>, AllocError>
+/// The reply that the versions are removed.
+pub fn removed(alloc: Global, versions: &[VersionId]) -> Result<Vec<u8>, AllocError>
     ensures { IfOk result
         (λ bytes. bytes.items ≡ plain_spelling (reply_chunks (Removed versions.now))) }
 {
     spelled(alloc, &[Chunk::Word("removed"), Chunk::Versions(versions)])
 }
 
-pub(crate) fn settled(
-    alloc: Global,
-    version: VersionId,
-    stuck: &[ExecId],
-) -> Result<Vec<u8>, AllocError>
+/// The reply that the version is settled, with its stuck executions.
+pub fn settled(alloc: Global, version: VersionId, stuck: &[ExecId]) -> Result<Vec<u8>, AllocError>
     ensures { IfOk result
         (λ bytes. bytes.items ≡ plain_spelling (reply_chunks (Settled version stuck.now))) }
 {

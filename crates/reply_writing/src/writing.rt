@@ -5,8 +5,8 @@ ghost use Rattle.reply_writing.specs.Forms.{IsForm};
 ghost use Rattle.reply_writing.specs.Lent.{told};
 ghost use Rattle.reply_writing.specs.Replies.{reply_chunks};
 
-use crate::message::numbered;
 use crate::nodes::{built, markup};
+use crate::numbers::{cancelled, idle, protocol as protocol_told, refused};
 use crate::parts::{claimed, dropped, report};
 use crate::reply::Reply;
 use crate::total::total;
@@ -28,12 +28,12 @@ pub fn write(alloc: Global, reply: &Reply<'_>) -> Result<Vec<u8>, AllocError>
             pending,
             outdated,
         } => markup(alloc, version, node, reports, pending, outdated),
-        Reply::Cancelled { exec } => numbered(alloc, "cancelled", exec.number()),
-        Reply::Idle { exec } => numbered(alloc, "idle", exec.number()),
+        Reply::Cancelled { exec } => cancelled(alloc, exec),
+        Reply::Idle { exec } => idle(alloc, exec),
         Reply::Removed { versions } => removed(alloc, versions),
         Reply::Settled { version, stuck } => settled(alloc, version, stuck),
-        Reply::Protocol { protocol } => numbered(alloc, "protocol", protocol.number()),
-        Reply::Refused { reason } => numbered(alloc, "refused", reason.number()),
+        Reply::Protocol { protocol } => protocol_told(alloc, protocol),
+        Reply::Refused { reason } => refused(alloc, reason),
         Reply::Claimed { worker, part } => claimed(alloc, worker, part),
         Reply::Report { part, reports } => report(alloc, part, reports),
         Reply::Dropped { part } => dropped(alloc, part),
