@@ -1,0 +1,14 @@
+mod RisingNumbers
+mod AgedVersions
+mod RemovedVersions
+mod OnceEach
+mod LiveTexts
+mod ScratchRuns
+mod LyingReports
+mod MovableParts
+mod AssignedParts
+mod ShownParts
+mod SourcesTold
+mod ToldLists
+mod ToldMessages
+mod EditSteps

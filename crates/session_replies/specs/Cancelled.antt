@@ -1,0 +1,13 @@
+-- What is told of a cancellation.
+use Rattle.std.specs.Prelude.{ℕ}
+use Rattle.exec_table.specs.declared.execs.Cancelling.{Cancelling}
+use Rattle.exec_table.specs.declared.execs.Cancelling.TheVariants as answer
+use Rattle.message_values.specs.declared.refusal.Refusal.TheVariants.{UnknownExecution}
+use Rattle.reply_writing.specs.declared.told.Told.{Told}
+use Rattle.reply_writing.specs.declared.told.Told.TheVariants as tells
+
+-- by what asking the core to cancel came to
+abbrev pub cancelling_told : ℕ → Cancelling → Told
+cancelling_told exec answer.Unknown = tells.Refused UnknownExecution
+cancelling_told exec answer.Idle = tells.Idle exec
+cancelling_told exec answer.Cancelled = tells.Cancelled exec

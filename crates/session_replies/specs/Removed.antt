@@ -1,0 +1,9 @@
+-- What is told of versions that are removed.
+use Rattle.std.specs.Prelude.{◌≡◌, ℕ, List}
+use Rattle.import_rounds.specs.Rounds.{has}
+use Rattle.reply_writing.specs.Forms.{IsRising}
+
+-- the same ids, rising, each once
+pub record IsRisen (ids risen : List ℕ) : Type 0 where
+  pub rises : IsRising risen
+  pub same : (id : ℕ) → has risen id ≡ has ids id

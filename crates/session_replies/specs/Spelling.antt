@@ -1,0 +1,9 @@
+-- The bytes of one reply.
+use Rattle.std.specs.Prelude.{ℕ, List}
+use Rattle.byte_message.specs.Stream.{plain_spelling}
+use Rattle.reply_writing.specs.declared.told.Told.{Told}
+use Rattle.reply_writing.specs.Replies.{reply_chunks}
+
+-- a reply as a byte message
+abbrev pub spelling : Told → List ℕ
+spelling told = plain_spelling (reply_chunks told)

@@ -1,0 +1,32 @@
+//! The reply that tells what came of a part.
+ghost use Rattle.std.specs.Prelude.{◌≡◌, IfOk};
+ghost use Rattle.reply_writing.specs.declared.told.Told.TheVariants as tells;
+ghost use Rattle.session_rules.specs.Shown.{told_in};
+ghost use Rattle.session_replies.specs.Spelling.{spelling};
+
+use message_values::Protocol;
+use pide_base::Part;
+use reply_writing::Reports;
+use report_markup::Report;
+use std::alloc::{AllocError, Global};
+use symbol_markup::reports_in_symbols;
+
+/// The reply that tells what came of a part. `source` is its command's.
+pub fn report(
+    alloc: Global,
+    protocol: Protocol,
+    part: Part,
+    source: &[char],
+    reports: &[Report],
+) -> Result<Vec<u8>, AllocError>
+    ensures { IfOk result (λ bytes. bytes.items
+        ≡ spelling (tells.Report part (told_in protocol source.now reports.now))) }
+{
+    match protocol {
+        Protocol::Scalars => { reply_writing::report(alloc, part, Reports::Own(reports)) }
+        Protocol::Symbols => {
+            let told = reports_in_symbols(alloc, source, reports)?;
+            reply_writing::report(alloc, part, Reports::Shown(&told))
+        }
+    }
+}
