@@ -1,0 +1,228 @@
+-- The words that are written out.
+use Rattle.std.proofs.Common.{◌≡◌, ℕ, zero, suc, ◌≤◌, List, [], ◌∷◌, codes, refl, sym, subst, arith}
+use Rattle.std.specs.Prelude.{decimal, Some, None}
+use Rattle.std.specs.Fmt.{digits}
+use Rattle.clap.proofs.OnLiterals.{clap_on_literals}
+use Rattle.command_words.specs.declared.request.Request.TheVariants.{Serve, Replay, Check}
+use Rattle.command_words.specs.Asked.{asked}
+use Rattle.command_words.specs.Forms.{AreTaken, AreNotTaken}
+
+serve : asked (codes "serve" ∷ []) ≡ Some (Serve 0)
+unfolding clap_on_literals
+serve = refl
+
+replay : asked (codes "replay" ∷ []) ≡ Some Replay
+unfolding clap_on_literals
+replay = refl
+
+check : asked (codes "check" ∷ []) ≡ Some Check
+unfolding clap_on_literals
+check = refl
+
+-- so many workers are taken, where this is how their number is written
+taken_as : (n : ℕ) (text : List ℕ) → decimal n ≡ text → asked (codes "serve" ∷ codes "--workers" ∷ text ∷ []) ≡ Some (Serve n)
+    → asked (codes "serve" ∷ codes "--workers" ∷ decimal n ∷ []) ≡ Some (Serve n)
+taken_as n text e so = subst (λ (t : List ℕ). asked (codes "serve" ∷ codes "--workers" ∷ t ∷ []) ≡ Some (Serve n)) (sym e) so
+
+written_0 : decimal 0 ≡ codes "0"
+unfolding digits
+written_0 = refl
+
+written_1 : decimal 1 ≡ codes "1"
+unfolding digits
+written_1 = refl
+
+written_2 : decimal 2 ≡ codes "2"
+unfolding digits
+written_2 = refl
+
+written_3 : decimal 3 ≡ codes "3"
+unfolding digits
+written_3 = refl
+
+written_4 : decimal 4 ≡ codes "4"
+unfolding digits
+written_4 = refl
+
+written_5 : decimal 5 ≡ codes "5"
+unfolding digits
+written_5 = refl
+
+written_6 : decimal 6 ≡ codes "6"
+unfolding digits
+written_6 = refl
+
+written_7 : decimal 7 ≡ codes "7"
+unfolding digits
+written_7 = refl
+
+written_8 : decimal 8 ≡ codes "8"
+unfolding digits
+written_8 = refl
+
+written_9 : decimal 9 ≡ codes "9"
+unfolding digits
+written_9 = refl
+
+written_10 : decimal 10 ≡ codes "10"
+unfolding digits
+written_10 = refl
+
+written_11 : decimal 11 ≡ codes "11"
+unfolding digits
+written_11 = refl
+
+written_12 : decimal 12 ≡ codes "12"
+unfolding digits
+written_12 = refl
+
+written_13 : decimal 13 ≡ codes "13"
+unfolding digits
+written_13 = refl
+
+written_14 : decimal 14 ≡ codes "14"
+unfolding digits
+written_14 = refl
+
+written_15 : decimal 15 ≡ codes "15"
+unfolding digits
+written_15 = refl
+
+written_16 : decimal 16 ≡ codes "16"
+unfolding digits
+written_16 = refl
+
+with_0 : asked (codes "serve" ∷ codes "--workers" ∷ codes "0" ∷ []) ≡ Some (Serve 0)
+unfolding clap_on_literals
+with_0 = refl
+
+with_1 : asked (codes "serve" ∷ codes "--workers" ∷ codes "1" ∷ []) ≡ Some (Serve 1)
+unfolding clap_on_literals
+with_1 = refl
+
+with_2 : asked (codes "serve" ∷ codes "--workers" ∷ codes "2" ∷ []) ≡ Some (Serve 2)
+unfolding clap_on_literals
+with_2 = refl
+
+with_3 : asked (codes "serve" ∷ codes "--workers" ∷ codes "3" ∷ []) ≡ Some (Serve 3)
+unfolding clap_on_literals
+with_3 = refl
+
+with_4 : asked (codes "serve" ∷ codes "--workers" ∷ codes "4" ∷ []) ≡ Some (Serve 4)
+unfolding clap_on_literals
+with_4 = refl
+
+with_5 : asked (codes "serve" ∷ codes "--workers" ∷ codes "5" ∷ []) ≡ Some (Serve 5)
+unfolding clap_on_literals
+with_5 = refl
+
+with_6 : asked (codes "serve" ∷ codes "--workers" ∷ codes "6" ∷ []) ≡ Some (Serve 6)
+unfolding clap_on_literals
+with_6 = refl
+
+with_7 : asked (codes "serve" ∷ codes "--workers" ∷ codes "7" ∷ []) ≡ Some (Serve 7)
+unfolding clap_on_literals
+with_7 = refl
+
+with_8 : asked (codes "serve" ∷ codes "--workers" ∷ codes "8" ∷ []) ≡ Some (Serve 8)
+unfolding clap_on_literals
+with_8 = refl
+
+with_9 : asked (codes "serve" ∷ codes "--workers" ∷ codes "9" ∷ []) ≡ Some (Serve 9)
+unfolding clap_on_literals
+with_9 = refl
+
+with_10 : asked (codes "serve" ∷ codes "--workers" ∷ codes "10" ∷ []) ≡ Some (Serve 10)
+unfolding clap_on_literals
+with_10 = refl
+
+with_11 : asked (codes "serve" ∷ codes "--workers" ∷ codes "11" ∷ []) ≡ Some (Serve 11)
+unfolding clap_on_literals
+with_11 = refl
+
+with_12 : asked (codes "serve" ∷ codes "--workers" ∷ codes "12" ∷ []) ≡ Some (Serve 12)
+unfolding clap_on_literals
+with_12 = refl
+
+with_13 : asked (codes "serve" ∷ codes "--workers" ∷ codes "13" ∷ []) ≡ Some (Serve 13)
+unfolding clap_on_literals
+with_13 = refl
+
+with_14 : asked (codes "serve" ∷ codes "--workers" ∷ codes "14" ∷ []) ≡ Some (Serve 14)
+unfolding clap_on_literals
+with_14 = refl
+
+with_15 : asked (codes "serve" ∷ codes "--workers" ∷ codes "15" ∷ []) ≡ Some (Serve 15)
+unfolding clap_on_literals
+with_15 = refl
+
+with_16 : asked (codes "serve" ∷ codes "--workers" ∷ codes "16" ∷ []) ≡ Some (Serve 16)
+unfolding clap_on_literals
+with_16 = refl
+
+workers : (n : ℕ) → n ≤ 16 → asked (codes "serve" ∷ codes "--workers" ∷ decimal n ∷ []) ≡ Some (Serve n)
+workers zero few = taken_as 0 (codes "0") written_0 with_0
+workers (suc zero) few = taken_as 1 (codes "1") written_1 with_1
+workers (suc (suc zero)) few = taken_as 2 (codes "2") written_2 with_2
+workers (suc (suc (suc zero))) few = taken_as 3 (codes "3") written_3 with_3
+workers (suc (suc (suc (suc zero)))) few = taken_as 4 (codes "4") written_4 with_4
+workers (suc (suc (suc (suc (suc zero))))) few = taken_as 5 (codes "5") written_5 with_5
+workers (suc (suc (suc (suc (suc (suc zero)))))) few = taken_as 6 (codes "6") written_6 with_6
+workers (suc (suc (suc (suc (suc (suc (suc zero))))))) few = taken_as 7 (codes "7") written_7 with_7
+workers (suc (suc (suc (suc (suc (suc (suc (suc zero)))))))) few = taken_as 8 (codes "8") written_8 with_8
+workers (suc (suc (suc (suc (suc (suc (suc (suc (suc zero))))))))) few = taken_as 9 (codes "9") written_9 with_9
+workers (suc (suc (suc (suc (suc (suc (suc (suc (suc (suc zero)))))))))) few = taken_as 10 (codes "10") written_10 with_10
+workers (suc (suc (suc (suc (suc (suc (suc (suc (suc (suc (suc zero))))))))))) few = taken_as 11 (codes "11") written_11 with_11
+workers (suc (suc (suc (suc (suc (suc (suc (suc (suc (suc (suc (suc zero)))))))))))) few = taken_as 12 (codes "12") written_12 with_12
+workers (suc (suc (suc (suc (suc (suc (suc (suc (suc (suc (suc (suc (suc zero))))))))))))) few = taken_as 13 (codes "13") written_13 with_13
+workers (suc (suc (suc (suc (suc (suc (suc (suc (suc (suc (suc (suc (suc (suc zero)))))))))))))) few = taken_as 14 (codes "14") written_14 with_14
+workers (suc (suc (suc (suc (suc (suc (suc (suc (suc (suc (suc (suc (suc (suc (suc zero))))))))))))))) few = taken_as 15 (codes "15") written_15 with_15
+workers (suc (suc (suc (suc (suc (suc (suc (suc (suc (suc (suc (suc (suc (suc (suc (suc zero)))))))))))))))) few = taken_as 16 (codes "16") written_16 with_16
+workers (suc (suc (suc (suc (suc (suc (suc (suc (suc (suc (suc (suc (suc (suc (suc (suc (suc n))))))))))))))))) few = absurd (omega arith)
+
+pub are_taken : AreTaken
+are_taken = record { serve = serve; workers = workers; replay = replay; check = check }
+
+none : asked ([]) ≡ None
+unfolding clap_on_literals
+none = refl
+
+other : asked (codes "server" ∷ []) ≡ None
+unfolding clap_on_literals
+other = refl
+
+many : asked (codes "serve" ∷ codes "--workers" ∷ codes "17" ∷ []) ≡ None
+unfolding clap_on_literals
+many = refl
+
+missing : asked (codes "serve" ∷ codes "--workers" ∷ []) ≡ None
+unfolding clap_on_literals
+missing = refl
+
+letters : asked (codes "serve" ∷ codes "--workers" ∷ codes "two" ∷ []) ≡ None
+unfolding clap_on_literals
+letters = refl
+
+twice : asked (codes "serve" ∷ codes "--workers" ∷ codes "1" ∷ codes "--workers" ∷ codes "1" ∷ []) ≡ None
+unfolding clap_on_literals
+twice = refl
+
+more : asked (codes "check" ∷ codes "A.thy" ∷ []) ≡ None
+unfolding clap_on_literals
+more = refl
+
+help : asked (codes "--help" ∷ []) ≡ None
+unfolding clap_on_literals
+help = refl
+
+pub are_not_taken : AreNotTaken
+are_not_taken = record {
+  none = none;
+  other = other;
+  many = many;
+  missing = missing;
+  letters = letters;
+  twice = twice;
+  more = more;
+  help = help;
+}

@@ -1,0 +1,4 @@
+mod Forms
+mod Numbers
+mod Judged
+mod Settings

@@ -1,0 +1,5 @@
+use Rattle.command_words.proofs.Forms.{are_not_taken}
+use Rattle.command_words.proofs.laws.other_words.Goals as goal
+
+pub returns : goal.returns
+returns c = are_not_taken
