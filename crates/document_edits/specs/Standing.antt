@@ -1,10 +1,12 @@
 -- How the nodes of the newest version stand to what the editor has (this project's own).
 use Rattle.std.specs.Prelude.{◌≡◌, ℕ, List, [], length, map, Option, Some, None}
+use Rattle.std.specs.Option.{option_map}
 use Rattle.std.specs.List.{zip}
-use Rattle.shared_map.specs.Pairs.{found}
+use Rattle.shared_map.specs.Pairs.{Each, found}
 use Rattle.doc_nodes.specs.declared.node.Node.{Node}
 use Rattle.doc_nodes.specs.Names.{in_order}
-use Rattle.doc_nodes.specs.Imports.{NodeList}
+use Rattle.doc_nodes.specs.Imports.{NodeList, place_of}
+use Rattle.doc_nodes.specs.Aliases.{aliases_at}
 use Rattle.doc_blobs.specs.Needs.{AliasList}
 use Rattle.buffer_rules.specs.declared.sheet.Sheet.{Sheet}
 use Rattle.buffer_rules.specs.Sheets.{SheetList}
@@ -47,12 +49,21 @@ StandsUnder (Some aliases) sheet node = IsCutFrom sheet aliases node
 abbrev pub Stands : List ℕ × OpenSheet → List ℕ × Node → Type 0
 Stands opened node = (opened.0 ≡ node.0) × StandsUnder opened.1.cut_under opened.1.sheet node.1
 
+-- the aliases in force in the node of a name, if there is one
+abbrev pub aliases_named : NodeList → List ℕ → Option AliasList
+aliases_named nodes name = option_map (λ p. (aliases_at nodes p).pairs) (place_of nodes name)
+
+-- the commands of each of them were cut under the aliases that are in force in the node of its name
+abbrev pub AreInForce : NodeList → OpenList → Type 0
+AreInForce nodes opened = Each (λ o. o.1.cut_under ≡ aliases_named nodes o.0) opened
+
 -- while an update is made: a node whose commands have to be cut has all but these, and another is
--- the node that the version before has
+-- the node that the version before has, under the aliases that are in force in it there
 abbrev pub DraftedUnder : NodeList → Option AliasList → List ℕ → Sheet → Node → Type 0
 DraftedUnder tip None name sheet node = bare node ≡ uncut sheet
 DraftedUnder tip (Some aliases) name sheet node =
     IsCutFrom sheet aliases node × (found in_order name tip ≡ Some node)
+    × (aliases_named tip name ≡ Some aliases)
 
 -- the same of two pairs of a name
 abbrev pub Drafted : NodeList → List ℕ × OpenSheet → List ℕ × Node → Type 0

@@ -1,16 +1,21 @@
 -- What is told of the node at a place.
-use Rattle.std.proofs.Common.{◌≡◌, ℕ, List, Some, Result, Ok, Err, sym, subst, ◌∙◌}
+use Rattle.std.proofs.Common.{◌≡◌, ℕ, List, ◌∷◌, ◌++◌, Some, Result, Ok, Err, sym, ap, subst, ◌∙◌}
 use Rattle.std.specs.Prelude.{slice_get}
 use Rattle.std.specs.Result.{IfErr, IsErrAnd}
 use Rattle.doc_nodes.specs.declared.node.Node.{Node}
-use Rattle.doc_nodes.specs.Imports.{NodeList}
+use Rattle.doc_nodes.specs.Imports.{NodeList, place_of}
 use Rattle.doc_nodes.specs.Aliases.{aliases_at}
 use Rattle.buffer_rules.specs.Sheets.{SheetList}
 use Rattle.buffer_rules.specs.Nodes.{Numbered, uncut_all}
 use Rattle.sheet_edits.specs.OpenSheet.{OpenSheet}
 use Rattle.sheet_edits.specs.declared.fault.PrepareError.{PrepareError}
 use Rattle.sheet_edits.specs.declared.fault.PrepareError.TheVariants.{Refused, NoMemory}
-use Rattle.document_edits.specs.Standing.{Drafted}
+use Rattle.shared_map.specs.Pairs.{IsSorted}
+use Rattle.std.specs.Option.{option_map}
+use Rattle.doc_nodes.specs.Names.{in_order}
+use Rattle.document_edits.specs.Standing.{Drafted, Stands, sheets_of, aliases_named}
+use Rattle.document_edits.proofs.PairLists.{AllZip-length}
+use Rattle.editor_buffer.proofs.Places.{place_at}
 use Rattle.editor_buffer.specs.Cutting.{GivesRemade, PassesLast, whole, IsCutUpTo}
 use Rattle.editor_buffer.specs.declared.cutting.Cutting.{Cutting}
 use Rattle.editor_buffer.proofs.CutSteps.{passes}
@@ -26,6 +31,19 @@ module _ (tip : NodeList) (sheets : SheetList) (first place : ℕ) (c : Cutting)
       let one : at.opened ≡ o = cc in
       let other : at.node ≡ n = cc in
       subst (λ q. Drafted tip q n) one (subst (λ m. Drafted tip at.opened m) other at.drafted)
+
+  -- the aliases at the place are in force in the node of its name
+  pub named_at : (o : List ℕ × OpenSheet) → Some o ≡ slice_get c.opened place → aliases_named (uncut_all sheets) o.0 ≡ Some (aliases_at (uncut_all sheets) place).pairs
+  named_at o e =
+      let both : Some o ≡ Some at.opened = e ∙ at.open_at in
+      let one : at.opened ≡ o = cc in
+      let opens : c.opened ≡ is.front_open ++ at.opened ∷ at.open_more = is.open_is ∙ ap (λ os. is.front_open ++ os) at.open_is in
+      let all : uncut_all (sheets_of (is.front_open ++ at.opened ∷ at.open_more)) ≡ uncut_all sheets = ap (λ os. uncut_all (sheets_of os)) (sym opens) ∙ ap uncut_all is.sheets_are in
+      let found : place_of (uncut_all sheets) at.opened.0 ≡ Some place =
+      ap (λ ns. place_of ns at.opened.0) (sym all)
+      ∙ place_at is.front_open at.opened at.open_more (subst (IsSorted in_order) opens is.sorted_open)
+      ∙ ap (λ k. Some k) (AllZip-length Stands is.front_open is.front is.done ∙ is.place_is) in
+      ap (λ (q : List ℕ × OpenSheet). aliases_named (uncut_all sheets) q.0) (sym one) ∙ ap (λ k. option_map (λ (p : ℕ). (aliases_at (uncut_all sheets) p).pairs) k) found
 
   -- where it is refused, all are
   pub refused_here : (e : PrepareError)

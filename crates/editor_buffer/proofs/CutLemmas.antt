@@ -1,6 +1,5 @@
 -- Nodes that are cut from sheets.
-use Rattle.std.proofs.Common.{◌≡◌, ℕ, suc, ◌+◌, ◌-◌, ◌≤◌, Bool, true, cond, List, [], ◌∷◌, ◌++◌, length, map, take, drop, refl, sym, ap, subst, ◌∙◌, arith}
-use Rattle.std.specs.Prelude.{reverse}
+use Rattle.std.proofs.Common.{◌≡◌, ℕ, suc, ◌-◌, true, cond, List, [], ◌∷◌, ◌++◌, length, map, take, drop, refl, sym, ap, subst, ◌∙◌, arith}
 use Rattle.std.specs.List.{zip, range_with_len}
 use Rattle.std.proofs.lemmas.List.{append-nil, drop_all, take_all, length-map}
 use Rattle.std.proofs.lemmas.Slice.Eq.{bytes_eq-Decides}
@@ -10,11 +9,11 @@ use Rattle.pide_base.specs.declared.range.Range.{Range}
 use Rattle.doc_nodes.specs.Names.{equal}
 use Rattle.doc_nodes.specs.declared.node.Entry.{Entry}
 use Rattle.doc_nodes.specs.declared.node.Node.{Node}
-use Rattle.doc_blobs.specs.Needs.{AliasList, needs}
+use Rattle.doc_blobs.specs.Needs.{AliasList}
 use Rattle.buffer_rules.specs.declared.sheet.Sheet.{Sheet}
 use Rattle.buffer_rules.specs.Cuts.{source, commands_of}
 use Rattle.buffer_rules.specs.Numbers.{Command, Kept, equal_front, equal_back, kept, with_kept, ids_of, new_count}
-use Rattle.buffer_rules.specs.Nodes.{uncut, entry, ranges_in, sources, cut}
+use Rattle.buffer_rules.specs.Nodes.{entry, ranges_in, sources, cut}
 use Rattle.node_commands.specs.Commands.{AsksFor, AskUnder}
 use Rattle.document_edits.specs.Standing.{numbered, IsCutFrom}
 

@@ -1,14 +1,12 @@
 -- What cutting one node gives: a node that stays, one that is cut, and a refusal.
-use Rattle.std.proofs.Common.{◌≡◌, ℕ, ◌+◌, ◌-◌, ◌<◌, ◌≤◌, List, [], length, map, Option, Some, None, Result, Ok, Err, refl, sym, ap, subst, ◌∙◌, arith}
+use Rattle.std.proofs.Common.{◌≡◌, ℕ, ◌+◌, ◌-◌, ◌<◌, ◌≤◌, List, [], length, map, Option, Some, None, Ok, Err, sym, ap, subst, ◌∙◌, arith}
 use Rattle.std.specs.Option.{option_map_or}
 use Rattle.std.specs.List.{zip}
 use Rattle.std.proofs.lemmas.List.{length-map}
-use Rattle.shared_map.specs.Pairs.{found}
 use Rattle.pide_base.specs.Ids.{id_end}
 use Rattle.pide_base.specs.declared.range.Range.{Range}
 use Rattle.doc_nodes.specs.declared.node.Entry.{Entry}
 use Rattle.doc_nodes.specs.declared.node.Node.{Node}
-use Rattle.doc_nodes.specs.Names.{in_order}
 use Rattle.doc_nodes.specs.Imports.{NodeList}
 use Rattle.doc_blobs.specs.Needs.{AliasList}
 use Rattle.buffer_rules.specs.declared.sheet.Sheet.{Sheet}

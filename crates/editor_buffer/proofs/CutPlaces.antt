@@ -1,12 +1,11 @@
 -- The beginning, each place and the end of cutting.
-use Rattle.std.proofs.Common.{◌≡◌, ℕ, zero, suc, ◌+◌, ◌<◌, ◌≤◌, Bool, true, false, List, [], ◌∷◌, ◌++◌, length, Option, Some, None, refl, sym, ap, subst, ◌∙◌, arith}
+use Rattle.std.proofs.Common.{◌≡◌, ℕ, zero, suc, ◌+◌, ◌<◌, true, false, List, [], ◌∷◌, ◌++◌, length, Some, refl, sym, ap, subst, ◌∙◌, arith}
 use Rattle.std.specs.Prelude.{slice_get}
 use Rattle.std.specs.List.{AllZip}
 use Rattle.std.specs.Cmp.Lexicographic.{nat_list_cmp_total}
 use Rattle.std.proofs.lemmas.List.{append-nil, length-append, length-map, nil_from_length}
 use Rattle.shared_map.specs.Pairs.{IsSorted, found}
 use Rattle.shared_map.specs.Changes.{put}
-use Rattle.pide_base.specs.Ids.{id_end}
 use Rattle.doc_nodes.specs.declared.node.Node.{Node}
 use Rattle.doc_nodes.specs.Names.{in_order}
 use Rattle.doc_nodes.specs.Imports.{NodeList}
@@ -14,9 +13,13 @@ use Rattle.doc_nodes.specs.Aliases.{aliases_at}
 use Rattle.buffer_rules.specs.Sheets.{SheetList}
 use Rattle.buffer_rules.specs.Nodes.{Numbered, uncut_all, nodes_from}
 use Rattle.sheet_edits.specs.OpenSheet.{OpenSheet}
-use Rattle.document_edits.specs.Standing.{OpenList, sheets_of, Stands, Drafted}
-use Rattle.document_edits.proofs.PairLists.{AllZip-append, AllZip-length, put_at}
-use Rattle.editor_buffer.specs.Cutting.{IsCutTo, IsPut, AreKept, whole, IsCutUpTo, IsCutWhole}
+use Rattle.document_edits.specs.Standing.{OpenList, sheets_of, bare_all, Stands, AreInForce, Drafted, aliases_named}
+use Rattle.editor_buffer.proofs.Places.{each_along}
+use Rattle.editor_buffer.specs.Heads.{heads}
+use Rattle.editor_buffer.proofs.BareNodes.{same_named, heads_along}
+use Rattle.editor_buffer.proofs.FirstDraft.{bare_standing}
+use Rattle.document_edits.proofs.PairLists.{AllZip-length, put_at}
+use Rattle.editor_buffer.specs.Cutting.{IsCutTo, IsPut, AreKept, IsCutUpTo, IsCutWhole}
 use Rattle.editor_buffer.specs.declared.cutting.Cutting.{Cutting}
 use Rattle.editor_buffer.specs.declared.cutting.Remade.{Remade}
 use Rattle.editor_buffer.proofs.CutSteps.{cut_one}
@@ -115,6 +118,10 @@ module _ (tip : NodeList) (sheets : SheetList) (first place : ℕ) (c : Cutting)
       let none : is.rest ≡ [] = nil_from_length is.rest (sym (AllZip-length (Drafted tip) is.rest_open is.rest is.drafted) ∙ ap length none_open) in
       let opens : c.opened ≡ is.front_open = is.open_is ∙ ap (λ os. is.front_open ++ os) none_open ∙ append-nil is.front_open in
       let nodes : c.nodes ≡ is.front = is.nodes_is ∙ ap (λ ns. is.front ++ ns) none ∙ append-nil is.front in
+      let bare : bare_all is.front ≡ uncut_all (sheets_of is.front_open) = bare_standing is.front_open is.front is.done in
+      let heads_are : heads c.nodes ≡ heads (uncut_all sheets) =
+      ap heads nodes ∙ heads_along is.front (uncut_all (sheets_of is.front_open)) bare
+      ∙ ap (λ os. heads (uncut_all (sheets_of os))) (sym opens) ∙ ap (λ ss. heads (uncut_all ss)) is.sheets_are in
       let from : nodes_from tip (uncut_all sheets) place (sheets_of is.rest_open) c.next ≡ record { nodes = []; next = c.next } =
       ap (λ (os : OpenList). nodes_from tip (uncut_all sheets) place (sheets_of os) c.next) none_open in
       record {
@@ -122,6 +129,8 @@ module _ (tip : NodeList) (sheets : SheetList) (first place : ℕ) (c : Cutting)
         next_is = ap (λ (m : Numbered). m.next) (sym from) ∙ is.then;
         sheets_are = is.sheets_are;
         stands = subst (λ os. AllZip Stands os c.nodes) (sym opens) (subst (λ ns. AllZip Stands is.front_open ns) (sym nodes) is.done);
+        in_force = subst (λ os. AreInForce c.nodes os) (sym opens) (each_along (λ (x : List ℕ × OpenSheet). x.1.cut_under ≡ aliases_named (uncut_all sheets) x.0) (λ (x : List ℕ × OpenSheet). x.1.cut_under ≡ aliases_named c.nodes x.0)
+            (λ x u. u ∙ same_named (uncut_all sheets) c.nodes (sym heads_are) x.0) is.front_open is.in_force);
         least = is.least;
         most = is.most;
         kept = subst (λ ns. AreKept tip c.untouched.items ns) (sym nodes) is.kept;

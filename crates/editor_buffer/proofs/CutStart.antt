@@ -1,5 +1,5 @@
 -- The beginning of cutting.
-use Rattle.std.proofs.Common.{◌≡◌, ℕ, ◌≤◌, List, [], length, refl, ap, arith}
+use Rattle.std.proofs.Common.{◌≡◌, ℕ, ◌≤◌, [], length, refl, ap, arith}
 use Rattle.std.specs.List.{AllZip}
 use Rattle.shared_map.specs.Pairs.{IsSorted}
 use Rattle.pide_base.specs.Ids.{id_end}
@@ -28,6 +28,7 @@ cut_start tip opened nodes first c opens nodes_are next marks sorted_open sorted
       sorted_open = sorted_open;
       sorted = sorted;
       done = tt;
+      in_force = tt;
       drafted = all;
       sheets_are = ap sheets_of opens;
       made = ap (λ (m : Numbered). m.nodes) from;

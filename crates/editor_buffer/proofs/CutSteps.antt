@@ -1,14 +1,14 @@
 -- One node more is cut.
-use Rattle.std.proofs.Common.{◌≡◌, ℕ, zero, suc, ◌+◌, ◌<◌, ◌≤◌, Bool, true, false, List, [], ◌∷◌, ◌++◌, length, map, Option, Some, None, refl, sym, ap, subst, ◌∙◌, arith}
+use Rattle.std.proofs.Common.{◌≡◌, ℕ, zero, suc, ◌+◌, ◌<◌, ◌≤◌, Bool, true, List, [], ◌∷◌, ◌++◌, length, Some, refl, sym, ap, subst, ◌∙◌, arith}
 use Rattle.std.specs.Prelude.{slice_get}
 use Rattle.std.specs.List.{AllZip}
-use Rattle.std.proofs.lemmas.List.{append-nil, append_assoc, map-append, length-append}
-use Rattle.std.proofs.lemmas.Cmp.{tied_itself}
+use Rattle.std.proofs.lemmas.List.{append_assoc, length-append}
+use Rattle.std.specs.Option.{option_map}
 use Rattle.shared_map.specs.Pairs.{IsSorted, found}
 use Rattle.pide_base.specs.Ids.{id_end}
 use Rattle.doc_nodes.specs.declared.node.Node.{Node}
 use Rattle.doc_nodes.specs.Names.{in_order}
-use Rattle.doc_nodes.specs.Imports.{NodeList}
+use Rattle.doc_nodes.specs.Imports.{NodeList, place_of}
 use Rattle.doc_nodes.specs.Aliases.{aliases_at}
 use Rattle.doc_blobs.specs.Needs.{AliasList}
 use Rattle.buffer_rules.specs.declared.sheet.Sheet.{Sheet}
@@ -16,11 +16,12 @@ use Rattle.buffer_rules.specs.Sheets.{SheetList}
 use Rattle.buffer_rules.specs.Numbers.{new_count}
 use Rattle.buffer_rules.specs.Nodes.{Numbered, sources, cut, before_in, uncut_all, nodes_from}
 use Rattle.sheet_edits.specs.OpenSheet.{OpenSheet}
-use Rattle.document_edits.specs.Standing.{OpenList, sheets_of, IsCutFrom, Stands, Drafted}
+use Rattle.document_edits.specs.Standing.{OpenList, sheets_of, Stands, Drafted, aliases_named}
 use Rattle.document_edits.proofs.PairLists.{AllZip-append, AllZip-length}
 use Rattle.editor_buffer.specs.CutNodes.{next_after}
 use Rattle.editor_buffer.specs.Cutting.{IsCutTo, AreKept, whole, IsCutUpTo}
 use Rattle.editor_buffer.specs.declared.cutting.Cutting.{Cutting}
+use Rattle.editor_buffer.proofs.Places.{place_at, each_append}
 
 -- what stands behind a front
 pub split_at : {X : Type 0} (l xs : List X) (x : X) → slice_get (l ++ xs) (length l) ≡ Some x → (r : List X) × (xs ≡ x ∷ r)
@@ -70,6 +71,18 @@ module _ (tip : NodeList) (sheets : SheetList) (first place : ℕ) (c d : Cuttin
       let P : OpenSheet → Type 0 = λ q. Stands (name, q) (name, n') in
       subst P (sym open_to) (refl, to.cut_from)
 
+  -- it was cut under the aliases in force in it
+  place_new : place_of (uncut_all sheets) name ≡ Some place
+  place_new =
+      let opens : c.opened ≡ is.front_open ++ (name, o) ∷ rest_open = is.open_is ∙ ap (λ os. is.front_open ++ os) open_at in
+      let all : uncut_all (sheets_of (is.front_open ++ (name, o) ∷ rest_open)) ≡ uncut_all sheets = ap (λ os. uncut_all (sheets_of os)) (sym opens) ∙ ap uncut_all is.sheets_are in
+      ap (λ ns. place_of ns name) (sym all)
+      ∙ place_at is.front_open (name, o) rest_open (subst (IsSorted in_order) opens is.sorted_open)
+      ∙ ap (λ k. Some k) (AllZip-length Stands is.front_open is.front is.done ∙ is.place_is)
+
+  under_new : o'.cut_under ≡ aliases_named (uncut_all sheets) name
+  under_new = ap (λ (q : OpenSheet). q.cut_under) open_to ∙ sym (ap (λ k. option_map (λ (p : ℕ). (aliases_at (uncut_all sheets) p).pairs) k) place_new)
+
   tails : AllZip (Drafted tip) rest_open rest
   tails =
       let P : OpenList → Type 0 = λ os. AllZip (Drafted tip) os is.rest in
@@ -104,6 +117,7 @@ module _ (tip : NodeList) (sheets : SheetList) (first place : ℕ) (c d : Cuttin
     sorted_open = sorted_open;
     sorted = sorted;
     done = AllZip-append Stands is.front_open ((name, o') ∷ []) is.front ((name, n') ∷ []) is.done (stands_new, tt);
+    in_force = each_append (λ (x : List ℕ × OpenSheet). x.1.cut_under ≡ aliases_named (uncut_all sheets) x.0) is.front_open ((name, o') ∷ []) is.in_force (under_new, tt);
     drafted = tails;
     sheets_are = ap sheets_of open_new
         ∙ sheets_along is.front_open rest_open name o o' (ap (λ (q : OpenSheet). q.sheet) open_to)

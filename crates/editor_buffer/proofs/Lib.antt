@@ -1,5 +1,7 @@
 mod SameLists
+mod Told
 mod BareNodes
+mod Places
 mod CutLemmas
 mod CutParts
 mod CutSteps

@@ -1,22 +1,20 @@
 -- Nodes that are cut one after the other (this project's own).
-use Rattle.std.specs.Prelude.{◌≡◌, ℕ, ◌+◌, ◌<◌, ◌≤◌, Bool, true, false, List, [], ◌∷◌, ◌++◌, length, slice_get, Option, Some, None, Result, Ok, Err}
+use Rattle.std.specs.Prelude.{◌≡◌, ℕ, ◌<◌, ◌≤◌, Bool, true, false, List, [], ◌∷◌, ◌++◌, length, slice_get, Option, Some, None, Result, Ok, Err}
 use Rattle.std.specs.List.{AllZip}
 use Rattle.shared_map.specs.Pairs.{IsSorted, found}
 use Rattle.shared_map.specs.Changes.{put}
 use Rattle.pide_base.specs.Ids.{id_end}
-use Rattle.message_values.specs.declared.refusal.Refusal.{Refusal}
 use Rattle.message_values.specs.declared.refusal.Refusal.TheVariants.{Limit}
 use Rattle.doc_nodes.specs.declared.node.Node.{Node}
 use Rattle.doc_nodes.specs.Names.{in_order}
 use Rattle.doc_nodes.specs.Imports.{NodeList}
 use Rattle.doc_blobs.specs.Needs.{AliasList}
 use Rattle.buffer_rules.specs.Sheets.{SheetList}
-use Rattle.buffer_rules.specs.Numbers.{new_count}
-use Rattle.buffer_rules.specs.Nodes.{Numbered, sources, cut, before_in, uncut_all, nodes_from, nodes_after}
+use Rattle.buffer_rules.specs.Nodes.{Numbered, cut, before_in, uncut_all, nodes_from, nodes_after}
 use Rattle.sheet_edits.specs.OpenSheet.{OpenSheet}
 use Rattle.sheet_edits.specs.declared.fault.PrepareError.{PrepareError}
 use Rattle.sheet_edits.specs.declared.fault.PrepareError.TheVariants.{Refused, NoMemory}
-use Rattle.document_edits.specs.Standing.{OpenList, sheets_of, IsCutFrom, Stands, Drafted}
+use Rattle.document_edits.specs.Standing.{OpenList, sheets_of, IsCutFrom, Stands, AreInForce, Drafted}
 use Rattle.editor_buffer.specs.CutNodes.{next_after}
 use Rattle.editor_buffer.specs.declared.cutting.Remade.{Remade}
 use Rattle.editor_buffer.specs.declared.cutting.Cutting.{Cutting}
@@ -78,6 +76,7 @@ pub record IsCutUpTo (tip : NodeList) (sheets : SheetList) (first : ℕ) (place 
   pub sorted_open : IsSorted in_order c.opened
   pub sorted : IsSorted in_order c.nodes
   pub done : AllZip Stands front_open front
+  pub in_force : AreInForce (uncut_all sheets) front_open
   pub drafted : AllZip (Drafted tip) rest_open rest
   pub sheets_are : sheets_of c.opened ≡ sheets
   pub made : front
@@ -97,6 +96,7 @@ pub record IsCutWhole (tip : NodeList) (sheets : SheetList) (first : ℕ)
   pub next_is : c.next ≡ (whole tip sheets first).next
   pub sheets_are : sheets_of c.opened ≡ sheets
   pub stands : AllZip Stands c.opened c.nodes
+  pub in_force : AreInForce c.nodes c.opened
   pub least : 1 ≤ c.next
   pub most : c.next ≤ id_end
   pub kept : AreKept tip c.untouched.items c.nodes

@@ -1,3 +1,4 @@
+pub mod Heads
 pub mod CutNodes
 pub mod Cutting
 pub mod Preparation

@@ -5,7 +5,7 @@ use Rattle.pide_base.specs.Ids.{id_end}
 use Rattle.doc_nodes.specs.Imports.{NodeList}
 use Rattle.buffer_rules.specs.Updates.{BlobList}
 use Rattle.buffer_rules.specs.Preparing.{Buffer}
-use Rattle.document_edits.specs.Standing.{OpenList, sheets_of, Stands}
+use Rattle.document_edits.specs.Standing.{OpenList, sheets_of, Stands, AreInForce}
 use Rattle.document_edits.specs.NameSets.{NameSet}
 
 -- the buffer of these open nodes, blobs and nodes, and of the next id
@@ -16,9 +16,11 @@ buffer_of opened blobs nodes next = record {
   next = next;
 }
 
--- each node is cut from what the editor has of it, and the next id is one or the end of ids
+-- each node is cut from what the editor has of it, under the aliases that are in force in it, and
+-- the next id is one or the end of ids
 pub record IsStanding (opened : OpenList) (nodes : NodeList) (next : ℕ) : Type 0 where
   pub stands : AllZip Stands opened nodes
+  pub in_force : AreInForce nodes opened
   pub least : 1 ≤ next
   pub most : next ≤ id_end
 

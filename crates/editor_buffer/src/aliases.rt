@@ -2,6 +2,7 @@
 ghost use Rattle.std.specs.Prelude.{◌≡◌, Some, slice_get};
 ghost use Rattle.std.specs.Option.{option_copied, option_and_then};
 ghost use Rattle.std.specs.Bool.{OnTrue};
+ghost use Rattle.doc_blobs.specs.Needs.{AliasList};
 
 use doc_nodes::Aliases;
 use sheet_edits::OpenNode;
@@ -43,4 +44,17 @@ pub(crate) fn is_cut_under(opened: Option<&OpenNode>, aliases: &Aliases) -> bool
         return false;
     };
     same_aliases(under.get(), aliases)
+}
+
+/// Whether the commands of the node were cut under these aliases. Where headers stand, they were
+/// cut under no others.
+pub(crate) fn stays(opened: &OpenNode, aliases: &Aliases, headers_stand: bool) -> bool
+    requires { OnTrue headers_stand ((under : AliasList) → opened.now.cut_under ≡ Some under
+        → under ≡ aliases.now) }
+    ensures { OnTrue result (opened.now.cut_under ≡ Some aliases.now) }
+{
+    if headers_stand {
+        return opened.cut_under().is_some();
+    }
+    is_cut_under(Some(opened), aliases)
 }

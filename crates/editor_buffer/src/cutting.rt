@@ -1,6 +1,8 @@
 //! How the nodes of a version are cut, one after the other.
 ghost use Rattle.std.specs.Prelude.{◌≡◌, ◌+◌, ◌≤◌, ◌<◌, ◌++◌, ◌∷◌, [], ℕ, List, length, slice_get, Some, IsTrue, IfOk, IfErr, true};
 ghost use Rattle.std.specs.List.{AllZip};
+ghost use Rattle.std.specs.Bool.{OnTrue};
+ghost use Rattle.doc_blobs.specs.Needs.{AliasList};
 ghost use Rattle.pide_base.specs.Ids.{id_end};
 ghost use Rattle.doc_nodes.specs.declared.node.Node.{Node};
 ghost use Rattle.doc_nodes.specs.Aliases.{aliases_at};
@@ -8,10 +10,12 @@ ghost use Rattle.buffer_rules.specs.Nodes.{before_in, uncut_all};
 ghost use Rattle.node_commands.specs.Commands.{commands_in, AskUnder};
 ghost use Rattle.sheet_edits.specs.OpenSheet.{OpenSheet};
 ghost use Rattle.document_edits.specs.Standing.{Stands, Drafted, DraftedUnder, sheets_of};
+ghost use Rattle.editor_buffer.specs.Heads.{heads};
 ghost use Rattle.editor_buffer.specs.Cutting.{GivesRemade, IsPut, IsCutUpTo, IsCutWhole, PassesLast, whole};
 
-use crate::aliases::is_cut_under;
+use crate::aliases::{is_cut_under, stays};
 use crate::cut::cut;
+use crate::headers::same_headers;
 use buffer_rules::ids_law;
 use doc_nodes::{Aliases, ImportGraph, Node, Nodes, Shared, aliases_of};
 use document_edits::{Draft, OpenNodes};
@@ -70,7 +74,10 @@ fn cut_again(
     node: &Node,
     aliases: &Shared<Aliases>,
     next: u64,
+    headers_stand: bool,
 ) -> Result<Option<Remade>, PrepareError>
+    requires under { OnTrue headers_stand ((under : AliasList)
+        → opened.now.cut_under ≡ Some under → under ≡ aliases.now) }
     requires stands { AllZip Stands tip.now.opened.now tip.now.nodes.now }
     requires drafted { DraftedUnder tip.now.nodes.now opened.now.cut_under name.now opened.now.sheet
         node.now }
@@ -79,7 +86,7 @@ fn cut_again(
     ensures { GivesRemade tip.now.nodes.now name.now opened.now node.now aliases.now next result }
 {
     ids_law();
-    if is_cut_under(Some(opened), aliases.get()) {
+    if stays(opened, aliases.get(), headers_stand) {
         return Ok(None);
     }
     let spans = opened.spans_under(alloc, aliases.get())?;
@@ -130,7 +137,10 @@ impl Cutting {
         tip: &Tip,
         aliases: &Shared<Aliases>,
         place: usize,
+        headers_stand: bool,
     ) -> Result<Option<Remade>, PrepareError>
+        requires headers { OnTrue headers_stand (heads tip.now.nodes.now
+            ≡ heads (uncut_all (sheets_of self.now.opened))) }
         requires stands { AllZip Stands tip.now.opened.now tip.now.nodes.now }
         requires cut { IsCutUpTo tip.now.nodes.now (sheets_of self.now.opened) tip.now.next place
             self.now }
@@ -149,7 +159,16 @@ impl Cutting {
         let Some((_, node)) = self.nodes.at(place) else {
             unreachable!()
         };
-        cut_again(alloc, tip, name, opened, node, aliases, self.next)
+        cut_again(
+            alloc,
+            tip,
+            name,
+            opened,
+            node,
+            aliases,
+            self.next,
+            headers_stand,
+        )
     }
 
     /// With a node that was cut in its place.
@@ -204,7 +223,10 @@ impl Cutting {
         tip: &Tip,
         aliases: &Shared<Aliases>,
         place: usize,
+        headers_stand: bool,
     ) -> Result<Cutting, PrepareError>
+        requires headers { OnTrue headers_stand (heads tip.now.nodes.now
+            ≡ heads (uncut_all (sheets_of self.opened))) }
         requires stands { AllZip Stands tip.now.opened.now tip.now.nodes.now }
         requires cut { IsCutUpTo tip.now.nodes.now (sheets_of self.opened) tip.now.next place self }
         requires aliases { aliases.now
@@ -215,7 +237,7 @@ impl Cutting {
         ensures refused { IfErr result (PassesLast
             (whole tip.now.nodes.now (sheets_of self.opened) tip.now.next)) }
     {
-        match self.remade_at(alloc, tip, aliases, place)? {
+        match self.remade_at(alloc, tip, aliases, place, headers_stand)? {
             None => Ok(self.stayed()?),
             Some(made) => Ok(self.put(alloc, place, made)?),
         }
@@ -234,6 +256,7 @@ pub(crate) fn cut_all(alloc: Global, tip: &Tip, draft: Draft) -> Result<Cutting,
     ensures refused { IfErr result (PassesLast
         (whole tip.now.nodes.now (sheets_of draft.opened) tip.now.next)) }
 {
+    let headers_stand = same_headers(tip.nodes, &draft.nodes);
     let graph = ImportGraph::of(alloc, &draft.nodes)?;
     let aliases = aliases_of(alloc, &draft.nodes, &graph)?;
     let mut cutting = Cutting {
@@ -245,7 +268,7 @@ pub(crate) fn cut_all(alloc: Global, tip: &Tip, draft: Draft) -> Result<Cutting,
     let _sorted = cutting.opened.iter();
     let _by_name = cutting.nodes.iter();
     'nodes: for (place, in_force) in aliases.iter().enumerate() {
-        cutting = cutting.step(alloc, tip, &in_force.pairs, place)?;
+        cutting = cutting.step(alloc, tip, &in_force.pairs, place, headers_stand)?;
     }
     Ok(cutting)
 }

@@ -11,6 +11,7 @@ mod aliases;
 mod buffer;
 mod cut;
 mod cutting;
+mod headers;
 mod limits;
 
 pub use buffer::{Buffer, Prepared};

@@ -14,4 +14,4 @@ mod perspective;
 
 pub use fault::PrepareError;
 pub use header::uncut;
-pub use open_node::OpenNode;
+pub use open_node::{OpenNode, same_names};

@@ -162,7 +162,7 @@ fn copied_aliases(aliases: &Option<Shared<Aliases>>) -> Result<Option<Shared<Ali
 }
 
 /// Whether both lists have the same names in the same order.
-fn same_names(names: &[Items<char>], others: &[Items<char>]) -> bool
+pub fn same_names(names: &[Items<char>], others: &[Items<char>]) -> bool
     ensures { OnTrue result (names.now ≡ others.now) }
 {
     if names.len() != others.len() {

@@ -1,10 +1,10 @@
-use Rattle.std.proofs.Common.{◌≡◌, ℕ, ◌+◌, ◌-◌, ◌<◌, List, length, map, refl, sym, ap, subst, ◌∙◌, arith}
+use Rattle.std.proofs.Common.{◌≡◌, ℕ, ◌+◌, ◌-◌, ◌<◌, List, length, map, refl, ap, subst, ◌∙◌, arith}
 use Rattle.std.specs.List.{zip}
 use Rattle.pide_base.specs.Ids.{id_end}
 use Rattle.pide_base.specs.declared.range.Range.{Range}
 use Rattle.command_spans.specs.CutTexts.{Cuts}
 use Rattle.buffer_rules.specs.Cuts.{source}
-use Rattle.buffer_rules.specs.Numbers.{Kept, kept, ids_of}
+use Rattle.buffer_rules.specs.Numbers.{kept, ids_of}
 use Rattle.buffer_rules.specs.Nodes.{entry, ranges_in}
 use Rattle.node_commands.specs.Commands.{ranges_of, sources_in, commands_in}
 use Rattle.editor_buffer.specs.CutNodes.{next_after}

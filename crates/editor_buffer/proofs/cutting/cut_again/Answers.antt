@@ -1,4 +1,4 @@
-use Rattle.std.proofs.Common.{◌≡◌, Some, Ok, ap, subst, ◌∙◌}
+use Rattle.std.proofs.Common.{Some, Ok, ap, subst, ◌∙◌}
 use Rattle.doc_blobs.specs.Needs.{AliasList}
 use Rattle.buffer_rules.specs.declared.sheet.Sheet.{Sheet}
 use Rattle.buffer_rules.specs.Nodes.{sources, before_in}
@@ -8,10 +8,10 @@ use Rattle.editor_buffer.specs.CutNodes.{GivesCut}
 use Rattle.editor_buffer.proofs.CutParts.{stay_so, made_so}
 use Rattle.editor_buffer.proofs.cutting.cut_again.Goals as goal
 
-pub returns-then-is_cut_under : goal.returns-then-is_cut_under
-returns-then-is_cut_under c =
+pub returns-then-stays : goal.returns-then-stays
+returns-then-stays c =
     stay_so c.args.tip.now.nodes.now c.args.name.now c.args.opened.now c.args.node.now c.args.aliases.now c.args.next
-    (c.if-is_cut_under.ensures ∙ ap (λ (a : AliasList). Some a) c.get.ensures) c.requires.drafted c.requires.last
+    (c.if-stays.ensures ∙ ap (λ (a : AliasList). Some a) c.get.ensures) c.requires.drafted c.requires.last
 
 pub returns : goal.returns
 returns c =

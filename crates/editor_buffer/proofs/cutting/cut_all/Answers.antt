@@ -1,4 +1,5 @@
-use Rattle.std.proofs.Common.{◌≡◌, ℕ, ◌<◌, Some, length, refl, sym, ap, subst, ◌∙◌, arith}
+use Rattle.std.proofs.Common.{◌≡◌, ◌<◌, Some, length, refl, sym, ap, subst, ◌∙◌, arith}
+use Rattle.editor_buffer.specs.Heads.{heads}
 use Rattle.std.specs.List.{slice_get}
 use Rattle.std.proofs.lemmas.Option.{slice_get_read}
 use Rattle.shared_map.specs.Pairs.{IsSorted}
@@ -11,7 +12,8 @@ use Rattle.buffer_rules.specs.Nodes.{uncut_all}
 use Rattle.document_edits.specs.Standing.{OpenList, sheets_of, Drafted}
 use Rattle.document_edits.proofs.PairLists.{AllZip-length}
 use Rattle.editor_buffer.specs.declared.cutting.Cutting.{Cutting}
-use Rattle.editor_buffer.proofs.BareNodes.{same_aliases}
+use Rattle.editor_buffer.proofs.Told.{along}
+use Rattle.editor_buffer.proofs.BareNodes.{same_aliases, heads_along}
 use Rattle.editor_buffer.proofs.FirstDraft.{bare_drafted}
 use Rattle.editor_buffer.proofs.CutPlaces.{cut_end, length_sheets}
 use Rattle.editor_buffer.proofs.CutStart.{cut_start}
@@ -77,3 +79,12 @@ returns-clause-cut c =
     let all : c.nodes.place ≡ length sheets =
     omega (arith, c.nodes-test.false, c.nodes.auto.place-end, ap length lent, c.in_ok-aliases.ensures.len) in
     cut_end tip.nodes.now sheets tip.next c.nodes.place c.nodes.cutting c.nodes.invariant all
+
+pub step-requires-clause-headers : goal.step-requires-clause-headers
+step-requires-clause-headers c =
+    let opened : OpenList = c.args.draft.opened in
+    let nodes : NodeList = c.args.draft.nodes in
+    let bare = bare_drafted c.args.tip.now.nodes.now opened nodes c.requires.drafted in
+    along c.same_headers-headers_stand.result (λ same. same ∙ heads_along nodes (uncut_all (sheets_of opened)) bare
+    ∙ ap (λ (ss : SheetList). heads (uncut_all ss)) (sym c.nodes.invariant.sheets_are))
+    c.same_headers-headers_stand.ensures

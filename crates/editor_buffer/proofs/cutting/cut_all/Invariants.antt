@@ -1,4 +1,3 @@
-use Rattle.std.proofs.Common.{◌≡◌}
 use Rattle.document_edits.specs.Standing.{sheets_of}
 use Rattle.editor_buffer.specs.Cutting.{IsCutUpTo}
 use Rattle.editor_buffer.proofs.cutting.cut_all.Given as goal

@@ -1,4 +1,4 @@
-use Rattle.std.proofs.Common.{◌≡◌, sym, ap, subst, ◌∙◌}
+use Rattle.std.proofs.Common.{◌≡◌, sym, ap, subst}
 use Rattle.std.specs.List.{AllZip}
 use Rattle.shared_map.specs.Pairs.{IsSorted}
 use Rattle.doc_nodes.specs.Names.{in_order}
@@ -16,7 +16,7 @@ returns-clause-drafted c =
     let same : nodes ≡ tip = ap (λ (b : Buffer). b.nodes) c.self.view_is in
     let Sorted : NodeList → Type 0 = λ ns. IsSorted in_order ns in
     let sorted : Sorted nodes = subst Sorted c.iter-sorted.ensures.all c.iter-sorted.ensures.sorted in
-    let first : AllZip (Drafted nodes) opened nodes = drafted_first opened nodes sorted c.self.invariant.stands in
+    let first : AllZip (Drafted nodes) opened nodes = drafted_first opened nodes sorted c.self.invariant.stands c.self.invariant.in_force in
     let Tip : NodeList → Type 0 = λ t. AllZip (Drafted t) opened nodes in
     let Opened : OpenList → Type 0 = λ os. AllZip (Drafted tip) os nodes in
     let Nodes : NodeList → Type 0 = λ ns. AllZip (Drafted tip) c.in_ok-copy.field-0 ns in

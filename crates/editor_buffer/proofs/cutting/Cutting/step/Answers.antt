@@ -1,4 +1,4 @@
-use Rattle.std.proofs.Common.{◌≡◌, Option, Some, None, Ok, Err, sym, subst}
+use Rattle.std.proofs.Common.{Option, Some, None, Ok, Err, subst}
 use Rattle.doc_blobs.specs.Needs.{AliasList}
 use Rattle.sheet_edits.specs.declared.fault.PrepareError.{PrepareError}
 use Rattle.document_edits.specs.Standing.{sheets_of}
