@@ -1,0 +1,4 @@
+mod Filtered
+mod Going
+mod Staying
+mod LeavingIs
