@@ -17,8 +17,8 @@ enum Step {
     /// As one of these, which is handed back.
     EvaluatedInVain(u64, u8),
     Cancel(u64, Cancelling),
-    /// Keeps this execution alone.
-    Retain(u64),
+    /// Frees this execution.
+    Forget(u64),
     /// The result of this part of the execution.
     Shows(u64, PartKind, Option<u8>),
     Lacks(u64),
@@ -43,8 +43,8 @@ fn holds(execs: &mut Execs<u8>, step: Step) -> Result<bool, Fail> {
             Ok(execs.finish(id(e)?, Done::Eval { result, forks }).is_err())
         }
         Step::Cancel(e, answer) => Ok(execs.cancel(id(e)?) == answer),
-        Step::Retain(e) => {
-            execs.retain(&[id(e)?]);
+        Step::Forget(e) => {
+            execs.forget(&[id(e)?]);
             Ok(true)
         }
         Step::Shows(e, kind, wanted) => {
@@ -117,7 +117,9 @@ fn what_is_gone_is_freed(rt: HostRuntime) -> Result<(), Fail> {
         Step::Evaluation(2),
         Step::Evaluated(2, 20, false),
         Step::Print(3),
-        Step::Retain(2),
+        Step::Forget(1),
+        Step::Forget(3),
+        Step::Forget(4),
         Step::Lacks(1),
         Step::Shows(2, PartKind::Eval, Some(20)),
         Step::Lacks(3),

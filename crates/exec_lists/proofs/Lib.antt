@@ -1,3 +1,2 @@
-mod Gathered
 mod Risen
 mod KnownRows

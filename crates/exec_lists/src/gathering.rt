@@ -1,51 +1,13 @@
-//! The executions that versions assign, gathered.
-ghost use Rattle.std.specs.Prelude.{◌≡◌, ◌++◌, ℕ, flat_map, IfOk, OnOk};
+//! The executions that a version assigns, gathered.
+ghost use Rattle.std.specs.Prelude.{◌≡◌, ◌++◌, ℕ, flat_map, OnOk};
 ghost use Rattle.std.specs.List.Sorted.{IsStrictlyIncreasing};
 ghost use Rattle.import_rounds.specs.Rounds.{has};
-ghost use Rattle.doc_versions.specs.declared.versions.Removing.TheVariants as answer;
-ghost use Rattle.doc_versions.specs.Removal.{left};
 ghost use Rattle.exec_rules.specs.Listed.{executions};
 ghost use Rattle.core_rules.specs.Assigned.{executions_of};
-ghost use Rattle.exec_lists.specs.Gathered.{all_of, named};
 
-use doc_versions::Live;
 use exec_rules::{Row, Version};
-use pide_base::{ExecId, VersionId};
-use std::alloc::{AllocError, Global};
-
-/// What the live versions assign but for those of these ids.
-pub fn staying(
-    alloc: Global,
-    live: &[Live<Version>],
-    ids: &[VersionId],
-) -> Result<Vec<ExecId>, AllocError>
-    ensures { IfOk result (λ execs. execs.items ≡ all_of (left answer.Removed ids.now live.now)) }
-{
-    let mut execs = Vec::new(alloc);
-    for one in live {
-        if !ids.contains(&one.id) {
-            add_version(&mut execs, one.version.get())?;
-        }
-    }
-    Ok(execs)
-}
-
-/// What the live versions of these ids assign.
-pub fn departing(
-    alloc: Global,
-    live: &[Live<Version>],
-    ids: &[VersionId],
-) -> Result<Vec<ExecId>, AllocError>
-    ensures { IfOk result (λ execs. execs.items ≡ all_of (named ids.now live.now)) }
-{
-    let mut execs = Vec::new(alloc);
-    for one in live {
-        if ids.contains(&one.id) {
-            add_version(&mut execs, one.version.get())?;
-        }
-    }
-    Ok(execs)
-}
+use pide_base::ExecId;
+use std::alloc::AllocError;
 
 /// Adds all that a version assigns.
 pub(crate) fn add_version(execs: &mut Vec<ExecId>, version: &Version) -> Result<(), AllocError>
@@ -79,7 +41,7 @@ fn add_row(execs: &mut Vec<ExecId>, row: &Row) -> Result<(), AllocError>
 }
 
 /// The same executions, rising, each once.
-pub fn rising(execs: Vec<ExecId>) -> Vec<ExecId>
+pub(crate) fn rising(execs: Vec<ExecId>) -> Vec<ExecId>
     ensures rises { IsStrictlyIncreasing result.items }
     ensures same { (e : ℕ) → has result.items e ≡ has execs.items e }
 {

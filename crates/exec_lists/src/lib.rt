@@ -9,6 +9,5 @@ mod opened;
 mod results;
 mod shown;
 
-pub use gathering::{departing, rising, staying};
 pub use opened::open_in;
 pub use results::{NodeResults, PartResult, results_at};

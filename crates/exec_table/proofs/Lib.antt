@@ -1,3 +1,1 @@
-mod RowLemmas
-mod Place
-mod Among
+mod Left

@@ -3,12 +3,13 @@
 //!
 //! Executions are those of Wenzel, "Asynchronous User Interaction and Tool Integration in
 //! Isabelle/PIDE" (ITP 2014); their parts are this project's own. The table is a finite map from
-//! ids, sorted by id. It must not know of versions, nodes, the language or who runs a part: a
-//! result is any type, and is only kept and lent.
+//! ids. It must not know of versions, nodes, the language or who runs a part: a result is any type,
+//! and is only kept and lent.
 #![tactic(auto)]
 
 mod execs;
 mod execution;
+mod rows;
 
-pub use execs::{Cancelling, Execs, Row};
+pub use execs::{Cancelling, Execs};
 pub use execution::{Done, Execution, Progress};

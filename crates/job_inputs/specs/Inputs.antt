@@ -3,9 +3,8 @@ use Rattle.std.specs.Prelude.{ℕ, List, [], ◌∷◌, zip, Option, Some, None}
 use Rattle.std.specs.Option.{option_map, option_and_then}
 use Rattle.pide_base.specs.declared.part.PartKind.TheVariants as kind
 use Rattle.exec_table.specs.declared.execution.Execution.{Execution}
-use Rattle.exec_table.specs.declared.execs.Row.{Row}
+use Rattle.exec_table.specs.Rows.{Row, execution_of}
 use Rattle.exec_table.specs.Progress.{result_of}
-use Rattle.exec_table.specs.Rows.{execution_of}
 use Rattle.doc_nodes.specs.Imports.{NodeList, place_of}
 use Rattle.exec_rules.specs.declared.key.Last.{Last}
 use Rattle.exec_rules.specs.declared.key.Last.TheVariants.{Empty, Open, Made as MadeBy}

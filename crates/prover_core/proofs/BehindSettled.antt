@@ -20,6 +20,8 @@ use Rattle.core_rules.specs.Stuck.{is_settled, stuck_in}
 use Rattle.prover_core.specs.Kept.{Tables, IsKept, IsBehind}
 use Rattle.exec_lists.specs.Parts.{is_unfinished}
 use Rattle.prover_core.specs.Settling.{IsLeft, IsSettled}
+use Rattle.version_losses.specs.Losses.{number_of}
+use Rattle.prover_core.proofs.LossesKept.{behind_of}
 use Rattle.prover_core.proofs.TipLive.{Laws, laws_of}
 use Rattle.prover_core.proofs.NodeShown.{found_assigns}
 use Rattle.prover_core.proofs.LiveIds.{live_place}
@@ -34,13 +36,13 @@ module _ {S : Type 0} (l : Lang S) (h : List Event) (t : Tables S) (k : IsKept l
     → assigns (doc l h).tip e ≡ true)
     (told : (h : List Event) (who : ℕ) (p : Part) → IsLegal l h → (held h who ≡ Some p) ↔ (standing h p ≡ Held who))
     (begun : (h : List Event) (p : Part) → IsLegal l h → is_free (standing h p) ≡ false → has_inputs h (doc l h).homes p ≡ true)
-    (id : ℕ) (v : Version) (live : version_of (doc l h).live id ≡ Some v) (n : ℕ) (number : t.behind id ≡ Some n) where
+    (id : ℕ) (v : Version) (live : version_of (doc l h).live id ≡ Some v) (n : ℕ) (number : number_of t.losses id ≡ Some n) where
   laws : Laws l h
   laws = laws_of l h t k tip told
 
   behind : IsBehind (doc l h) v n
-  behind = let there = k.behind id v live in
-      subst (IsBehind (doc l h) v) (same_number (t.behind id) there.0 n there.1 number) there.2
+  behind = let there = behind_of (doc l h) 0 t.losses (doc l h).live k.losses id v live in
+      subst (IsBehind (doc l h) v) (same_number (number_of t.losses id) there.0 n there.1 number) there.2
 
   assigned : (e : ℕ) → assigns v e ≡ true → is_assigned (doc l h).live e ≡ true
   assigned e is = found_assigns (doc l h).live id e v live is

@@ -79,10 +79,7 @@ module _ {S : Type 0} (l : Lang S) (h : List Event) (t : Tables S) (k : IsKept l
     live = k.live;
     tip = k.tip;
     rows_fit = k.rows_fit;
-    behind = λ i v at.
-        let was = k.behind i v at in
-        (was.0, was.1, record { within = was.2.within; above = was.2.above; still = was.2.still });
-    behind_live = k.behind_live;
+    losses = k.losses;
     next_is = k.next_is;
     within = k.within;
     rows = are;

@@ -1,8 +1,11 @@
 -- Tables that are changed at some numbers, one after the other.
-use Rattle.std.proofs.Common.{◌≡◌, ℕ, Bool, true, false, cond, ◌||◌, List, [], ◌∷◌, ◌++◌, refl, ap, sym, ◌∙◌}
+use Rattle.std.proofs.Common.{◌≡◌, ℕ, Bool, true, false, cond, ◌||◌, List, [], ◌∷◌, ◌++◌, Option, Some, None, refl, ap, sym, ◌∙◌}
 use Rattle.std.proofs.lemmas.Bool.{eqb-true}
 use Rattle.std.specs.Prelude.{◌==◌}
 use Rattle.import_rounds.specs.Rounds.{has}
+use Rattle.exec_table.specs.declared.execution.Execution.{Execution}
+use Rattle.exec_table.specs.Progress.{is_idle}
+use Rattle.exec_table.specs.Finish.{after_cancelling}
 use Rattle.prover_core.proofs.CancelTold.{turned}
 use Rattle.import_rounds.proofs.KnownRounds.{has_both}
 
@@ -39,3 +42,12 @@ module _ {A : Type 0} (step : ℕ → A → A) (again : (e : ℕ) (a : A) → st
       go false same = was e
           ∙ ap (λ b. cond b (step e (f e)) (f e)) (sym (or_none (has ds e)))
           ∙ ap (λ b. cond (has ds e || (b || false)) (step e (f e)) (f e)) (sym (turned x e same))
+
+-- what was cancelled stays so
+pub again_cancelled : {R : Type 0} (o : Option (Execution R)) → after_cancelling (after_cancelling o) ≡ after_cancelling o
+again_cancelled None = refl
+again_cancelled (Some x) = go (is_idle x) refl
+  where
+    go : (b : Bool) → is_idle x ≡ b → after_cancelling (Some (cond b x (record x { cancelled = true }))) ≡ Some (cond b x (record x { cancelled = true }))
+    go true is = ap (λ b. Some (cond b x (record x { cancelled = true }))) is
+    go false is = refl

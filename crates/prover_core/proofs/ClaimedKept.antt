@@ -87,8 +87,7 @@ module _ {S : Type 0} (l : Lang S) (h : List Event) (t : Tables S) (k : IsKept l
     live = k.live;
     tip = k.tip;
     rows_fit = k.rows_fit;
-    behind = k.behind;
-    behind_live = k.behind_live;
+    losses = k.losses;
     next_is = k.next_is;
     within = k.within;
     rows = λ e. k.rows e ∙ sym (row_same l d e h more (same e));

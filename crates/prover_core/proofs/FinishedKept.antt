@@ -89,8 +89,7 @@ module _ {S : Type 0} (l : Lang S) (h : List Event) (t : Tables S) (k : IsKept l
     live = k.live;
     tip = k.tip;
     rows_fit = k.rows_fit;
-    behind = k.behind;
-    behind_live = k.behind_live;
+    losses = k.losses;
     next_is = k.next_is;
     within = k.within;
     rows = λ e. updates e ∙ rows_by e (p.exec == e) refl o row_is;

@@ -51,7 +51,7 @@ mod FreshAll
 mod FreshNew
 mod PlannedKept
 mod LiveIds
-mod AssignedBy
+mod HasTurned
 mod RemovedKept
 mod RisenRange
 mod ShownParts
@@ -61,7 +61,7 @@ mod StuckMarks
 mod SettledParts
 mod OldestReady
 mod LeftParts
-mod BehindKept
+mod LossesKept
 mod BehindSettled
 mod PlanSources
 mod EvaluatedBy
@@ -69,6 +69,5 @@ mod PlanRoom
 mod PlanSteps
 mod PlanTip
 mod PlanIs
-mod BehindLeft
 mod StuckList
 mod PartKinds

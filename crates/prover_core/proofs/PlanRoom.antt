@@ -14,6 +14,9 @@ use Rattle.core_rules.specs.Doc.{doc}
 use Rattle.core_jobs.specs.declared.done.Done.{Done}
 use Rattle.update_plans.specs.declared.beginning.Fresh.{Fresh}
 use Rattle.update_plans.specs.declared.steps.Steps.{Steps}
+use Rattle.core_rules.specs.Numbered.{next_number}
+use Rattle.version_losses.specs.declared.losses.Loss.{Loss}
+use Rattle.version_losses.specs.Losses.{AreLosses}
 use Rattle.prover_core.specs.Plans.{PlanState, HasRoom}
 use Rattle.prover_core.specs.Planned.{plan_of}
 use Rattle.prover_core.proofs.FreshAll.{links_of}
@@ -57,18 +60,17 @@ links_turned (one ∷ fresh) =
 
 -- more room changes nothing of what is kept
 pub roomy_tables : {S : Type 0} (l : Lang S) (h : List Event) (t : Tables S) → IsKept l h t
-    → (versions : History Version) (behind : ℕ → Option ℕ) (rows : ℕ → Option (Execution (Done S))) (homes : ℕ → Option Home) (tasks : ℕ → Option Task) (room : ℕ)
-    → versions.start ≡ t.versions.start → versions.live ≡ t.versions.live → ((id : ℕ) → behind id ≡ t.behind id) → ((e : ℕ) → rows e ≡ t.rows e) → ((e : ℕ) → homes e ≡ t.homes e)
+    → (versions : History Version) (losses : List Loss) (rows : ℕ → Option (Execution (Done S))) (homes : ℕ → Option Home) (tasks : ℕ → Option Task) (room : ℕ)
+    → versions.start ≡ t.versions.start → versions.live ≡ t.versions.live → losses ≡ t.losses → ((e : ℕ) → rows e ≡ t.rows e) → ((e : ℕ) → homes e ≡ t.homes e)
     → ((e : ℕ) → tasks e ≡ t.tasks e) → t.room ≤ room
-    → IsKept l h (record t { versions = versions; behind = behind; rows = rows; homes = homes; tasks = tasks; room = room })
-roomy_tables l h t k versions behind rows homes tasks room begins lives same_behind same_rows same_homes same_tasks more = record {
+    → IsKept l h (record t { versions = versions; losses = losses; rows = rows; homes = homes; tasks = tasks; room = room })
+roomy_tables l h t k versions losses rows homes tasks room begins lives same_losses same_rows same_homes same_tasks more = record {
   legal = k.legal;
   start_is = begins ∙ k.start_is;
   live = lives ∙ k.live;
   tip = ap (λ (v : History Version). tip_of v) alike ∙ k.tip;
   rows_fit = k.rows_fit;
-  behind = λ id version is. let b = k.behind id version is in (b.0, same_behind id ∙ b.1, b.2);
-  behind_live = λ id none. same_behind id ∙ k.behind_live id none;
+  losses = subst (λ xs. AreLosses (doc l h).tip (next_number (doc l h).homes) 0 xs (doc l h).live) (sym same_losses) k.losses;
   next_is = k.next_is;
   within = k.within;
   rows = λ e. same_rows e ∙ k.rows e;
@@ -88,12 +90,12 @@ roomy_tables l h t k versions behind rows homes tasks room begins lives same_beh
         ∙ ap (λ ls. record { start = t.versions.start; live = ls; room = t.versions.room }) lives
 
 -- the room is enough for the plan of these steps
-pub room_for : (id : ℕ) (s : Steps) (p : PlanState) (fresh : List Fresh) (versions behind execs known queue held links : ℕ) → p ≡ plan_of id s → fresh ≡ s.fresh.items
-    → 1 ≤ versions → 1 ≤ behind → length fresh ≤ execs → length fresh ≤ known → length fresh + held ≤ queue → length (flat_map inputs_of fresh) ≤ links
-    → HasRoom (record { versions = min versions behind; executions = min execs known; tasks = queue - held; links = links }) p
-room_for id s p fresh versions behind execs known queue held links same are some one fit stay wait link =
-    subst (HasRoom (record { versions = min versions behind; executions = min execs known; tasks = queue - held; links = links })) (sym same) (record {
-      versions = le-min 1 versions behind some one;
+pub room_for : (id : ℕ) (s : Steps) (p : PlanState) (fresh : List Fresh) (versions losses execs known queue held links : ℕ) → p ≡ plan_of id s → fresh ≡ s.fresh.items
+    → 1 ≤ versions → 1 ≤ losses → length fresh ≤ execs → length fresh ≤ known → length fresh + held ≤ queue → length (flat_map inputs_of fresh) ≤ links
+    → HasRoom (record { versions = min versions losses; executions = min execs known; tasks = queue - held; links = links }) p
+room_for id s p fresh versions losses execs known queue held links same are some one fit stay wait link =
+    subst (HasRoom (record { versions = min versions losses; executions = min execs known; tasks = queue - held; links = links })) (sym same) (record {
+      versions = le-min 1 versions losses some one;
       executions = le-min (length (map (λ (x : Fresh). x.task) (reverse s.fresh.items))) execs known (omega (arith, count, fit)) (omega (arith, count, stay));
       tasks = omega (arith, count, wait);
       links = omega (arith, links_of (reverse s.fresh.items), links_turned s.fresh.items, ap (λ (xs : List Fresh). length (flat_map inputs_of xs)) are, link);

@@ -8,9 +8,8 @@ use Rattle.import_rounds.specs.Rounds.{has}
 use Rattle.pide_base.specs.declared.part.PartKind.TheVariants as kind
 use Rattle.doc_nodes.specs.Imports.{NodeList}
 use Rattle.exec_table.specs.declared.execution.Execution.{Execution}
-use Rattle.exec_table.specs.declared.execs.Row.{Row}
+use Rattle.exec_table.specs.Rows.{Row, execution_of}
 use Rattle.exec_table.specs.Progress.{result_of}
-use Rattle.exec_table.specs.Rows.{execution_of}
 use Rattle.exec_rules.specs.declared.home.Home.{Home}
 use Rattle.exec_rules.specs.Kept.{BlobList}
 use Rattle.language.specs.Lang.{Lang}

@@ -1,11 +1,10 @@
 -- What is kept once a planned update is made.
-use Rattle.std.proofs.Common.{◌≡◌, ℕ, suc, ◌≤◌, true, false, cond, not, ◌&&◌, List, [], ◌∷◌, ◌++◌, length, map, Option, Some, None, ap, sym, subst, ◌∙◌, arith}
-use Rattle.std.specs.Prelude.{◌==◌}
+use Rattle.std.proofs.Common.{◌≡◌, ℕ, suc, ◌≤◌, true, false, cond, not, ◌&&◌, List, [], ◌∷◌, ◌++◌, length, map, Option, None, ap, sym, subst, ◌∙◌, arith}
 use Rattle.std.specs.List.{AllByRecursion}
 use Rattle.std.specs.Option.{option_map}
 use Rattle.import_rounds.specs.Rounds.{has}
 use Rattle.pide_base.specs.Ids.{id_end}
-use Rattle.doc_versions.specs.Live.{History, version_of as found_version}
+use Rattle.doc_versions.specs.Live.{History}
 use Rattle.exec_table.specs.declared.execution.Execution.{Execution}
 use Rattle.exec_table.specs.Finish.{after_cancelling}
 use Rattle.task_queue.specs.declared.task.Standing.{Standing as Task}
@@ -27,6 +26,7 @@ use Rattle.core_jobs.specs.declared.done.Done.{Done}
 use Rattle.update_plans.specs.declared.known.Known.{Known}
 use Rattle.update_plans.specs.declared.beginning.Fresh.{Fresh}
 use Rattle.update_plans.specs.declared.seeing.Sight.{Sight}
+use Rattle.version_losses.specs.declared.losses.Loss.{Loss}
 use Rattle.prover_core.specs.Plans.{PlanState, made_version, begun_as, ranked, AreTasksFor, IsSeen, IsPlanOf, HasRoom}
 use Rattle.prover_core.specs.States.{CoreState}
 use Rattle.prover_core.specs.Fresh.{with_fresh, AreNew}
@@ -40,7 +40,6 @@ use Rattle.prover_core.proofs.PlanTables.{rows_are, homes_then}
 use Rattle.prover_core.proofs.PlanTasks.{tasks_then}
 use Rattle.prover_core.proofs.FreshNew.{fresh_new}
 use Rattle.prover_core.proofs.TipLive.{tip_live}
-use Rattle.prover_core.proofs.LiveIds.{live_ids, fresh_id}
 use Rattle.prover_core.specs.Laws.{UpdateLaws}
 
 module _ {S : Type 0} (l : Lang S) (h : List Event) (t : Tables S) (k : IsKept l h t) (all : UpdateLaws l) (p : PlanState)
@@ -101,10 +100,6 @@ module _ {S : Type 0} (l : Lang S) (h : List Event) (t : Tables S) (k : IsKept l
   next_so = ap (λ (a : Assignment). a.next) planned.assigned ∙ all.numbers (update_of d p.nodes p.blobs) (next_number d.homes)
       ∙ omega (arith, length_grown d.homes made.homes)
 
-  -- no live version has the id
-  pub fresh_version : found_version d.live p.version ≡ None
-  fresh_version = fresh_id d.last p.version d.live (live_ids l h k.legal) planned.fits.newer
-
   pub planned_kept : (versions : History Version) → versions.start ≡ t.versions.start
       → versions.live ≡ t.versions.live ++ record { id = p.version; version = made_version p } ∷ []
       → (rows1 rows2 : ℕ → Option (Execution (Done S))) (tasks1 tasks2 tasks3 : ℕ → Option Task) (homes : ℕ → Option Home)
@@ -115,11 +110,11 @@ module _ {S : Type 0} (l : Lang S) (h : List Event) (t : Tables S) (k : IsKept l
       → ((e : ℕ) → tasks2 e ≡ with_fresh (λ (one : Fresh). waiting one.task) fresh tasks1 e)
       → ((e : ℕ) → tasks3 e ≡ cond (has (map (λ (s : Sight). s.exec) p.sights) e)
       (option_map (ranked (is_visible new e)) (tasks2 e)) (tasks2 e))
-      → (behind : ℕ → Option ℕ) → ((i : ℕ) → behind i ≡ cond (p.version == i) (Some p.assignment.next) (t.behind i))
+      → (losses : List Loss) → losses ≡ t.losses ++ record { id = p.version; next = p.assignment.next; lost = p.dropped } ∷ []
       → (room : ℕ) → t.holding ≤ room
       → IsKept l more (record t {
         versions = versions;
-        behind = behind;
+        losses = losses;
         next = p.assignment.next;
         rows = rows2;
         homes = homes;
@@ -127,7 +122,7 @@ module _ {S : Type 0} (l : Lang S) (h : List Event) (t : Tables S) (k : IsKept l
         room = room;
         quiet = true;
       })
-  planned_kept versions begins lives rows1 rows2 tasks1 tasks2 tasks3 homes drop add put out queue see behind number room roomy =
+  planned_kept versions begins lives rows1 rows2 tasks1 tasks2 tasks3 homes drop add put out queue see losses push room roomy =
       updated_kept l h t k p.version p.nodes p.blobs laws live legal versions begins
       (lives ∙ ap (λ v. t.versions.live ++ record { id = p.version; version = v } ∷ []) same_version)
       (subst RowsFit same_version planned.rows_fit) p.assignment.next next_so
@@ -138,7 +133,7 @@ module _ {S : Type 0} (l : Lang S) (h : List Event) (t : Tables S) (k : IsKept l
       (λ e. has (map (λ (s : Sight). s.exec) p.sights) e) tasks1 tasks2 tasks3 out queue see
       (λ e is. sym (ap (λ v. is_visible v e) same_version) ∙ planned.unseen e is)
       (λ e past is. sym (ap (λ v. is_visible v e) same_version) ∙ planned.unseen_new e past is))
-      fresh_version behind number room roomy
+      p.dropped drops losses push room roomy
 
 -- room in other words
 pub has_room : (s u : CoreState) (q r : PlanState) → s ≡ u → q ≡ r → HasRoom u.room r → HasRoom s.room q

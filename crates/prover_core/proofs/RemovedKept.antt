@@ -1,7 +1,7 @@
 -- What is kept once versions are removed.
-use Rattle.std.proofs.Common.{◌≡◌, ℕ, Bool, true, false, cond, not, List, ◌∷◌, Option, None, refl, ap, sym, ◌∙◌}
+use Rattle.std.proofs.Common.{◌≡◌, ℕ, Bool, true, false, cond, not, ◌&&◌, List, ◌∷◌, Option, None, refl, ap, sym, ◌∙◌}
 use Rattle.std.proofs.lemmas.Bool.{false≢true}
-use Rattle.std.specs.Prelude.{◌==◌, is_some}
+use Rattle.std.specs.Prelude.{◌==◌}
 use Rattle.std.specs.Option.{option_map}
 use Rattle.std.specs.List.{list_any}
 use Rattle.import_rounds.specs.Rounds.{has}
@@ -15,130 +15,101 @@ use Rattle.exec_rules.specs.declared.version.Version.{Version}
 use Rattle.language.specs.Lang.{Lang}
 use Rattle.core_rules.specs.declared.event.Event.{Event}
 use Rattle.core_rules.specs.declared.event.Event.TheVariants.{Remove}
-use Rattle.core_rules.specs.Numbered.{numbered}
+use Rattle.core_rules.specs.Numbered.{numbered, next_number}
 use Rattle.core_rules.specs.Assigned.{is_assigned}
 use Rattle.core_rules.specs.Settings.{setting}
 use Rattle.core_rules.specs.Standing.{has_ended}
 use Rattle.core_rules.specs.Doc.{Doc, doc}
 use Rattle.core_jobs.specs.declared.done.Done.{Done}
 use Rattle.update_plans.specs.declared.known.Known.{Known}
+use Rattle.version_losses.specs.declared.leaving.Leaving.{Leaving}
+use Rattle.version_losses.specs.Losses.{AreLosses}
+use Rattle.version_losses.specs.Leaving.{Leaves}
 use Rattle.prover_core.specs.Progress.{completed_in, row_by, row_of}
 use Rattle.prover_core.specs.Kept.{Tables, IsKept, home_of}
-use Rattle.exec_lists.specs.Gathered.{all_of, named}
-use Rattle.prover_core.proofs.AssignedBy.{has_all, some_assigned, parted, has_turned}
-use Rattle.prover_core.proofs.BehindLeft.{left_behind, left_live}
-use Rattle.prover_core.proofs.OpenRows.{row_known}
+use Rattle.prover_core.proofs.HasTurned.{has_turned}
 
--- what is narrowed twice
-narrowed : {A : Type 0} (b a : Bool) (x : Option A) → (b ≡ true → a ≡ true) → cond b (cond a x None) None ≡ cond b x None
-narrowed false a x so = refl
-narrowed true true x so = refl
-narrowed true false x so = absurd (false≢true (so refl))
+-- without what goes
+without : {A : Type 0} (goes was : Bool) (x : Option A) → cond goes None (cond was x None) ≡ cond (was && not goes) x None
+without true true x = refl
+without true false x = refl
+without false true x = refl
+without false false x = refl
 
-module _ {S : Type 0} (l : Lang S) (h : List Event) (t : Tables S) (k : IsKept l h t) where
+module _ {S : Type 0} (l : Lang S) (h : List Event) (t : Tables S) (k : IsKept l h t) (ids : List ℕ) (leaving : Leaving)
+    (removed : removing t.versions.live ids ≡ answer.Removed)
+    (leaves : (tip : Version) (top : ℕ) (live : List (Live Version)) → AreLosses tip top 0 t.losses live → removing live ids ≡ answer.Removed
+    → Leaves tip top ids live leaving) where
   abbrev d : Doc
   d = doc l h
 
-  module _ (ids : List ℕ) where
-    abbrev test : Live Version → Bool
-    test one = list_any (λ id. id == one.id) ids
+  abbrev more : List Event
+  more = Remove ids ∷ h
 
-    abbrev rest : List (Live Version)
-    rest = left answer.Removed ids t.versions.live
+  abbrev gone : List ℕ
+  gone = leaving.gone.items
 
-    abbrev stays : ℕ → Bool
-    stays e = is_assigned rest e
+  removed_live : removing d.live ids ≡ answer.Removed
+  removed_live = ap (λ live. removing live ids) (sym k.live) ∙ removed
 
-    was_live : (e : ℕ) → stays e ≡ true → is_assigned d.live e ≡ true
-    was_live e is = sym (ap (λ live. is_assigned live e) k.live) ∙ some_assigned (λ one. not (test one)) t.versions.live e is
+  so : Leaves d.tip (next_number d.homes) ids d.live leaving
+  so = leaves d.tip (next_number d.homes) d.live k.losses removed_live
 
-    same_rest : (e : ℕ) → is_assigned (left answer.Removed ids d.live) e ≡ stays e
-    same_rest e = ap (λ live. is_assigned (left answer.Removed ids live) e) (sym k.live)
+  was_live : (e : ℕ) → is_assigned (doc l more).live e ≡ true → is_assigned d.live e ≡ true
+  was_live e is = go (is_assigned d.live e) (sym (so.gone e) ∙ is)
+    where
+      go : (b : Bool) → (b && not (has gone e)) ≡ true → b ≡ true
+      go true is = refl
+      go false is = absurd (false≢true is)
 
-    -- what is left of executions
-    module _ (kept : List ℕ) (same : (e : ℕ) → has kept e ≡ has (all_of rest) e)
-        (rows : ℕ → Option (Execution (Done S)))
-        (retained : (e : ℕ) → rows e ≡ cond (list_any (λ id. id == e) kept) (t.rows e) None) where
-      rows_left : (e : ℕ) → rows e ≡ cond (stays e) (t.rows e) None
-      rows_left e = retained e ∙ ap (λ b. cond b (t.rows e) None) (has_turned kept e ∙ same e ∙ has_all rest e)
+  rows_so : (rows : ℕ → Option (Execution (Done S))) → ((e : ℕ) → rows e ≡ cond (list_any (λ id. id == e) gone) None (t.rows e))
+      → (e : ℕ) → rows e ≡ row_of l more (doc l more) e
+  rows_so rows forgot e = forgot e ∙ ap (λ b. cond b None (t.rows e)) (has_turned gone e)
+      ∙ ap (cond (has gone e) None) (k.rows e)
+      ∙ without (has gone e) (is_assigned d.live e)
+      (row_by l (has d.cancelled e) e (completed_in h e) (numbered d.homes e) (setting l d.homes e))
+      ∙ ap (λ b. cond b (row_by l (has d.cancelled e) e (completed_in h e) (numbered d.homes e) (setting l d.homes e)) None) (sym (so.gone e))
 
-      rows_so : (e : ℕ) → rows e ≡ row_of l (Remove ids ∷ h) (doc l (Remove ids ∷ h)) e
-      rows_so e = rows_left e ∙ ap (λ o. cond (stays e) o None) (k.rows e)
-          ∙ narrowed (stays e) (is_assigned d.live e)
-          (row_by l (has d.cancelled e) e (completed_in h e) (numbered d.homes e) (setting l d.homes e)) (was_live e)
-          ∙ ap (λ b. cond b (row_by l (has d.cancelled e) e (completed_in h e) (numbered d.homes e) (setting l d.homes e)) None)
-          (sym (same_rest e))
+  homes_so : (old now : ℕ → Option Known) → ((e : ℕ) → t.homes e ≡ option_map (λ (x : Known). x.home) (old e))
+      → ((e : ℕ) → now e ≡ cond (has gone e) None (old e)) → (e : ℕ) → option_map (λ (x : Known). x.home) (now e) ≡ home_of (doc l more) e
+  homes_so old now homes forgot e = ap home (forgot e) ∙ go (has gone e) ∙ ap (cond (has gone e) None) (sym (homes e) ∙ k.homes e)
+      ∙ without (has gone e) (is_assigned d.live e) (numbered d.homes e)
+      ∙ ap (λ b. cond b (numbered d.homes e) None) (sym (so.gone e))
+    where
+      home : Option Known → Option Home
+      home o = option_map (λ (x : Known). x.home) o
 
-      still_there : (e : ℕ) → stays e ≡ true → is_some (rows e) ≡ true
-      still_there e is = ap is_some (rows_left e ∙ ap (λ b. cond b (t.rows e) None) is
-          ∙ k.rows e ∙ row_known l h d e (k.known e (was_live e is)) (was_live e is))
+      go : (b : Bool) → option_map (λ (x : Known). x.home) (cond b None (old e)) ≡ cond b None (option_map (λ (x : Known). x.home) (old e))
+      go true = refl
+      go false = refl
 
-      gone_there : (e : ℕ) → stays e ≡ false → is_some (rows e) ≡ false
-      gone_there e is = ap is_some (rows_left e ∙ ap (λ b. cond b (t.rows e) None) is)
-
-      -- what is left of homes
-      module _ (gone : List ℕ) (all : gone ≡ all_of (named ids t.versions.live)) (old now : ℕ → Option Known)
-          (homes : (e : ℕ) → t.homes e ≡ option_map (λ (x : Known). x.home) (old e))
-          (forgot : (e : ℕ) → now e ≡ cond (has gone e) (cond (is_some (rows e)) (old e) None) (old e)) where
-        abbrev home : Option Known → Option Home
-        home o = option_map (λ (x : Known). x.home) o
-
-        kept_home : (a b : Bool) (o : Option Known) → b ≡ true → cond a (cond b o None) o ≡ o
-        kept_home true true o is = refl
-        kept_home false b o is = refl
-        kept_home true false o is = absurd (cc)
-
-        lost_home : (a b : Bool) (o : Option Known) → b ≡ false → (a ≡ false → home o ≡ None) → home (cond a (cond b o None) o) ≡ None
-        lost_home true false o is none = refl
-        lost_home false b o is none = none refl
-        lost_home true true o is none = absurd (cc)
-
-        nowhere : (e : ℕ) → stays e ≡ false → has gone e ≡ false → home (old e) ≡ None
-        nowhere e goes absent = sym (homes e) ∙ k.homes e ∙ by (is_assigned d.live e) refl
-          where
-            by : (b : Bool) → is_assigned d.live e ≡ b → cond b (numbered d.homes e) None ≡ None
-            by false is = refl
-            by true is = absurd (false≢true (sym absent ∙ ap (λ xs. has xs e) all ∙ has_all (named ids t.versions.live) e
-                ∙ parted test t.versions.live e (ap (λ live. is_assigned live e) k.live ∙ is) goes))
-
-        homes_so : (e : ℕ) → home (now e) ≡ home_of (doc l (Remove ids ∷ h)) e
-        homes_so e = ap home (forgot e) ∙ go (stays e) refl
-            ∙ ap (λ b. cond b (numbered d.homes e) None) (sym (same_rest e))
-          where
-            go : (b : Bool) → stays e ≡ b → home (cond (has gone e) (cond (is_some (rows e)) (old e) None) (old e))
-                ≡ cond (stays e) (numbered d.homes e) None
-            go true is = ap home (kept_home (has gone e) (is_some (rows e)) (old e) (still_there e is))
-                ∙ sym (homes e) ∙ k.homes e ∙ ap (λ b. cond b (numbered d.homes e) None) (was_live e is ∙ sym is)
-            go false is = lost_home (has gone e) (is_some (rows e)) (old e) (gone_there e is) (nowhere e is)
-                ∙ ap (λ b. cond b (numbered d.homes e) None) (sym is)
-
-        pub removed_kept : (behind : ℕ → Option ℕ) → ((i : ℕ) → behind i ≡ cond (has ids i) None (t.behind i))
-            → (versions : History Version) → has_ended h ≡ false → removing t.versions.live ids ≡ answer.Removed
-            → versions.start ≡ t.versions.start → versions.live ≡ rest → tip_of versions ≡ tip_of t.versions
-            → IsKept l (Remove ids ∷ h) (record t {
-              versions = versions;
-              behind = behind;
-              rows = rows;
-              homes = λ e. option_map (λ (x : Known). x.home) (now e);
-            })
-        removed_kept behind lost versions going is start live tip = record {
-          legal = (k.legal, (going, ap (λ live. removing live ids) (sym k.live) ∙ is));
-          start_is = start ∙ k.start_is;
-          live = live ∙ ap (left answer.Removed ids) k.live;
-          tip = tip ∙ k.tip;
-          rows_fit = k.rows_fit;
-          behind = left_behind l h t k ids behind lost;
-          behind_live = left_live l h t k ids behind lost;
-          next_is = k.next_is;
-          within = k.within;
-          rows = rows_so;
-          homes = homes_so;
-          known = λ e now. k.known e (was_live e (sym (same_rest e) ∙ now));
-          in_order = k.in_order;
-          holders = k.holders;
-          held_next = k.held_next;
-          tasks = k.tasks;
-          ended = k.ended;
-          quiet = k.quiet;
-          room = k.room;
-        }
+  pub removed_kept : (rows : ℕ → Option (Execution (Done S))) → ((e : ℕ) → rows e ≡ cond (list_any (λ id. id == e) gone) None (t.rows e))
+      → (old now : ℕ → Option Known) → ((e : ℕ) → t.homes e ≡ option_map (λ (x : Known). x.home) (old e))
+      → ((e : ℕ) → now e ≡ cond (has gone e) None (old e)) → (versions : History Version) → has_ended h ≡ false
+      → versions.start ≡ t.versions.start → versions.live ≡ left answer.Removed ids t.versions.live → tip_of versions ≡ tip_of t.versions
+      → IsKept l more (record t {
+        versions = versions;
+        losses = leaving.losses.losses;
+        rows = rows;
+        homes = λ e. option_map (λ (x : Known). x.home) (now e);
+      })
+  removed_kept rows forgot old now homes forgotten versions going start live tip = record {
+    legal = (k.legal, (going, removed_live));
+    start_is = start ∙ k.start_is;
+    live = live ∙ ap (left answer.Removed ids) k.live;
+    tip = tip ∙ k.tip;
+    rows_fit = k.rows_fit;
+    losses = so.losses;
+    next_is = k.next_is;
+    within = k.within;
+    rows = rows_so rows forgot;
+    homes = homes_so old now homes forgotten;
+    known = λ e is. k.known e (was_live e is);
+    in_order = k.in_order;
+    holders = k.holders;
+    held_next = k.held_next;
+    tasks = k.tasks;
+    ended = k.ended;
+    quiet = k.quiet;
+    room = k.room;
+  }

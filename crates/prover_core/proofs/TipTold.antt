@@ -3,8 +3,7 @@ use Rattle.std.proofs.Common.{◌≡◌, ℕ, false, cond, List, Option, Some, N
 use Rattle.std.specs.Option.{option_map, option_map_or}
 use Rattle.import_rounds.specs.Rounds.{has}
 use Rattle.exec_table.specs.declared.execution.Execution.{Execution}
-use Rattle.exec_table.specs.declared.execs.Row.{Row as TableRow}
-use Rattle.exec_table.specs.Rows.{execution_of}
+use Rattle.exec_table.specs.Rows.{Row as TableRow, execution_of}
 use Rattle.exec_rules.specs.declared.home.Home.{Home}
 use Rattle.exec_assign.specs.Agreeing.{AgreeAt}
 use Rattle.language.specs.Lang.{Lang}

@@ -49,7 +49,7 @@ has_filter test (x ∷ xs) e = go (test x) refl (e == x) refl (has_filter test x
     go false is true same rest = none (test e) (has xs e) (has (filter test xs) e) (ap test (eqb-true e x same) ∙ is) rest
     go false is false same rest = rest
 
-pushed : (live : List (Live Version)) (one : Live Version) (e : ℕ)
+pub pushed : (live : List (Live Version)) (one : Live Version) (e : ℕ)
     → is_assigned (live ++ one ∷ []) e ≡ (is_assigned live e || assigns one.version e)
 pushed [] one e = or_none (assigns one.version e)
   where

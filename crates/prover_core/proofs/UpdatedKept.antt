@@ -1,13 +1,12 @@
 -- What is kept once an update is made.
-use Rattle.std.proofs.Common.{◌≡◌, ◌⊎◌, inl, inr, ℕ, ◌<◌, ◌≤◌, Bool, true, false, cond, not, ◌&&◌, List, [], ◌∷◌, ◌++◌, length, Option, Some, None, refl, ap, sym, ◌∙◌}
+use Rattle.std.proofs.Common.{◌≡◌, ◌⊎◌, inl, inr, ℕ, ◌<◌, ◌≤◌, Bool, true, false, cond, not, ◌&&◌, List, [], ◌∷◌, ◌++◌, length, Option, Some, None, refl, ap, sym, subst, ◌∙◌, arith}
 use Rattle.std.proofs.lemmas.Bool.{cases_lt}
-use Rattle.std.specs.Prelude.{◌==◌}
 use Rattle.std.specs.Option.{option_map_or, option_and_then}
 use Rattle.pide_base.specs.Ids.{id_end}
 use Rattle.pide_base.specs.declared.part.PartKind.{PartKind}
 use Rattle.doc_nodes.specs.Imports.{NodeList}
 use Rattle.doc_versions.specs.declared.versions.Live.{Live}
-use Rattle.doc_versions.specs.Live.{History, version_of as found_version, newest}
+use Rattle.doc_versions.specs.Live.{History, newest}
 use Rattle.exec_table.specs.declared.execution.Execution.{Execution}
 use Rattle.exec_table.specs.Finish.{after_cancelling}
 use Rattle.task_queue.specs.declared.task.Standing.{Standing as Task}
@@ -26,10 +25,12 @@ use Rattle.core_rules.specs.Parts.{forks}
 use Rattle.core_rules.specs.Doc.{Doc, doc, assignment_of, version_of}
 use Rattle.core_rules.specs.Legal.{IsLegal}
 use Rattle.core_jobs.specs.declared.done.Done.{Done}
+use Rattle.version_losses.specs.declared.losses.Loss.{Loss}
+use Rattle.version_losses.specs.Losses.{AreLosses}
 use Rattle.prover_core.specs.Progress.{completed_in, next_kind, next_of, row_by, row_of}
 use Rattle.prover_core.specs.Kept.{Tables, IsKept, home_of}
-use Rattle.core_rules.proofs.KnownNumbers.{numbered_within}
-use Rattle.prover_core.proofs.BehindKept.{now_behind, now_behind_live}
+use Rattle.core_rules.proofs.KnownNumbers.{numbered_within, length_grown}
+use Rattle.prover_core.proofs.LossesKept.{pushed_losses}
 use Rattle.prover_core.proofs.UpdatedDoc.{NewLaws, same_home, old_live, new_live, not_cancelled}
 use Rattle.prover_core.proofs.UpdatedRows.{AreRows, known_now, beyond, stays_row, dropped_row, new_row}
 use Rattle.prover_core.proofs.UpdatedTasks.{AreTasksThen, tasks_now}
@@ -107,11 +108,11 @@ module _ {S : Type 0} (l : Lang S) (h : List Event) (t : Tables S) (k : IsKept l
       → (rows : ℕ → Option (Execution (Done S))) → AreRows l h t k id nodes blobs laws tip_live rows
       → (homes : ℕ → Option Home) → AreHomes homes
       → (tasks : ℕ → Option Task) → AreTasksThen l h t k id nodes blobs laws tip_live tasks
-      → found_version d.live id ≡ None → (behind : ℕ → Option ℕ)
-      → ((i : ℕ) → behind i ≡ cond (id == i) (Some next) (t.behind i)) → (room : ℕ) → t.holding ≤ room
+      → (dropped : List ℕ) → ((e : ℕ) → has dropped e ≡ (assigns d.tip e && not (assigns new e))) → (losses : List Loss)
+      → losses ≡ t.losses ++ record { id = id; next = next; lost = dropped } ∷ [] → (room : ℕ) → t.holding ≤ room
       → IsKept l more (record t {
         versions = versions;
-        behind = behind;
+        losses = losses;
         next = next;
         rows = rows;
         homes = homes;
@@ -119,7 +120,7 @@ module _ {S : Type 0} (l : Lang S) (h : List Event) (t : Tables S) (k : IsKept l
         room = room;
         quiet = true;
       })
-  updated_kept legal versions begins lives fits next next_is within rows are_rows homes are_homes tasks are_tasks free behind put room roomy = record {
+  updated_kept legal versions begins lives fits next next_is within rows are_rows homes are_homes tasks are_tasks dropped drops losses put room roomy = record {
     legal = legal;
     start_is = begins ∙ k.start_is;
     live = lives ∙ ap (λ xs. xs ++ record { id = id; version = new } ∷ []) k.live;
@@ -127,8 +128,13 @@ module _ {S : Type 0} (l : Lang S) (h : List Event) (t : Tables S) (k : IsKept l
         ∙ ap (λ o. option_map_or (λ (x : Live Version). x.version) o versions.start)
         (last_is t.versions.live (record { id = id; version = new }));
     rows_fit = fits;
-    behind = now_behind l h t k id nodes blobs laws free next next_is behind put;
-    behind_live = now_behind_live l h t k id nodes blobs laws free next next_is behind put;
+    losses = subst (λ xs. AreLosses new (next_number now.homes) 0 xs now.live)
+        (sym (put ∙ ap (λ n. t.losses ++ record { id = id; next = n; lost = dropped } ∷ []) next_is))
+        (pushed_losses d.tip new (next_number d.homes) (next_number now.homes) dropped id
+        (omega (arith, length_grown d.homes (assignment_of d nodes blobs).homes))
+        (λ e is lt. laws.kept e is (omega (arith, lt)))
+        (λ e is. let x = laws.homes e is in omega (arith, numbered_within now.homes e x.home x.homed))
+        drops 0 t.losses d.live k.losses);
     next_is = next_is;
     within = within;
     rows = rows_now rows are_rows;

@@ -3,7 +3,7 @@ use Rattle.std.specs.Prelude.{◌≡◌, ℕ, ◌<◌, ◌≤◌, Bool, true, fa
 use Rattle.import_rounds.specs.Rounds.{has}
 use Rattle.pide_base.specs.Ids.{id_end}
 use Rattle.pide_base.specs.declared.part.Part.{Part}
-use Rattle.doc_versions.specs.Live.{History, version_of, tip_of}
+use Rattle.doc_versions.specs.Live.{History, tip_of}
 use Rattle.exec_table.specs.declared.execution.Execution.{Execution}
 use Rattle.task_queue.specs.declared.task.Standing.{Standing as Task}
 use Rattle.exec_rules.specs.declared.home.Home.{Home}
@@ -18,6 +18,8 @@ use Rattle.core_rules.specs.Settings.{Setting, setting}
 use Rattle.core_rules.specs.Standing.{held, has_ended}
 use Rattle.core_rules.specs.Doc.{Doc, doc, start}
 use Rattle.core_rules.specs.Legal.{IsLegal}
+use Rattle.version_losses.specs.declared.losses.Loss.{Loss}
+use Rattle.version_losses.specs.Losses.{AreLosses}
 use Rattle.prover_core.specs.Progress.{row_of, next_of, InOrder, completed_in}
 use Rattle.prover_core.specs.Tasks.{HasTask}
 
@@ -25,7 +27,7 @@ use Rattle.prover_core.specs.Tasks.{HasTask}
 -- there is room for; whether it is known that the tip has nothing that is cancelled
 pub record Tables (S : Type 0) : Type 0 where
   pub versions : History Version
-  pub behind : ℕ → Option ℕ
+  pub losses : List Loss
   pub next : ℕ
   pub rows : ℕ → Option (Execution (Done S))
   pub homes : ℕ → Option Home
@@ -57,8 +59,8 @@ pub record IsKnown {S : Type 0} (l : Lang S) (homes : List Home) (e : ℕ) : Typ
   pub works_on : Setting S
   pub setting_is : setting l homes e ≡ Some works_on
 
--- they are told by all that has happened: the live versions, with the numbers that came next when
--- they were made; the next execution; of each execution that a live version assigns how far it is,
+-- they are told by all that has happened: the live versions, with what was lost by them and the
+-- numbers that came next when they were made; the next execution; of each execution that a live version assigns how far it is,
 -- and what it goes by; who holds what; the tasks of the tip; whether all has ended, and whether
 -- something of the tip may be cancelled
 pub record IsKept {S : Type 0} (l : Lang S) (h : List Event) (t : Tables S) : Type 0 where
@@ -67,9 +69,7 @@ pub record IsKept {S : Type 0} (l : Lang S) (h : List Event) (t : Tables S) : Ty
   pub live : t.versions.live ≡ (doc l h).live
   pub tip : tip_of t.versions ≡ (doc l h).tip
   pub rows_fit : RowsFit (doc l h).tip
-  pub behind : (id : ℕ) (version : Version) → version_of (doc l h).live id ≡ Some version
-      → (n : ℕ) × (t.behind id ≡ Some n) × IsBehind (doc l h) version n
-  pub behind_live : (id : ℕ) → version_of (doc l h).live id ≡ None → t.behind id ≡ None
+  pub losses : AreLosses (doc l h).tip (next_number (doc l h).homes) 0 t.losses (doc l h).live
   pub next_is : t.next ≡ next_number (doc l h).homes
   pub within : t.next ≤ id_end
   pub rows : (e : ℕ) → t.rows e ≡ row_of l h (doc l h) e

@@ -67,7 +67,7 @@ fn add_one<R: Drop>(
         then Some fresh.known else looked known.old e) }
     ensures tasks { (e : ℕ) → standing queue.new e
         ≡ with_standing (standing queue.old) fresh.task.part.exec (Some (waiting fresh.task)) e }
-    ensures executions { execs.new.room + 1 ≡ execs.old.room }
+    ensures executions { execs.old.room ≤ execs.new.room + 1 }
     ensures spare { spare known.old ≤ spare known.new + 1 }
     ensures room { queue.old.room ≤ queue.new.room + 1 }
     ensures links { queue.old.links ≤ queue.new.links + length fresh.task.inputs }

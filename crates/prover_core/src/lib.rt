@@ -14,7 +14,6 @@ mod following;
 mod forgetting;
 mod laws;
 mod looking;
-mod numbers;
 mod plan;
 mod planning;
 mod prover;

@@ -3,10 +3,12 @@ ghost use Rattle.std.specs.Prelude.{◌≡◌, map};
 ghost use Rattle.exec_assign.specs.Told.{told_node};
 
 use core_rules::Event;
+use doc_nodes::Shared;
 use doc_versions::Version as SharedVersion;
 use exec_assign::ToldNode;
 use exec_rules::Version;
 use pide_base::{ExecId, VersionId};
+use sqlite_items::Items;
 use std::marker::Model;
 use update_plans::{Fresh, Sight};
 
@@ -22,7 +24,7 @@ pub struct Plan {
     /// The new executions, by falling numbers: the first stands last.
     pub(crate) fresh: Vec<Fresh>,
     /// The tip's executions that the version hasn't.
-    pub(crate) dropped: Vec<ExecId>,
+    pub(crate) dropped: Shared<Items<ExecId>>,
     /// The evaluations of nodes that changed.
     pub(crate) sights: Vec<Sight>,
     pub(crate) told: Vec<ToldNode>,
@@ -46,7 +48,7 @@ impl Model for Plan {
         next = p.next;
       };
       tasks = map (λ fresh. fresh.task) (reverse p.fresh.items);
-      dropped = p.dropped.items;
+      dropped = p.dropped;
       sights = p.sights.items;
       told = map told_node p.told.items;
     } };

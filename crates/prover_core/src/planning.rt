@@ -15,12 +15,13 @@ use crate::plan::Plan;
 use crate::prover::Core;
 use crate::spare::make_room;
 use core_rules::Event;
-use doc_nodes::Nodes;
+use doc_nodes::{Nodes, Shared};
 use doc_versions::Version as SharedVersion;
 use exec_assign::{AssignFault, ChangedBlobs};
 use exec_rules::Blobs;
 use language::Language;
 use pide_base::VersionId;
+use sqlite_items::Items;
 use std::alloc::{AllocError, Global};
 use update_plans::{Steps, work_out};
 
@@ -59,7 +60,7 @@ impl<L: Language> Core<L> {
         let steps = self.steps(alloc, id, nodes, blobs, changed, marks)?;
         make_room(
             &mut self.versions,
-            &mut self.behind,
+            &mut self.losses,
             &mut self.execs,
             &mut self.known,
             &mut self.queue,
@@ -127,6 +128,10 @@ fn planned(alloc: Global, id: VersionId, steps: Steps) -> Result<Plan, AllocErro
     };
     let version = match SharedVersion::new(alloc, version) {
         Ok(version) => version,
+        Err(_) => return Err(AllocError),
+    };
+    let dropped = match Shared::new(alloc, Items::from_vec(dropped)) {
+        Ok(dropped) => dropped,
         Err(_) => return Err(AllocError),
     };
     Ok(Plan {

@@ -20,6 +20,7 @@ use std::collections::HashMap;
 use std::marker::Model;
 use task_queue::TaskQueue;
 use update_plans::Known;
+use version_losses::Losses;
 
 /// The document of the prover's side. Contracts see all that has happened, the newest event first,
 /// and the room for an update that was planned.
@@ -28,8 +29,8 @@ pub struct Core<L: Language> {
     pub(crate) alloc: Global,
     pub(crate) past: Unkept<Event>,
     pub(crate) versions: Versions<Version>,
-    /// The numbers that came next when live versions were made, by ids of versions.
-    pub(crate) behind: Table<u64>,
+    /// What live versions had and later ones have not.
+    pub(crate) losses: Losses,
     /// The number of the next execution.
     pub(crate) next: u64,
     pub(crate) execs: Execs<Done<L::State>>,
@@ -56,7 +57,7 @@ impl<L: Language> Model for Core<L> {
     ghost view = { λ c. record {
       past = c.past;
       room = record {
-        versions = min c.versions.room (spare c.behind);
+        versions = min c.versions.room c.losses.room;
         executions = min c.execs.room (spare c.known);
         tasks = c.queue.room - hash_map_len c.holders;
         links = c.queue.links;
@@ -65,7 +66,7 @@ impl<L: Language> Model for Core<L> {
 
     ghost invariant = { λ c. IsKept L.lang c.past (record {
       versions = c.versions;
-      behind = λ id. looked c.behind id;
+      losses = c.losses.losses;
       next = c.next;
       rows = λ e. execution_of c.execs.rows e;
       homes = λ e. option_map (λ k. k.home) (looked c.known e);
@@ -94,7 +95,7 @@ impl<L: Language> Core<L> {
                 alloc,
                 past: Unkept::new(),
                 versions: Versions::new(alloc, start),
-                behind: HashMap::new(alloc),
+                losses: Losses::new(alloc),
                 next: 1,
                 execs: Execs::new(alloc),
                 known: HashMap::new(alloc),

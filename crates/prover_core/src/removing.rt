@@ -7,16 +7,15 @@ ghost use Rattle.core_rules.specs.Legal.{IsLegal};
 ghost use Rattle.prover_core.specs.Removal.{with_removal};
 
 use crate::forgetting::forget_all;
-use crate::numbers::forget_ids;
 use crate::prover::Core;
 use core_rules::Event;
 use doc_versions::Removing;
-use exec_lists::{departing, rising, staying};
 use language::Language;
 use past_items::Past;
 use pide_base::VersionId;
 use sqlite_items::Items;
 use std::alloc::AllocError;
+use version_losses::Leaving;
 
 impl<L: Language> Core<L> {
     /// Removes live versions, of which none is the tip; else none goes, and the answer says why.
@@ -31,17 +30,16 @@ impl<L: Language> Core<L> {
         ensures err { OnErr result (self.new ≡ self.old) }
         ensures legal { IsLegal L.lang self.new.past }
     {
-        let live = self.versions.live();
         let ids = versions.as_slice();
-        let kept = rising(staying(self.alloc, live, ids)?);
-        let gone = departing(self.alloc, live, ids)?;
+        let leaving = self.losses.leaving(self.alloc, ids)?;
+        let Leaving { losses, gone } = leaving;
         match self.versions.remove(ids) {
             Removing::Unknown(id) => Ok(Removing::Unknown(id)),
             Removing::Tip => Ok(Removing::Tip),
             Removing::Removed => {
-                forget_ids(&mut self.behind, ids);
-                self.execs.retain(&kept);
-                forget_all(&self.execs, &mut self.known, &gone);
+                self.losses = losses;
+                self.execs.forget(&gone);
+                forget_all(&mut self.known, &gone);
                 self.past.add(Event::Remove { versions });
                 Ok(Removing::Removed)
             }

@@ -39,10 +39,9 @@ impl<L: Language> Core<L> {
         let Some(version) = self.versions.get(id) else {
             return Ok(Settled::Unknown);
         };
-        let Some(behind) = self.behind.get(&id.number()) else {
+        let Some(behind) = self.losses.number(id) else {
             unreachable!()
         };
-        let behind = *behind;
         if let Some(part) = ready_below(&self.queue, behind) {
             return Ok(Settled::Left(part));
         }

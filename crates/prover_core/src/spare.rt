@@ -1,6 +1,7 @@
 //! Room for an update.
 ghost use Rattle.std.specs.Prelude.{◌≡◌, ◌≤◌, ◌+◌, ℕ, length, flat_map, IfSome, OnOk};
 ghost use Rattle.std.specs.HashMap.{spare};
+ghost use Rattle.exec_table.specs.Rows.{execution_of};
 ghost use Rattle.task_queue.specs.Tasks.{standing};
 ghost use Rattle.prover_core.specs.Looked.{looked};
 
@@ -11,12 +12,13 @@ use exec_table::Execs;
 use std::alloc::AllocError;
 use task_queue::TaskQueue;
 use update_plans::{Fresh, Known};
+use version_losses::Losses;
 
 /// Makes room for one version more, and for these executions with their tasks, beside the forks of
 /// all that is held.
 pub(crate) fn make_room<R: Drop>(
     versions: &mut Versions<Version>,
-    behind: &mut Table<u64>,
+    losses: &mut Losses,
     execs: &mut Execs<R>,
     known: &mut Table<Known>,
     queue: &mut TaskQueue,
@@ -25,13 +27,13 @@ pub(crate) fn make_room<R: Drop>(
 ) -> Result<(), AllocError>
     ensures start { versions.new.start ≡ versions.old.start }
     ensures live { versions.new.live ≡ versions.old.live }
-    ensures behind { (id : ℕ) → looked behind.new id ≡ looked behind.old id }
-    ensures rows { execs.new.rows ≡ execs.old.rows }
+    ensures losses { losses.new.losses ≡ losses.old.losses }
+    ensures rows { (e : ℕ) → execution_of execs.new.rows e ≡ execution_of execs.old.rows e }
     ensures known { (e : ℕ) → looked known.new e ≡ looked known.old e }
     ensures tasks { (e : ℕ) → standing queue.new e ≡ standing queue.old e }
     ensures room { queue.old.room ≤ queue.new.room }
     ensures versions_fit { OnOk result (1 ≤ versions.new.room) }
-    ensures behind_fits { OnOk result (1 ≤ spare behind.new) }
+    ensures losses_fit { OnOk result (1 ≤ losses.new.room) }
     ensures executions_fit { OnOk result (length fresh.now ≤ execs.new.room) }
     ensures known_fit { OnOk result (length fresh.now ≤ spare known.new) }
     ensures tasks_fit { OnOk result (length fresh.now + held ≤ queue.new.room) }
@@ -46,7 +48,7 @@ pub(crate) fn make_room<R: Drop>(
         return Err(AllocError);
     };
     versions.reserve(1)?;
-    reserve(behind, 1)?;
+    losses.reserve(1)?;
     execs.reserve(count)?;
     reserve(known, count)?;
     queue.reserve(tasks, links)

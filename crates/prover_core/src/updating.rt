@@ -11,12 +11,12 @@ ghost use Rattle.prover_core.specs.Plans.{IsPlanOf, HasRoom, made_version};
 use crate::adding::add_all;
 use crate::changing::{drop_all, see_all};
 use crate::laws::plan_laws;
-use crate::numbers::note;
 use crate::plan::Plan;
 use crate::prover::Core;
 use exec_assign::ToldNode;
 use language::Language;
 use past_items::Past;
+use version_losses::Loss;
 
 impl<L: Language> Core<L> {
     /// Makes a version as it was planned: executions that the tip had and the version hasn't, with
@@ -43,11 +43,20 @@ impl<L: Language> Core<L> {
             sights,
             told,
         } = plan;
-        drop_all(&mut self.execs, &self.known, &mut self.queue, &dropped);
+        drop_all(
+            &mut self.execs,
+            &self.known,
+            &mut self.queue,
+            dropped.get().as_slice(),
+        );
         add_all(&mut self.execs, &mut self.known, &mut self.queue, fresh);
         see_all(&mut self.queue, &sights);
         self.versions.push(id, version);
-        note(&mut self.behind, id, next);
+        self.losses.push(Loss {
+            id,
+            next,
+            lost: dropped,
+        });
         self.next = next;
         self.quiet = true;
         self.past.add(event);

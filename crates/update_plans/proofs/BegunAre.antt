@@ -4,7 +4,7 @@ use mathlib.Core.Bool.{or_assoc}
 use Rattle.std.proofs.lemmas.List.{reverse-append, length-append, take_more}
 use Rattle.std.specs.Prelude.{◌&&◌, ◌||◌, filter_map}
 use Rattle.std.specs.List.{cons_option}
-use Rattle.exec_table.specs.declared.execs.Row.{Row}
+use Rattle.exec_table.specs.Rows.{Row}
 use Rattle.task_queue.specs.Tasks.{has}
 use Rattle.exec_rules.specs.declared.key.Last.{Last}
 use Rattle.exec_rules.specs.declared.home.Home.{Home}

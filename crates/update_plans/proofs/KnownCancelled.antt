@@ -5,20 +5,19 @@ use Rattle.std.specs.Prelude.{◌==◌}
 use Rattle.std.specs.Option.{option_map_or}
 use Rattle.import_rounds.specs.Rounds.{has}
 use Rattle.exec_table.specs.declared.execution.Execution.{Execution}
-use Rattle.exec_table.specs.declared.execs.Row.{Row}
-use Rattle.exec_table.specs.Rows.{execution_of}
+use Rattle.exec_table.specs.Rows.{Row, execution_of}
 use Rattle.update_plans.specs.Cancelled.{is_cancelled, cancelled_in}
 use Rattle.update_plans.proofs.Members.{In, has_in, in_has, in_filter, filter_in}
 
 module _ {R : Type 0} where
   -- an execution that is found stands in a row
-  found_in : (rows : List (Row R)) (e : ℕ) (one : Execution R) → execution_of rows e ≡ Some one → In e (map (λ (row : Row R). row.exec) rows)
+  found_in : (rows : List (Row R)) (e : ℕ) (one : Execution R) → execution_of rows e ≡ Some one → In e (map (λ (row : Row R). row.0) rows)
   found_in [] e one is = absurd (cc)
-  found_in (row ∷ rows) e one is = go (row.exec == e) refl is (found_in rows e one)
+  found_in (row ∷ rows) e one is = go (e == row.0) refl is (found_in rows e one)
     where
-      go : (b : Bool) → (row.exec == e) ≡ b → cond b (Some row.execution) (execution_of rows e) ≡ Some one
-          → (execution_of rows e ≡ Some one → In e (map (λ (r : Row R). r.exec) rows)) → In e (map (λ (r : Row R). r.exec) (row ∷ rows))
-      go true same is rest = inl (eqb-true row.exec e same)
+      go : (b : Bool) → (e == row.0) ≡ b → cond b (Some row.1) (execution_of rows e) ≡ Some one
+          → (execution_of rows e ≡ Some one → In e (map (λ (r : Row R). r.0) rows)) → In e (map (λ (r : Row R). r.0) (row ∷ rows))
+      go true same is rest = inl (sym (eqb-true e row.0 same))
       go false other is rest = inr (rest is)
 
   -- the list has what the table tells to be cancelled
@@ -26,7 +25,7 @@ module _ {R : Type 0} where
   has_cancelled rows e = go (is_cancelled rows e) refl
     where
       found : (o : Option (Execution R)) → execution_of rows e ≡ o → option_map_or (λ (one : Execution R). one.cancelled) o false ≡ true
-          → In e (map (λ (row : Row R). row.exec) rows)
+          → In e (map (λ (row : Row R). row.0) rows)
       found None at is = absurd (false≢true is)
       found (Some one) at is = found_in rows e one at
 
@@ -36,6 +35,6 @@ module _ {R : Type 0} where
 
       go : (b : Bool) → is_cancelled rows e ≡ b → has (cancelled_in rows) e ≡ b
       go true is = in_has (cancelled_in rows) e
-          (filter_in (is_cancelled rows) (map (λ (row : Row R). row.exec) rows) e (found (execution_of rows e) refl is) is)
+          (filter_in (is_cancelled rows) (map (λ (row : Row R). row.0) rows) e (found (execution_of rows e) refl is) is)
       go false is = never (has (cancelled_in rows) e) (λ there.
-          false≢true (sym is ∙ (in_filter (is_cancelled rows) (map (λ (row : Row R). row.exec) rows) e (has_in (cancelled_in rows) e there)).1))
+          false≢true (sym is ∙ (in_filter (is_cancelled rows) (map (λ (row : Row R). row.0) rows) e (has_in (cancelled_in rows) e there)).1))

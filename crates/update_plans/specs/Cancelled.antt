@@ -1,8 +1,7 @@
 -- What is cancelled, by a table of executions (this project's own).
 use Rattle.std.specs.Prelude.{◌≡◌, ℕ, Bool, true, false, List, map, filter}
 use Rattle.std.specs.Option.{option_map_or}
-use Rattle.exec_table.specs.declared.execs.Row.{Row}
-use Rattle.exec_table.specs.Rows.{execution_of}
+use Rattle.exec_table.specs.Rows.{Row, execution_of}
 use Rattle.exec_rules.specs.declared.version.Version.{Version}
 use Rattle.core_rules.specs.Assigned.{assigns}
 
@@ -12,7 +11,7 @@ is_cancelled rows e = option_map_or (λ one. one.cancelled) (execution_of rows e
 
 -- the executions of a table that are cancelled
 abbrev pub cancelled_in : {R : Type 0} → List (Row R) → List ℕ
-cancelled_in rows = filter (is_cancelled rows) (map (λ row. row.exec) rows)
+cancelled_in rows = filter (is_cancelled rows) (map (λ row. row.0) rows)
 
 -- nothing that the version assigns is cancelled in the table
 abbrev pub IsQuiet : {R : Type 0} → List (Row R) → Version → Type 0

@@ -4,8 +4,7 @@ use Rattle.exec_table.specs.Rows.{execution_of}
 use Rattle.exec_lists.specs.Parts.{told, parts_known}
 use Rattle.doc_nodes.specs.declared.node.Entry.{Entry}
 use Rattle.exec_rules.specs.Listed.{executions}
-use Rattle.exec_lists.proofs.Gathered.{next_at}
-use Rattle.exec_lists.proofs.KnownRows.{next_rows, rows_over}
+use Rattle.exec_lists.proofs.KnownRows.{next_at, next_rows, rows_over}
 use Rattle.exec_lists.proofs.shown.finished_parts.Goals as goal
 
 pub commands-preserved : goal.commands-preserved

@@ -5,7 +5,7 @@ use Rattle.exec_rules.specs.Assigning.{Update}
 use Rattle.core_rules.specs.Assigned.{is_visible}
 use Rattle.update_plans.specs.declared.seeing.Sight.{Sight}
 use Rattle.update_plans.specs.Steps.{update_by}
-use Rattle.update_plans.proofs.Stood.{untouched_then, same_update, fits_then, follows_then}
+use Rattle.update_plans.proofs.Stood.{untouched_then, same_update, fits_then, made_then, follows_then}
 use Rattle.update_plans.proofs.steps.work_out.Goals as goal
 
 pub of-requires-clause-untouched : goal.of-requires-clause-untouched
@@ -21,6 +21,14 @@ steps_of-requires-clause-follows g c =
     follows_then u c.in_ok-update.update c.args.next c.in_ok-made.made.assigned c.in_ok-outcome.outcome.version same c.in_ok-made.ensures.assigned
     c.in_ok-outcome.ensures.version c.in_ok-made.ensures.rows c.in_ok-made.made.standing c.in_ok-outcome.outcome.standing c.in_ok-made.made.next
     c.in_ok-made.ensures.standing c.in_ok-made.ensures.next c.in_ok-made.ensures.within c.requires.succeeds c.in_ok-outcome.ensures.standing
+
+pub returns-clause-version : goal.returns-clause-version
+returns-clause-version g c =
+    let u : Update = update_by c.args.execs.now.rows c.args.before.now c.args.nodes.now c.args.blobs.now in
+    let same = same_update c.of-cancelled.result.execs.now c.args.execs.now c.args.before.now c.args.nodes.now c.args.blobs.now c.in_ok-update.update
+    c.of-cancelled.ensures c.in_ok-update.ensures in
+    made_then u c.in_ok-update.update c.args.next c.in_ok-made.made.assigned c.in_ok-steps.steps.version same c.in_ok-made.ensures.assigned
+    (c.in_ok-steps.ensures.version ∙ c.in_ok-outcome.ensures.version) c.in_ok-made.ensures.rows
 
 pub returns-clause-rows : goal.returns-clause-rows
 returns-clause-rows g c =

@@ -1,6 +1,8 @@
-use Rattle.std.proofs.Common.{◌≡◌, Some, sym, ap, subst, ◌∙◌, arith}
+use Rattle.std.proofs.Common.{◌≡◌, true, ◌∷◌, Some, sym, ap, subst, ◌∙◌, arith}
 use Rattle.std.specs.Prelude.{is_some}
 use Rattle.pide_base.specs.declared.part.Part.{Part}
+use Rattle.core_rules.specs.declared.event.Event.TheVariants.{Finished}
+use Rattle.core_rules.specs.Ready.{is_wanted}
 use Rattle.core_rules.specs.Doc.{doc}
 use Rattle.core_rules.specs.Standing.{held}
 use Rattle.core_jobs.specs.Fits.{IsDoneOf}
@@ -63,3 +65,19 @@ invariant_of-self-2 g c =
     c.brought.result c.forks_told-forks.result c.brought.ensures c.forks_told-forks.ensures _ _ _ _ _
     updates c.take_out.ensures.things c.follow.ensures.here c.follow.ensures.waiters c.follow.ensures.free c.follow.ensures.others
     (omega (arith, one, c.take_out.ensures.len, c.follow.ensures.room, c.self.invariant.room)))
+
+pub returns-clause-finished : goal.returns-clause-finished
+returns-clause-finished g c =
+    let l = g.L.Language.lang in
+    let holds = subst (λ (s : CoreState). held s.past c.args.who ≡ Some c.args.done.part) (sym c.self.view_is) c.requires.holds
+    ∙ ap (λ (q : Part). Some q) (sym c.same-exec.ensures) in
+    let laws = laws_of _ _ _ c.self.invariant c.tip_law.ensures c.holders_law.ensures.told in
+    let wanted = there_wanted _ _ _ c.self.invariant laws c.args.who c.same-exec.result holds (sym c.if-not-is_present.ensures) in
+    subst (λ (s : CoreState). (is_wanted (doc l s.past) c.args.done.part.exec ≡ true) × (c.add-2.new.self ≡ Finished c.args.who c.args.done.part ∷ s.past))
+    c.self.view_is (
+      ap (λ (q : Part). is_wanted (doc l c.self.inside.past) q.exec) (sym c.same-exec.ensures) ∙ wanted,
+      c.add-2.ensures.items ∙ ap (λ (q : Part). Finished c.args.who q ∷ c.self.inside.past) c.same-exec.ensures,
+    )
+
+pub returns-clause-legal : goal.returns-clause-legal
+returns-clause-legal g c = (invariant_of-self-2 g c).legal

@@ -1,4 +1,4 @@
-use Rattle.std.proofs.Common.{◌≡◌, ◌≤◌, ◌<◌, ℕ, false, Some, rules, ap, sym, subst, ◌∙◌}
+use Rattle.std.proofs.Common.{◌≡◌, ◌≤◌, ◌<◌, ℕ, false, Some, None, rules, ap, sym, subst, ◌∙◌}
 use Rattle.std.specs.Prelude.{is_some, filter}
 use Rattle.import_rounds.specs.Rounds.{has}
 use Rattle.exec_table.specs.Rows.{execution_of}
@@ -12,11 +12,25 @@ use Rattle.doc_versions.specs.Live.{version_of}
 use Rattle.exec_rules.specs.declared.version.Version.{Version}
 use Rattle.core_rules.specs.Doc.{doc}
 use Rattle.prover_core.specs.States.{CoreState}
+use Rattle.version_losses.specs.Losses.{number_of}
 use Rattle.prover_core.specs.Looked.{looked}
 use Rattle.prover_core.specs.Settling.{IsLeft, IsSettled}
 use Rattle.prover_core.proofs.BehindSettled.{ready_is_left, held_is_left, is_settled_so, settled_with}
+use Rattle.prover_core.proofs.LossesKept.{behind_of}
 use Rattle.prover_core.proofs.EndedKept.{on_err}
 use Rattle.prover_core.proofs.prover.Core.settled.Goals as goal
+
+pub unreachable-requires : goal.unreachable-requires
+unreachable-requires g c =
+    let l = g.L.Language.lang in
+    let v : Version = c.in-Some.version.now in
+    let live : version_of (doc l c.self.inside.past).live c.args.id ≡ Some v =
+    ap (λ lv. version_of lv c.args.id) (sym c.self.invariant.live) ∙ sym c.in-Some.ensures in
+    let there = behind_of (doc l c.self.inside.past) 0 c.self.inside.losses.losses (doc l c.self.inside.past).live c.self.invariant.losses
+    c.args.id v live in
+    let none : number_of c.self.inside.losses.losses c.args.id ≡ None = search rules in
+    let clash : None ≡ Some there.0 = sym none ∙ there.1 in
+    absurd (cc)
 
 pub returns-in-Some-ready_below-clause-settled : goal.returns-in-Some-ready_below-clause-settled
 returns-in-Some-ready_below-clause-settled g c =
@@ -24,14 +38,14 @@ returns-in-Some-ready_below-clause-settled g c =
     let v : Version = c.in-Some.version.now in
     let live : version_of (doc l c.self.inside.past).live c.args.id ≡ Some v =
     ap (λ lv. version_of lv c.args.id) (sym c.self.invariant.live) ∙ sym c.in-Some.ensures in
-    let number : looked c.self.inside.behind c.args.id ≡ Some c.in-Some-get.behind.now = search rules in
+    let number : number_of c.self.inside.losses.losses c.args.id ≡ Some c.in-Some-number.behind = search rules in
     let found = c.in-Some-ready_below.ensures.some in
     subst (λ (s : CoreState). (w : Version) × (version_of (doc l s.past).live c.args.id ≡ Some w) × IsLeft l s.past w c.in-Some-ready_below.part)
     c.self.view_is (
       v,
       live,
       ready_is_left l _ _ c.self.invariant c.tip_law.ensures c.holders_law.ensures.told c.homes_law.ensures.begun c.args.id v live
-          c.in-Some-get.behind.now number c.in-Some-ready_below.part found.0 found.1,
+          c.in-Some-number.behind number c.in-Some-ready_below.part found.0 found.1,
     )
 
 pub returns-in-Some-held_below-clause-settled : goal.returns-in-Some-held_below-clause-settled
@@ -40,14 +54,14 @@ returns-in-Some-held_below-clause-settled g c =
     let v : Version = c.in-Some.version.now in
     let live : version_of (doc l c.self.inside.past).live c.args.id ≡ Some v =
     ap (λ lv. version_of lv c.args.id) (sym c.self.invariant.live) ∙ sym c.in-Some.ensures in
-    let number : looked c.self.inside.behind c.args.id ≡ Some c.in-Some-get.behind.now = search rules in
+    let number : number_of c.self.inside.losses.losses c.args.id ≡ Some c.in-Some-number.behind = search rules in
     let found = c.in-Some-held_below.ensures.some in
     subst (λ (s : CoreState). (w : Version) × (version_of (doc l s.past).live c.args.id ≡ Some w) × IsLeft l s.past w c.in-Some-held_below.part)
     c.self.view_is (
       v,
       live,
       held_is_left l _ _ c.self.invariant c.tip_law.ensures c.holders_law.ensures.told c.homes_law.ensures.begun c.args.id v live
-          c.in-Some-get.behind.now number c.in-Some-held_below.part found.2.0 found.0 found.1 found.2.1,
+          c.in-Some-number.behind number c.in-Some-held_below.part found.2.0 found.0 found.1 found.2.1,
     )
 
 pub returns-in_err-open_in-clause-err : goal.returns-in_err-open_in-clause-err
@@ -56,12 +70,12 @@ returns-in_err-open_in-clause-err g c =
     let v : Version = c.in-Some.version.now in
     let live : version_of (doc l c.self.inside.past).live c.args.id ≡ Some v =
     ap (λ lv. version_of lv c.args.id) (sym c.self.invariant.live) ∙ sym c.in-Some.ensures in
-    let number : looked c.self.inside.behind c.args.id ≡ Some c.in-Some-get.behind.now = search rules in
-    let no_ready : (p : Part) → IsReadyPart (standing c.self.inside.queue) p → c.in-Some-get.behind.now ≤ p.exec = search rules in
-    let no_held : (who : ℕ) (p : Part) → looked c.self.inside.holders who ≡ Some p → p.exec < c.in-Some-get.behind.now
+    let number : number_of c.self.inside.losses.losses c.args.id ≡ Some c.in-Some-number.behind = search rules in
+    let no_ready : (p : Part) → IsReadyPart (standing c.self.inside.queue) p → c.in-Some-number.behind ≤ p.exec = search rules in
+    let no_held : (who : ℕ) (p : Part) → looked c.self.inside.holders who ≡ Some p → p.exec < c.in-Some-number.behind
     → is_some (standing c.self.inside.queue p.exec) ≡ false = search rules in
     let so = is_settled_so l _ _ c.self.invariant c.tip_law.ensures c.holders_law.ensures.told c.homes_law.ensures.begun c.args.id v live
-    c.in-Some-get.behind.now number c.homes_law.ensures.live no_ready no_held in
+    c.in-Some-number.behind number c.homes_law.ensures.live no_ready no_held in
     on_err c.from_residual.result (subst (λ (s : CoreState). IsSettled l s.past c.args.id) c.self.view_is so)
 
 pub returns-clause-settled : goal.returns-clause-settled
@@ -70,14 +84,14 @@ returns-clause-settled g c =
     let v : Version = c.in-Some.version.now in
     let live : version_of (doc l c.self.inside.past).live c.args.id ≡ Some v =
     ap (λ lv. version_of lv c.args.id) (sym c.self.invariant.live) ∙ sym c.in-Some.ensures in
-    let number : looked c.self.inside.behind c.args.id ≡ Some c.in-Some-get.behind.now = search rules in
-    let no_ready : (p : Part) → IsReadyPart (standing c.self.inside.queue) p → c.in-Some-get.behind.now ≤ p.exec = search rules in
-    let no_held : (who : ℕ) (p : Part) → looked c.self.inside.holders who ≡ Some p → p.exec < c.in-Some-get.behind.now
+    let number : number_of c.self.inside.losses.losses c.args.id ≡ Some c.in-Some-number.behind = search rules in
+    let no_ready : (p : Part) → IsReadyPart (standing c.self.inside.queue) p → c.in-Some-number.behind ≤ p.exec = search rules in
+    let no_held : (who : ℕ) (p : Part) → looked c.self.inside.holders who ≡ Some p → p.exec < c.in-Some-number.behind
     → is_some (standing c.self.inside.queue p.exec) ≡ false = search rules in
     let so = is_settled_so l _ _ c.self.invariant c.tip_law.ensures c.holders_law.ensures.told c.homes_law.ensures.begun c.args.id v live
-    c.in-Some-get.behind.now number c.homes_law.ensures.live no_ready no_held in
+    c.in-Some-number.behind number c.homes_law.ensures.live no_ready no_held in
     subst (λ (s : CoreState). (x : IsSettled l s.past c.args.id) × (c.in_ok-open_in.field-0.items ≡ stuck_in l s.past (doc l s.past) x.version))
     c.self.view_is (settled_with l _ _ c.self.invariant c.tip_law.ensures c.holders_law.ensures.told c.homes_law.ensures.begun c.args.id v live
-    c.in-Some-get.behind.now number so
+    c.in-Some-number.behind number so
     c.in_ok-open_in.field-0.items c.in_ok-open_in.ensures.rises (λ e. c.in_ok-open_in.ensures.same e
-    ∙ ap (λ (w : Version). has (filter (λ m. is_unfinished (execution_of c.self.inside.execs.rows m)) (executions_of w)) e) c.get-3.ensures))
+    ∙ ap (λ (w : Version). has (filter (λ m. is_unfinished (execution_of c.self.inside.execs.rows m)) (executions_of w)) e) c.get-2.ensures))

@@ -35,10 +35,10 @@ add_all-requires-clause-new g c =
     (subst (λ (s : CoreState). IsPlanOf l s.past c.args.plan) (sym c.self.view_is) c.requires.planned) in
     let all : UpdateLaws l = c.plan_laws.ensures.update in
     let rows = subst (λ (ds : List ℕ). (e : ℕ) → execution_of c.drop_all.new.execs.rows e ≡ cond (has ds e)
-    (after_cancelling (execution_of c.self.inside.execs.rows e)) (execution_of c.self.inside.execs.rows e)) c.deref.ensures.value
+    (after_cancelling (execution_of c.self.inside.execs.rows e)) (execution_of c.self.inside.execs.rows e)) (c.as_slice.ensures ∙ c.get.ensures)
     c.drop_all.ensures.rows in
     let tasks = subst (λ (ds : List ℕ). (e : ℕ) → standing c.drop_all.new.queue e ≡ cond (has ds e) None (standing c.self.inside.queue e))
-    c.deref.ensures.value c.drop_all.ensures.tasks in
+    (c.as_slice.ensures ∙ c.get.ensures) c.drop_all.ensures.tasks in
     can_add l _ _ c.self.invariant all _ (reverse c.plan.inside.fresh.items) refl refl going planned _ _ _ rows (λ e. refl) tasks
 
 pub add_all-requires-clause-executions : goal.add_all-requires-clause-executions
@@ -71,23 +71,14 @@ add_all-requires-clause-links g c =
 pub push-requires-clause-room : goal.push-requires-clause-room
 push-requires-clause-room g c =
     let here = has_room _ _ _ _ c.self.view_is c.plan.view_is c.requires.room in
-    let room : 0 < min c.self.inside.versions.room (spare c.self.inside.behind) = here.versions in
-    omega (arith, room, min-le_left c.self.inside.versions.room (spare c.self.inside.behind))
+    let room : 0 < min c.self.inside.versions.room c.self.inside.losses.room = here.versions in
+    omega (arith, room, min-le_left c.self.inside.versions.room c.self.inside.losses.room)
 
-pub note-requires-clause-room : goal.note-requires-clause-room
-note-requires-clause-room g c =
+pub push-requires-2 : goal.push-requires-2
+push-requires-2 g c =
     let here = has_room _ _ _ _ c.self.view_is c.plan.view_is c.requires.room in
-    let room : 0 < min c.self.inside.versions.room (spare c.self.inside.behind) = here.versions in
-    omega (arith, room, min-le_right c.self.inside.versions.room (spare c.self.inside.behind))
-
-pub note-requires-clause-new : goal.note-requires-clause-new
-note-requires-clause-new g c =
-    let l = g.L.Language.lang in
-    let planned = subst (λ (p : PlanState). IsPlanOf l c.self.inside.past p) (sym c.plan.view_is)
-    (subst (λ (s : CoreState). IsPlanOf l s.past c.args.plan) (sym c.self.view_is) c.requires.planned) in
-    c.self.invariant.behind_live c.plan.inside.id
-    (fresh_id (doc l c.self.inside.past).last c.plan.inside.id (doc l c.self.inside.past).live
-    (live_ids l c.self.inside.past c.self.invariant.legal) planned.fits.newer)
+    let room : 0 < min c.self.inside.versions.room c.self.inside.losses.room = here.versions in
+    omega (arith, room, min-le_right c.self.inside.versions.room c.self.inside.losses.room)
 
 pub push-requires-clause-fresh : goal.push-requires-clause-fresh
 push-requires-clause-fresh g c =
@@ -106,13 +97,13 @@ invariant_of-self g c =
     (subst (λ (s : CoreState). IsPlanOf l s.past c.args.plan) (sym c.self.view_is) c.requires.planned) in
     let all : UpdateLaws l = c.plan_laws.ensures.update in
     let rows = subst (λ (ds : List ℕ). (e : ℕ) → execution_of c.drop_all.new.execs.rows e ≡ cond (has ds e)
-    (after_cancelling (execution_of c.self.inside.execs.rows e)) (execution_of c.self.inside.execs.rows e)) c.deref.ensures.value
+    (after_cancelling (execution_of c.self.inside.execs.rows e)) (execution_of c.self.inside.execs.rows e)) (c.as_slice.ensures ∙ c.get.ensures)
     c.drop_all.ensures.rows in
     let tasks = subst (λ (ds : List ℕ). (e : ℕ) → standing c.drop_all.new.queue e ≡ cond (has ds e) None (standing c.self.inside.queue e))
-    c.deref.ensures.value c.drop_all.ensures.tasks in
+    (c.as_slice.ensures ∙ c.get.ensures) c.drop_all.ensures.tasks in
     let sees = subst (λ (ss : List Sight). (see : ℕ → Bool) → AllByRecursion (λ (s : Sight). see s.exec ≡ s.visible) ss → (e : ℕ)
     → standing c.see_all.new.queue e ≡ cond (has (map (λ (s : Sight). s.exec) ss) e)
-    (option_map (ranked (see e)) (standing c.add_all.new.queue e)) (standing c.add_all.new.queue e)) c.deref-2.ensures.value
+    (option_map (ranked (see e)) (standing c.add_all.new.queue e)) (standing c.add_all.new.queue e)) c.deref.ensures.value
     c.see_all.ensures.tasks in
     let here = has_room _ _ _ _ c.self.view_is c.plan.view_is c.requires.room in
     let len = length-map (reverse c.plan.inside.fresh.items) (λ (x : Fresh). x.task) ∙ length-reverse c.plan.inside.fresh.items in
@@ -122,7 +113,7 @@ invariant_of-self g c =
     c.push.ensures.start c.push.ensures.live _ _ _ _ _ _ rows c.add_all.ensures.rows
     (homes_of (reverse c.plan.inside.fresh.items) (λ e. looked c.self.inside.known e) (λ e. looked c.add_all.new.known e) c.add_all.ensures.homes)
     tasks c.add_all.ensures.tasks
-    (sees _ (seen_so l _ _ c.self.invariant all _ (reverse c.plan.inside.fresh.items) refl refl going planned)) (λ i. looked c.note.new.behind i) c.note.ensures _
+    (sees _ (seen_so l _ _ c.self.invariant all _ (reverse c.plan.inside.fresh.items) refl refl going planned)) _ c.push-2.ensures.losses _
     (omega (arith, most, len, c.drop_all.ensures.room, c.add_all.ensures.room, c.see_all.ensures.room, c.self.invariant.room)))
 
 pub returns-clause-legal : goal.returns-clause-legal
