@@ -2,7 +2,6 @@
 use Rattle.std.proofs.Common.{◌≡◌, ◌⊎◌, inl, inr, ℕ, ◌<◌, ◌≤◌, Bool, true, false, cond, not, ◌&&◌, ◌||◌, List, [], ◌∷◌, ◌++◌, filter, refl, ap, sym, ◌∙◌}
 use Rattle.std.proofs.lemmas.Bool.{false≢true, or_left, or_right, eqb-true, lt-ltb, le-ltb, ltb-true}
 use Rattle.std.specs.Prelude.{◌==◌, nat_lt}
-use Rattle.std.specs.List.{list_any}
 use Rattle.import_rounds.specs.Rounds.{has}
 use Rattle.import_rounds.proofs.KnownRounds.{has_both}
 use Rattle.doc_versions.specs.declared.versions.Live.{Live}

@@ -1,5 +1,5 @@
 -- What a removal leaves is told by what stays and what goes.
-use Rattle.std.proofs.Common.{◌≡◌, ◌⊎◌, inl, inr, ℕ, suc, ◌-◌, Bool, true, false, not, ◌&&◌, ◌||◌, List, [], ◌∷◌, length, Option, Some, None, refl, ap, sym, subst, ◌∙◌, arith}
+use Rattle.std.proofs.Common.{◌≡◌, ℕ, Bool, true, false, not, ◌&&◌, ◌||◌, List, [], ◌∷◌, length, Option, Some, None, refl, ap, sym, subst, ◌∙◌, arith}
 use Rattle.std.proofs.lemmas.Bool.{false≢true}
 use Rattle.std.specs.Prelude.{◌==◌, slice_get, find}
 use Rattle.std.specs.Option.{option_map, option_map_or}
@@ -16,8 +16,10 @@ use Rattle.version_losses.specs.declared.leaving.Leaving.{Leaving}
 use Rattle.version_losses.specs.Losses.{AreLosses}
 use Rattle.version_losses.specs.Leaving.{Leaves, is_named, left_from, gone_from}
 use Rattle.version_losses.proofs.Filtered.{rest, stays_assigned, Ends}
-use Rattle.version_losses.proofs.Going.{had, gone_stays_not, stays_or_goes}
-use Rattle.version_losses.proofs.Staying.{bare_carried, left_losses}
+use Rattle.version_losses.proofs.Going.{gone_stays_not}
+use Rattle.version_losses.proofs.StaysOrGoes.{had, stays_or_goes}
+use Rattle.version_losses.proofs.Carried.{bare_carried}
+use Rattle.version_losses.proofs.Staying.{left_losses}
 
 abbrev last_of : Live Version → List (Live Version) → Live Version
 last_of one [] = one
@@ -61,7 +63,7 @@ pub leaves : (tip : Version) (top : ℕ) (ids : List ℕ) (losses : List Loss) (
     → AreLosses tip top 0 losses live → removing live ids ≡ answer.Removed → Leaves tip top ids live leaving
 leaves tip top ids losses live leaving left_is gone_is are is = record {
   losses = subst (λ xs. AreLosses tip top 0 xs (rest ids live)) (sym left_is)
-      (left_losses tip top ids 0 0 true [] losses live are (omega arith) (λ x. refl) (λ x. refl) (bare_carried tip top ids 0 live) (tip_ends ids live is));
+      (left_losses tip top ids 0 0 true [] losses live are (omega arith) (λ x. refl) (λ x. refl) (bare_carried tip 0 live) (tip_ends ids live is));
   gone = λ e. told (is_assigned (rest ids live) e) (is_assigned live e) (has leaving.gone.items e)
       (stays_assigned ids live e)
       (λ goes. gone_stays_not tip top e ids 0 0 true losses live are (omega arith) (omega arith) (sym (ap (λ xs. has xs e) gone_is) ∙ goes))

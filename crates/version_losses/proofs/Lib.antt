@@ -1,4 +1,7 @@
 mod Filtered
 mod Going
+mod StaysOrGoes
+mod StillLost
+mod Carried
 mod Staying
 mod LeavingIs
