@@ -1,6 +1,5 @@
 //! A node as the editor has it.
-ghost use Rattle.std.specs.Prelude.{◌≡◌, length, map, Some, None, IfOk};
-ghost use Rattle.std.specs.Bool.{OnTrue};
+ghost use Rattle.std.specs.Prelude.{◌≡◌, ◌↔◌, length, map, Some, None, IsTrue, IfOk};
 ghost use Rattle.std.specs.Option.{option_copied};
 ghost use Rattle.command_spans.specs.CutTexts.{AreCutsOf, cut};
 ghost use Rattle.buffer_rules.specs.Sheets.{blank};
@@ -161,15 +160,22 @@ fn copied_aliases(aliases: &Option<Shared<Aliases>>) -> Result<Option<Shared<Ali
     }
 }
 
+/// Whether both are the same name.
+fn same_name(name: &Items<char>, other: &Items<char>) -> bool
+    ensures { IsTrue result ↔ (name.now ≡ other.now) }
+{
+    name.as_slice() == other.as_slice()
+}
+
 /// Whether both lists have the same names in the same order.
 pub fn same_names(names: &[Items<char>], others: &[Items<char>]) -> bool
-    ensures { OnTrue result (names.now ≡ others.now) }
+    ensures { IsTrue result ↔ (names.now ≡ others.now) }
 {
     if names.len() != others.len() {
         return false;
     }
     for (i, name) in names.iter().enumerate() {
-        if name.as_slice() != others[i].as_slice() {
+        if !same_name(name, &others[i]) {
             return false;
         }
     }
