@@ -6,8 +6,6 @@ use Rattle.std.specs.declared.cmp.Ordering.{Ordering}
 use Rattle.std.specs.declared.cmp.Ordering.TheVariants.{Less, Equal, Greater}
 use Rattle.std.specs.Cmp.Lexicographic.{nat_list_cmp_total}
 use Rattle.std.proofs.lemmas.List.{take-append-drop}
-use Rattle.std.proofs.lemmas.Slice.Eq.{bytes_eq-Decides}
-use Rattle.std.proofs.lemmas.Map.Text.{is_eq-slice_cmp}
 use Rattle.shared_map.specs.Pairs.{found}
 use Rattle.doc_nodes.specs.Names.{in_order, equal}
 use Rattle.message_values.specs.declared.item.Item.{Item}
@@ -18,9 +16,7 @@ use Rattle.buffer_rules.specs.Trying.{◌>>=◌}
 use Rattle.buffer_rules.specs.Updates.{BlobList, is_among, has_twice, names_twice, removes_none, blob_once, blobs_after}
 use Rattle.document_edits.specs.NameSets.{NameSet, AreNames, AreChanged}
 use Rattle.document_edits.specs.BlobSteps.{blob_step}
-
-equal_so : (xs ys : List ℕ) → equal xs ys ≡ true → xs ≡ ys
-equal_so xs ys e = grind (arith, bytes_eq-Decides xs ys, is_eq-slice_cmp xs ys)
+use Rattle.document_edits.proofs.KeyLists.{equal_so}
 
 turned : (o : Ordering) → is_eq (ordering_reverse o) ≡ is_eq o
 turned Less = refl

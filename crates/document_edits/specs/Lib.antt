@@ -1,3 +1,4 @@
 pub mod Standing
+pub mod Heads
 pub mod NameSets
 pub mod BlobSteps

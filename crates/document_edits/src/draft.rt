@@ -1,5 +1,6 @@
 //! Open nodes while the items of an update are made.
-ghost use Rattle.std.specs.Prelude.{◌≡◌, None, IfOk};
+ghost use Rattle.std.specs.Prelude.{◌≡◌, ◌≢◌, ◌↔◌, false, None, IsTrue, IfOk};
+ghost use Rattle.std.specs.Bool.{OnTrue};
 ghost use Rattle.std.specs.List.{AllZip};
 ghost use Rattle.shared_map.specs.Changes.{put};
 ghost use Rattle.doc_nodes.specs.Names.{in_order};
@@ -9,7 +10,9 @@ ghost use Rattle.buffer_rules.specs.Trying.{steps};
 ghost use Rattle.buffer_rules.specs.Sheets.{sheet_of, sheet_after, change_one, item_once};
 ghost use Rattle.sheet_edits.specs.Telling.{Tells};
 ghost use Rattle.document_edits.specs.Standing.{sheets_of, Drafted};
+ghost use Rattle.document_edits.specs.Heads.{heads, KeepHeaders};
 
+use crate::headers::keeps_headers;
 use doc_nodes::Nodes;
 use message_values::{Change, Item, Perspective, Refusal};
 use pide_base::NodeName;
@@ -23,11 +26,13 @@ pub type OpenNodes = SharedMap<NodeName, OpenNode>;
 
 /// The open nodes while an update is made, and the nodes of the version that comes of it. A node
 /// that an item names is there without commands, and its commands have to be cut; another is the
-/// node of the version before.
+/// node of the version before. `headers_stand` tells that no item has changed a header so far: there
+/// are nodes of the same names, with the same imports and keyword pairs, as before.
 #[derive(Drop)]
 pub struct Draft {
     pub opened: OpenNodes,
     pub nodes: Nodes,
+    pub headers_stand: bool,
 }
 
 /// The node of the name after edits and a perspective, if there is one. It begins blank.
@@ -58,15 +63,23 @@ impl Draft {
             ≡ put in_order (name.now, node.sheet) (sheets_of self.opened)) }
         ensures drafted { (tip : NodeList) → AllZip (Drafted tip) self.opened self.nodes
             → IfOk result (λ draft. AllZip (Drafted tip) draft.opened draft.nodes) }
+        ensures headers { IfOk result (λ draft. IsTrue draft.headers_stand
+            ↔ (IsTrue self.headers_stand × (heads draft.nodes ≡ heads self.nodes))) }
     {
         let Draft {
             mut opened,
             mut nodes,
+            headers_stand,
         } = self;
         let made = uncut(alloc, node.sheet())?;
+        let still = headers_stand && keeps_headers(&nodes, name, &made);
         nodes.set(alloc, name.clone()?, made)?;
         opened.set(alloc, name.clone()?, node)?;
-        Ok(Draft { opened, nodes })
+        Ok(Draft {
+            opened,
+            nodes,
+            headers_stand: still,
+        })
     }
 
     /// Without the node of the name.
@@ -76,16 +89,24 @@ impl Draft {
             (change_one name.now Change.Close (sheets_of self.opened)) }
         ensures drafted { (tip : NodeList) → AllZip (Drafted tip) self.opened self.nodes
             → IfOk result (λ draft. AllZip (Drafted tip) draft.opened draft.nodes) }
+        ensures headers { (tip : NodeList) → AllZip (Drafted tip) self.opened self.nodes
+            → IfOk result (λ draft. (draft.headers_stand ≡ false)
+            × (heads draft.nodes ≢ heads self.nodes)) }
     {
         let Draft {
             mut opened,
             mut nodes,
+            headers_stand: _,
         } = self;
         if !opened.remove(alloc, name)? {
             return Err(PrepareError::Refused(Refusal::UnknownNode));
         }
         nodes.remove(alloc, name)?;
-        Ok(Draft { opened, nodes })
+        Ok(Draft {
+            opened,
+            nodes,
+            headers_stand: false,
+        })
     }
 
     /// After one item. At an error all is let go.
@@ -95,6 +116,9 @@ impl Draft {
             (item_once item.now (sheets_of self.opened)) }
         ensures drafted { (tip : NodeList) → AllZip (Drafted tip) self.opened self.nodes
             → IfOk result (λ draft. AllZip (Drafted tip) draft.opened draft.nodes) }
+        ensures headers { (tip : NodeList) → AllZip (Drafted tip) self.opened self.nodes
+            → IfOk result (λ draft. IsTrue draft.headers_stand
+            ↔ (IsTrue self.headers_stand × (heads draft.nodes ≡ heads self.nodes))) }
     {
         match &item.change {
             Change::Close => self.without_node(alloc, &item.node),
@@ -113,6 +137,12 @@ impl Draft {
             (steps item_once items.now (sheets_of self.opened)) }
         ensures drafted { (tip : NodeList) → AllZip (Drafted tip) self.opened self.nodes
             → IfOk result (λ draft. AllZip (Drafted tip) draft.opened draft.nodes) }
+        ensures headers { (tip : NodeList) → AllZip (Drafted tip) self.opened self.nodes
+            → IfOk result (λ draft. IsTrue draft.headers_stand
+            ↔ (IsTrue self.headers_stand × KeepHeaders items.now (sheets_of self.opened))) }
+        ensures stand { (tip : NodeList) → AllZip (Drafted tip) self.opened self.nodes
+            → IfOk result (λ draft. OnTrue draft.headers_stand
+            (heads draft.nodes ≡ heads self.nodes)) }
     {
         let mut draft = self;
         let mut rest = items;

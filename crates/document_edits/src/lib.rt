@@ -9,6 +9,7 @@
 
 mod blobs;
 mod draft;
+mod headers;
 mod twice;
 
 pub use blobs::{BlobEdits, BlobNames, Blobs, blob_edits};

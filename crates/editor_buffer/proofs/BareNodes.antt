@@ -13,7 +13,7 @@ use Rattle.doc_nodes.specs.Names.{equal}
 use Rattle.doc_nodes.specs.Imports.{NodeList, place_of, aims_of, aims, order, others}
 use Rattle.doc_nodes.specs.Aliases.{no_aliases, own_pairs, own_at, folded, pairs_from, inherited, aliases_by, in_turn, known, aliases_at}
 use Rattle.document_edits.specs.Standing.{bare_all, aliases_named}
-use Rattle.editor_buffer.specs.Heads.{head, heads}
+use Rattle.document_edits.specs.Heads.{head, heads}
 
 map_alike : {X Y : Type 0} (f g : X → Y) → ((x : X) → f x ≡ g x) → (xs : List X) → map f xs ≡ map g xs
 map_alike f g same [] = refl
@@ -87,10 +87,6 @@ same_heads nodes others e p = sym (aliases_head nodes p) ∙ ap (λ all. aliases
 pub heads_along : (nodes others : NodeList) → bare_all nodes ≡ others → heads nodes ≡ heads others
 heads_along nodes others e = sym (heads_bare nodes) ∙ ap heads e
 
--- nodes that are alike but for their commands have the same aliases
-pub same_aliases : (nodes others : NodeList) → bare_all nodes ≡ others → (p : ℕ) → aliases_at nodes p ≡ aliases_at others p
-same_aliases nodes others e p = same_heads nodes others (heads_along nodes others e) p
-
 -- the same by name
 named_head : (nodes : NodeList) (name : List ℕ) → aliases_named (heads nodes) name ≡ aliases_named nodes name
 named_head nodes name =
@@ -102,15 +98,3 @@ named_head nodes name =
 
 pub same_named : (nodes others : NodeList) → heads nodes ≡ heads others → (name : List ℕ) → aliases_named nodes name ≡ aliases_named others name
 same_named nodes others e name = sym (named_head nodes name) ∙ ap (λ all. aliases_named all name) e ∙ named_head others name
-
--- one place of nodes with one name and one header
-pub same_head_at : (nodes others : NodeList) (p : ℕ) (x y : List ℕ × Node) → Some x ≡ slice_get nodes p → Some y ≡ slice_get others p
-    → x.0 ≡ y.0 → head x.1 ≡ head y.1 → slice_get (heads nodes) p ≡ slice_get (heads others) p
-same_head_at nodes others p x y e f name header =
-    slice_get-map headed nodes p ∙ ap (option_map headed) (sym e)
-    ∙ ap (λ k. let one : List ℕ × Node = (k, head x.1) in Some one) name
-    ∙ ap (λ h. let one : List ℕ × Node = (y.0, h) in Some one) header
-    ∙ ap (option_map headed) f ∙ sym (slice_get-map headed others p)
-  where
-    headed : List ℕ × Node → List ℕ × Node
-    headed pair = (pair.0, head pair.1)

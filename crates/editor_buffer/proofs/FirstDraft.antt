@@ -30,24 +30,22 @@ behind all front (o ∷ os) (n ∷ ns) e sorted is named =
     )
 
 -- before any item each node is the version's
-pub drafted_first : (opened : OpenList) (nodes : NodeList) → IsSorted in_order nodes → AllZip Stands opened nodes → AreInForce nodes opened → AllZip (Drafted nodes) opened nodes
+drafted_first : (opened : OpenList) (nodes : NodeList) → IsSorted in_order nodes → AllZip Stands opened nodes → AreInForce nodes opened → AllZip (Drafted nodes) opened nodes
 drafted_first opened nodes sorted is named = behind nodes [] opened nodes refl sorted is named
+
+-- nor in a copy of it
+pub drafted_copied : (tip : NodeList) (opened os : OpenList) (nodes ns : NodeList) → nodes ≡ tip → os ≡ opened → ns ≡ nodes
+    → IsSorted in_order nodes → AllZip Stands opened nodes → AreInForce nodes opened → AllZip (Drafted tip) os ns
+drafted_copied tip opened os nodes ns same e f sorted is named =
+    let first : AllZip (Drafted nodes) opened nodes = drafted_first opened nodes sorted is named in
+    subst (λ all. AllZip (Drafted tip) os all) (sym f)
+    (subst (λ all. AllZip (Drafted tip) all nodes) (sym e) (subst (λ t. AllZip (Drafted t) opened nodes) same first))
 
 pub bare_under : (tip : NodeList) (u : Option AliasList) (name : List ℕ) (sheet : Sheet) (node : Node) → DraftedUnder tip u name sheet node → bare node ≡ uncut sheet
 bare_under tip None name sheet node is = is
 bare_under tip (Some aliases) name sheet node is = ap bare is.0.made
 
--- the nodes are the sheets', but for their commands
-pub bare_drafted : (tip : NodeList) (os : OpenList) (ns : NodeList) → AllZip (Drafted tip) os ns → bare_all ns ≡ uncut_all (sheets_of os)
-bare_drafted tip [] [] is = refl
-bare_drafted tip [] (n ∷ ns) is = absurd is
-bare_drafted tip (o ∷ os) [] is = absurd is
-bare_drafted tip (o ∷ os) (n ∷ ns) is =
-    ap (λ name. let one : List ℕ × Node = (name, bare n.1) in one ∷ bare_all ns) (sym is.0.0)
-    ∙ ap (λ node. let one : List ℕ × Node = (o.0, node) in one ∷ bare_all ns) (bare_under tip o.1.cut_under o.0 o.1.sheet n.1 is.0.1)
-    ∙ ap (λ all. (o.0, uncut o.1.sheet) ∷ all) (bare_drafted tip os ns is.1)
-
--- and so of those that stand
+-- those that stand are the sheets' nodes, but for their commands
 stands_bare : (u : Option AliasList) (sheet : Sheet) (node : Node) → StandsUnder u sheet node → bare node ≡ uncut sheet
 stands_bare None sheet node is = absurd is
 stands_bare (Some aliases) sheet node is = ap bare is.made

@@ -1,4 +1,3 @@
-pub mod Heads
 pub mod CutNodes
 pub mod Cutting
 pub mod Preparation

@@ -1,10 +1,12 @@
 //! The buffer, and updates of it.
-ghost use Rattle.std.specs.Prelude.{◌≡◌, IfOk};
+ghost use Rattle.std.specs.Prelude.{◌≡◌, ◌↔◌, IsTrue, IfOk};
+ghost use Rattle.std.specs.Bool.{OnTrue};
 ghost use Rattle.std.specs.List.{AllZip};
 ghost use Rattle.buffer_rules.specs.Updates.{sheets_after};
 ghost use Rattle.buffer_rules.specs.Preparing.{empty, prepared};
 ghost use Rattle.sheet_edits.specs.Telling.{Tells};
 ghost use Rattle.document_edits.specs.Standing.{sheets_of, Drafted};
+ghost use Rattle.document_edits.specs.Heads.{heads, KeepHeaders};
 ghost use Rattle.document_edits.specs.NameSets.{AreChanged};
 ghost use Rattle.editor_buffer.specs.Cutting.{AreKept, IsCutWhole};
 ghost use Rattle.editor_buffer.specs.Preparation.{buffer_of, IsStanding, Preparation};
@@ -146,6 +148,10 @@ impl Buffer {
             (sheets_after items.now self.now.document.sheets) }
         ensures drafted { IfOk result
             (λ draft. AllZip (Drafted self.now.nodes) draft.opened draft.nodes) }
+        ensures headers { IfOk result (λ draft. IsTrue draft.headers_stand
+            ↔ KeepHeaders items.now self.now.document.sheets) }
+        ensures stand { IfOk result (λ draft. OnTrue draft.headers_stand
+            (heads draft.nodes ≡ heads self.now.nodes)) }
     {
         if names_twice(alloc, items)? {
             return Err(PrepareError::Refused(Refusal::NodeTwice));
@@ -154,6 +160,7 @@ impl Buffer {
         let draft = Draft {
             opened: self.opened.copy()?,
             nodes: self.nodes.copy()?,
+            headers_stand: true,
         };
         draft.with_items(alloc, items)
     }

@@ -10,12 +10,11 @@ ghost use Rattle.buffer_rules.specs.Nodes.{before_in, uncut_all};
 ghost use Rattle.node_commands.specs.Commands.{commands_in, AskUnder};
 ghost use Rattle.sheet_edits.specs.OpenSheet.{OpenSheet};
 ghost use Rattle.document_edits.specs.Standing.{Stands, Drafted, DraftedUnder, sheets_of};
-ghost use Rattle.editor_buffer.specs.Heads.{heads};
+ghost use Rattle.document_edits.specs.Heads.{heads};
 ghost use Rattle.editor_buffer.specs.Cutting.{GivesRemade, IsPut, IsCutUpTo, IsCutWhole, PassesLast, whole};
 
 use crate::aliases::{is_cut_under, stays};
 use crate::cut::cut;
-use crate::headers::same_headers;
 use buffer_rules::ids_law;
 use doc_nodes::{Aliases, ImportGraph, Node, Nodes, Shared, aliases_of};
 use document_edits::{Draft, OpenNodes};
@@ -249,6 +248,7 @@ impl Cutting {
 pub(crate) fn cut_all(alloc: Global, tip: &Tip, draft: Draft) -> Result<Cutting, PrepareError>
     requires stands { AllZip Stands tip.now.opened.now tip.now.nodes.now }
     requires drafted { AllZip (Drafted tip.now.nodes.now) draft.opened draft.nodes }
+    requires headers { OnTrue draft.headers_stand (heads draft.nodes ≡ heads tip.now.nodes.now) }
     requires least { 1 ≤ tip.now.next }
     requires most { tip.now.next ≤ id_end }
     ensures cut { IfOk result (λ cutting. IsCutWhole tip.now.nodes.now (sheets_of draft.opened)
@@ -256,12 +256,16 @@ pub(crate) fn cut_all(alloc: Global, tip: &Tip, draft: Draft) -> Result<Cutting,
     ensures refused { IfErr result (PassesLast
         (whole tip.now.nodes.now (sheets_of draft.opened) tip.now.next)) }
 {
-    let headers_stand = same_headers(tip.nodes, &draft.nodes);
-    let graph = ImportGraph::of(alloc, &draft.nodes)?;
-    let aliases = aliases_of(alloc, &draft.nodes, &graph)?;
+    let Draft {
+        opened,
+        nodes,
+        headers_stand,
+    } = draft;
+    let graph = ImportGraph::of(alloc, &nodes)?;
+    let aliases = aliases_of(alloc, &nodes, &graph)?;
     let mut cutting = Cutting {
-        opened: draft.opened,
-        nodes: draft.nodes,
+        opened,
+        nodes,
         next: tip.next,
         untouched: Vec::new(alloc),
     };

@@ -11,7 +11,6 @@ mod aliases;
 mod buffer;
 mod cut;
 mod cutting;
-mod headers;
 mod limits;
 
 pub use buffer::{Buffer, Prepared};

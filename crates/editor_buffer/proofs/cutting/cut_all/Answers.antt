@@ -1,5 +1,5 @@
 use Rattle.std.proofs.Common.{◌≡◌, ◌<◌, Some, length, refl, sym, ap, subst, ◌∙◌, arith}
-use Rattle.editor_buffer.specs.Heads.{heads}
+use Rattle.document_edits.specs.Heads.{heads}
 use Rattle.std.specs.List.{slice_get}
 use Rattle.std.proofs.lemmas.Option.{slice_get_read}
 use Rattle.shared_map.specs.Pairs.{IsSorted}
@@ -13,8 +13,8 @@ use Rattle.document_edits.specs.Standing.{OpenList, sheets_of, Drafted}
 use Rattle.document_edits.proofs.PairLists.{AllZip-length}
 use Rattle.editor_buffer.specs.declared.cutting.Cutting.{Cutting}
 use Rattle.editor_buffer.proofs.Told.{along}
-use Rattle.editor_buffer.proofs.BareNodes.{same_aliases, heads_along}
-use Rattle.editor_buffer.proofs.FirstDraft.{bare_drafted}
+use Rattle.document_edits.proofs.KeptHeaders.{heads_drafted}
+use Rattle.editor_buffer.proofs.BareNodes.{same_heads}
 use Rattle.editor_buffer.proofs.CutPlaces.{cut_end, length_sheets}
 use Rattle.editor_buffer.proofs.CutStart.{cut_start}
 use Rattle.editor_buffer.proofs.cutting.cut_all.Goals as goal
@@ -48,7 +48,7 @@ step-requires-clause-aliases c =
     let both : Some one ≡ Some (aliases_at nodes place) = sym read ∙ c.in_ok-aliases.ensures.each place there in
     let same : one ≡ aliases_at nodes place = cc (both) in
     let bare : aliases_at nodes place ≡ aliases_at (uncut_all (sheets_of opened)) place =
-    same_aliases nodes (uncut_all (sheets_of opened)) (bare_drafted tip.nodes.now opened nodes c.requires.drafted) place in
+    same_heads nodes (uncut_all (sheets_of opened)) (heads_drafted tip.nodes.now opened nodes c.requires.drafted) place in
     ap (λ (a : NodeAliases). a.pairs)
     (same ∙ bare ∙ ap (λ (ss : SheetList). aliases_at (uncut_all ss) place) (sym c.nodes.invariant.sheets_are))
 
@@ -84,7 +84,6 @@ pub step-requires-clause-headers : goal.step-requires-clause-headers
 step-requires-clause-headers c =
     let opened : OpenList = c.args.draft.opened in
     let nodes : NodeList = c.args.draft.nodes in
-    let bare = bare_drafted c.args.tip.now.nodes.now opened nodes c.requires.drafted in
-    along c.same_headers-headers_stand.result (λ same. same ∙ heads_along nodes (uncut_all (sheets_of opened)) bare
+    along c.args.draft.headers_stand (λ same. sym same ∙ heads_drafted c.args.tip.now.nodes.now opened nodes c.requires.drafted
     ∙ ap (λ (ss : SheetList). heads (uncut_all ss)) (sym c.nodes.invariant.sheets_are))
-    c.same_headers-headers_stand.ensures
+    c.requires.headers
