@@ -1,0 +1,17 @@
+mod Made
+mod Jobs
+mod Refusals
+mod Held
+mod Turns
+mod NothingDue
+mod Kept
+mod SentReplies
+mod Cancels
+mod Removals
+mod Updates
+mod Reports
+mod WorkerTurns
+mod Free
+mod Accepts
+mod Steps
+mod Protocols
