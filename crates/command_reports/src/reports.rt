@@ -7,12 +7,12 @@ ghost use Rattle.isar_rules.specs.Cites.{meant_by};
 ghost use Rattle.isar_rules.specs.Reports.{theory_report, import_report, def_report, local_report, formula_report};
 
 use crate::texts::{ascii, plain};
+use formula_texts::formula_text;
 use isar_rules::Spot;
 use itoa::Buffer;
 use nj_formula::Formula;
 use outer_tokens::{Kind, Token, scalars};
 use pide_base::Range;
-use printed_texts::formula_text;
 use report_markup::{PlainText, Property, PropertyKey, Report, ReportKind};
 use sqlite_items::Items;
 use std::alloc::{AllocError, Global};

@@ -5,12 +5,13 @@ use command_reports::{
     loaded_report, local_report, named_refusal, numbered_refusal, refusal, state_report,
     theory_report,
 };
+use formula_texts::formula_text;
 use isar_rules::Spot;
 use nj_formula::Formula;
 use nj_syntax::parse;
 use outer_tokens::lex_under;
 use pide_base::Range;
-use printed_texts::{formula_text, state_text};
+use printed_texts::state_text;
 use proof_state::Proof;
 use report_markup::Report;
 use sqlite_items::Items;

@@ -1,4 +1,3 @@
-mod Spoken
 mod Printing
 mod Showing
 mod Quantified

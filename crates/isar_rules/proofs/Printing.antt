@@ -6,11 +6,11 @@ use Rattle.nj_formula.specs.declared.formula.Formula.TheVariants.{Implies, rolls
 use Rattle.nj_formula.specs.Meaning.{meaning}
 use Rattle.proof_state.specs.Same.{decide, is_first, says_same}
 use Rattle.proof_state.proofs.KnownFirst.{is_first_of}
-use Rattle.isar_rules.specs.Printed.{formula_text}
+use Rattle.formula_texts.specs.Printed.{formula_text}
 use Rattle.isar_rules.specs.Small.{prop}
 use Rattle.isar_rules.specs.WorkedProofs.{not_p, itself}
 use Rattle.isar_rules.specs.WorkedPrints.{both}
-use Rattle.isar_rules.proofs.Spoken.{says_atom, says_not, says_and, says_implies}
+use Rattle.formula_texts.proofs.KnownSpoken.{says_atom, says_not, says_and, says_implies}
 
 pub p_text : formula_text (prop (codes "P")) ≡ codes "P"
 p_text = says_atom 10 [] (codes "P")

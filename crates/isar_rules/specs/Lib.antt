@@ -2,7 +2,6 @@ pub mod Verbs
 pub mod Words
 pub mod Shapes
 pub mod Errors
-pub mod Printed
 pub mod Described
 pub mod Reports
 pub mod Effects

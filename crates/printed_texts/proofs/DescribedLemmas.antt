@@ -8,10 +8,10 @@ use Rattle.proof_state.specs.declared.subgoal.Subgoal.TheVariants.{Show, AssumeS
 use Rattle.proof_state.specs.declared.levels.Levels.{Levels}
 use Rattle.proof_state.specs.declared.levels.Levels.TheVariants.{Closed, Prove, State}
 use Rattle.proof_state.specs.Describes.{SaysFixed, SaysSubgoal, SaysSubgoals, Describes}
-use Rattle.isar_rules.specs.Printed.{formula_text}
+use Rattle.formula_texts.specs.Printed.{formula_text}
 use Rattle.isar_rules.specs.Described.{fix_text, subgoal_text, subgoal_lines, levels_text}
-use Rattle.printed_texts.proofs.PrimedLemmas.{primed_is}
-use Rattle.printed_texts.proofs.PrintedLemmas.{text_is}
+use Rattle.formula_texts.proofs.KnownPrimed.{primed_is}
+use Rattle.formula_texts.proofs.KnownTexts.{text_is}
 
 fixed_is : (x : List ℕ) (p : Formula) (text : List ℕ) → SaysFixed x p text → text ≡ subgoal_text (FixShow x p)
 fixed_is x p text (y, body, named, printed, is) =

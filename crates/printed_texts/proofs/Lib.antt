@@ -1,5 +1,1 @@
-mod LengthLemmas
-mod PrimedLemmas
-mod SpokenLemmas
-mod PrintedLemmas
 mod DescribedLemmas

@@ -8,7 +8,7 @@ use Rattle.nj_formula.specs.declared.formula.Formula.TheVariants.{rolls-Atom, ro
 use Rattle.nj_syntax.specs.declared.operator.Operator.{Operator}
 use Rattle.nj_syntax.specs.declared.operator.Quantifier.{Quantifier}
 use Rattle.nj_print.specs.Prints.{operator_text}
-use Rattle.isar_rules.specs.Printed.{Spoken, spoken_layer, enclosed, text_in, quantifier_text}
+use Rattle.formula_texts.specs.Printed.{Spoken, spoken_layer, enclosed, text_in, quantifier_text}
 
 abbrev pub spoken : Formula → Spoken
 spoken = fold-Formula Spoken spoken_layer

@@ -11,7 +11,7 @@ use Rattle.nj_formula.specs.Statement.{Statement, falsity, atom, neg, conj, disj
 use Rattle.nj_formula.proofs.KnownArguments.{Each, fold-Free, fold-Bound, fold-Apply, by_forms}
 use Rattle.nj_print.specs.ArgumentText.{name_at}
 use Rattle.nj_print.specs.Primed.{shown_layer, is_shown_in, is_shown}
-use Rattle.isar_rules.specs.Printed.{longest_layer, longest_in, longest}
+use Rattle.formula_texts.specs.Printed.{longest_layer, longest_in, longest}
 
 first_more : (n : ℕ) (ns : List ℕ) → sum (n ∷ ns) ≡ n + sum ns
 first_more n ns = sum_by-cons (λ x. x) n ns

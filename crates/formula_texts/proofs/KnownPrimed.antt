@@ -4,11 +4,11 @@ use Rattle.std.proofs.lemmas.Bool.{cases_lt, cases_eq, cond-true, cond-false}
 use Rattle.std.proofs.lemmas.List.{length-replicate}
 use Rattle.nj_formula.specs.Statement.{Statement}
 use Rattle.nj_print.specs.Primed.{is_shown, with_primes, IsPrimed}
-use Rattle.isar_rules.specs.Printed.{longest, least_failing, primed}
-use Rattle.printed_texts.proofs.LengthLemmas.{shown_length}
+use Rattle.formula_texts.specs.Printed.{longest, least_failing, primed}
+use Rattle.formula_texts.proofs.LengthLemmas.{shown_length}
 
 -- the search finds the first number that fails, if it goes as far
-least_is : (test : ℕ → Bool) (fuel from k : ℕ) → from ≤ k → k ≤ from + fuel → test k ≡ false
+pub least_is : (test : ℕ → Bool) (fuel from k : ℕ) → from ≤ k → k ≤ from + fuel → test k ≡ false
     → ((m : ℕ) → from ≤ m → m < k → test m ≡ true) → least_failing test from fuel ≡ k
 least_is test zero from k above below fails passes = omega arith
 least_is test (suc fuel) from k above below fails passes =

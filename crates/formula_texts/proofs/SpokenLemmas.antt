@@ -11,7 +11,7 @@ use Rattle.nj_formula.proofs.KnownMeaning.{meaning-False, meaning-Atom, meaning-
 use Rattle.nj_syntax.specs.declared.operator.Operator.{Operator}
 use Rattle.nj_syntax.specs.declared.operator.Quantifier.{Quantifier}
 use Rattle.nj_syntax.specs.Grammar.{joined, quantified}
-use Rattle.isar_rules.specs.Printed.{Spoken, spoken_layer, enclosed, text_in, atom_text, operator_between, quantifier_text}
+use Rattle.formula_texts.specs.Printed.{Spoken, spoken_layer, enclosed, text_in, atom_text, operator_between, quantifier_text}
 
 both : {A : Type 0} (f : A → A → A) (p q r s : A) → p ≡ q → r ≡ s → f p r ≡ f q s
 both f p q r s e h = ap (λ x. f x r) e ∙ ap (f q) h

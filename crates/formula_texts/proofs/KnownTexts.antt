@@ -9,9 +9,9 @@ use Rattle.nj_syntax.specs.declared.operator.Operator.{Operator}
 use Rattle.nj_syntax.specs.declared.operator.Quantifier.{Quantifier}
 use Rattle.nj_syntax.specs.Grammar.{priority, word}
 use Rattle.nj_print.specs.Prints.{operator_text, enclosed_layer, is_enclosed, Prints, falsity, atom, predicate, negation, operator, quantifier, parentheses}
-use Rattle.isar_rules.specs.Printed.{primed, enclosed, text_in}
-use Rattle.printed_texts.proofs.PrimedLemmas.{primed_is}
-use Rattle.printed_texts.proofs.SpokenLemmas.{says_meaning, text-False, text-Atom, text-Not, text-joined, text-quantified, bare, in_parentheses}
+use Rattle.formula_texts.specs.Printed.{primed, enclosed, text_in}
+use Rattle.formula_texts.proofs.KnownPrimed.{primed_is}
+use Rattle.formula_texts.proofs.SpokenLemmas.{says_meaning, text-False, text-Atom, text-Not, text-joined, text-quantified, bare, in_parentheses}
 
 -- a text of its own in two places, in parentheses in the first
 twice : (own place : ℕ) (text there here : List ℕ) → there ≡ enclosed own place text → here ≡ enclosed own 10 text → 10 ≤ own

@@ -1,8 +1,8 @@
 use Rattle.std.proofs.Common.{ℕ, List, [], sym, subst, ◌∙◌}
 use Rattle.nj_print.specs.Prints.{Prints}
 use Rattle.nj_print.proofs.KnownPrints.{some_print}
-use Rattle.printed_texts.proofs.PrintedLemmas.{text_is}
-use Rattle.printed_texts.proofs.laws.one_formula_text.Goals as goal
+use Rattle.formula_texts.proofs.KnownTexts.{text_is}
+use Rattle.formula_texts.proofs.laws.one_formula_text.Goals as goal
 
 pub returns-clause-print : goal.returns-clause-print
 returns-clause-print c f text =

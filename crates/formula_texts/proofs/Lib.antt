@@ -1,0 +1,5 @@
+mod LengthLemmas
+pub mod KnownPrimed
+mod SpokenLemmas
+pub mod KnownTexts
+pub mod KnownSpoken
