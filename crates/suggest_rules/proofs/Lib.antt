@@ -1,0 +1,3 @@
+mod FormLemmas
+mod TestLemmas
+pub mod KnownSuggestions

@@ -1,0 +1,4 @@
+pub mod Names
+pub mod Search
+pub mod TermText
+pub mod Worked
