@@ -1,0 +1,11 @@
+mod DotLemmas
+mod FreeLemmas
+mod NextLemmas
+mod ChosenLemmas
+mod EnoughLemmas
+mod SearchLemmas
+mod SeenLemmas
+mod ProvenLemmas
+mod FoundLemmas
+mod SoundLemmas
+mod TextLemmas
