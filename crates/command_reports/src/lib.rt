@@ -15,6 +15,7 @@ pub use halt::Halt;
 pub use refusals::{formula_in, named_refusal, numbered_refusal, refusal};
 pub use reports::{
     announced, def_report, error_report, fixed_report, formula_report, import_report,
-    loaded_report, local_report, proved_report, ref_report, state_report, theory_report,
+    loaded_report, local_report, proved_report, ref_report, state_report, suggest_report,
+    theory_report,
 };
 pub use texts::{ascii, plain};

@@ -118,6 +118,15 @@ pub fn state_report(alloc: Global, source: &[char], text: String) -> Result<Repo
     Ok(saying(alloc, ReportKind::State, whole(source), text))
 }
 
+/// A proof that is suggested behind the command of this source.
+pub fn suggest_report(alloc: Global, source: &[char], text: String) -> Result<Report, AllocError>
+    ensures { IfOk result (λ r. r
+        ≡ report kinds.Suggest (whole source.now) [] (string_bytes text)) }
+{
+    let text = plain(alloc, text)?;
+    Ok(saying(alloc, ReportKind::Suggest, whole(source), text))
+}
+
 /// A theory's name.
 pub fn theory_report(alloc: Global, name: &Spot) -> Result<Report, AllocError>
     ensures { IfOk result (λ r. r ≡ theory_report name.now) }

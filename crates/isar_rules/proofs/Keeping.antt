@@ -1,5 +1,5 @@
 -- Each command is done or refused, and its reports are tidy.
-use Rattle.std.proofs.Common.{◌≡◌, ℕ, Bool, true, false, if◌then◌else◌, List, [], ◌∷◌, ◌++◌, length, Option, Some, None, Ok, Err, refl, ap, inl, inr, arith}
+use Rattle.std.proofs.Common.{◌≡◌, ℕ, Bool, true, false, if◌then◌else◌, List, [], ◌∷◌, ◌++◌, length, map, Option, Some, None, Ok, Err, refl, ap, inl, inr, arith}
 use Rattle.std.specs.List.{AllByRecursion}
 use Rattle.std.specs.Ordering.{is_gt}
 use Rattle.pide_base.specs.declared.range.Range.{Range}
@@ -21,7 +21,9 @@ use Rattle.isar_rules.specs.Shapes.{shape_of}
 use Rattle.isar_rules.specs.Isar.{isar}
 use Rattle.isar_rules.specs.Steps.{tried, made_by, aliases_at, step}
 use Rattle.isar_rules.specs.Kept.{errors_in, IsDoneOrRefused}
+use Rattle.isar_rules.specs.Shown.{suggested_at, suggestion}
 use Rattle.proof_terms.specs.Cited.{IsPlaceOf}
+use Rattle.proof_terms.specs.declared.term.Term.{Term}
 use Rattle.isar_rules.proofs.Tokens.{Rises, Within, range-within, ranges-treelike, source-rises}
 use Rattle.isar_rules.proofs.Good.{IsGood, IsQuiet, IsPlaced, sorted, joined, all_map, no_errors, good_announced, word_report}
 use Rattle.isar_rules.proofs.Citing.{fork-placed}
@@ -72,6 +74,10 @@ module _ (source : List ℕ) (tokens : List Token) where
   if-forks : (forks : Bool) (rs : List Report) → AllByRecursion Placed rs → AllByRecursion Placed (if forks then rs else [])
   if-forks true rs all = all
   if-forks false rs all = tt
+
+  suggestion-placed : (t : Option Term) → AllByRecursion Placed (suggestion source t)
+  suggestion-placed None = tt
+  suggestion-placed (Some t) = (inl refl, tt)
 
   made-placed : (before : State) (t : Tried Effect) → IfTried (IsClean source tokens) t → AllByRecursion Placed (made_by source tokens before t).reports
   made-placed before (Ok e) clean =
@@ -124,8 +130,9 @@ step-kept source blob before = made-kept source _ before _ (shape-clean source b
 pub all-tidy : (source : List ℕ) (blob : Option (List ℕ)) (before : State) → AreTidyIn source (reports_of isar source blob before)
 all-tidy source blob before =
     let tokens = source_tokens (aliases_at before.place before.aliases) source in
+    let behind = (step source blob before).state in
     tidy source tokens (source-rises (aliases_at before.place before.aliases) source) _
     (joined (Placed source tokens) _ _
     (joined (Placed source tokens) _ _ (made-placed source tokens before _ (shape-clean source blob before))
     (if-forks source tokens (step source blob before).forks _ (fork-placed source tokens before.place)))
-    (inl refl, tt))
+    (inl refl, suggestion-placed source tokens (suggested_at (map (λ pair. pair.0) behind.aliases) behind.place)))

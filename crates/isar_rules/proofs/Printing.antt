@@ -7,6 +7,7 @@ use Rattle.nj_formula.specs.Meaning.{meaning}
 use Rattle.proof_state.specs.Same.{decide, is_first, says_same}
 use Rattle.proof_state.proofs.KnownFirst.{is_first_of}
 use Rattle.formula_texts.specs.Printed.{formula_text}
+use Rattle.suggest_rules.specs.Worked.{swap, peirce}
 use Rattle.isar_rules.specs.Small.{prop}
 use Rattle.isar_rules.specs.WorkedProofs.{not_p, itself}
 use Rattle.isar_rules.specs.WorkedPrints.{both}
@@ -37,6 +38,20 @@ ab_text = says_and 10 [] (prop (codes "A")) (prop (codes "B")) _ _ (says_atom 36
 
 pub ba_text : formula_text (both (codes "B") (codes "A")) ≡ codes "B & A"
 ba_text = says_and 10 [] (prop (codes "B")) (prop (codes "A")) _ _ (says_atom 36 [] (codes "B")) (says_atom 35 [] (codes "A"))
+
+pub swap_text : formula_text swap ≡ codes "P & Q --> Q & P"
+swap_text =
+    says_implies 10 [] (both (codes "P") (codes "Q")) (both (codes "Q") (codes "P")) _ _
+    (says_and 26 [] (prop (codes "P")) (prop (codes "Q")) _ _ (says_atom 36 [] (codes "P")) (says_atom 35 [] (codes "Q")))
+    (says_and 25 [] (prop (codes "Q")) (prop (codes "P")) _ _ (says_atom 36 [] (codes "Q")) (says_atom 35 [] (codes "P")))
+
+pub peirce_text : formula_text peirce ≡ codes "((P --> Q) --> P) --> P"
+peirce_text =
+    says_implies 10 [] (Implies (Implies (prop (codes "P")) (prop (codes "Q"))) (prop (codes "P"))) (prop (codes "P")) _ _
+    (says_implies 26 [] (Implies (prop (codes "P")) (prop (codes "Q"))) (prop (codes "P")) _ _
+    (says_implies 26 [] (prop (codes "P")) (prop (codes "Q")) _ _ (says_atom 26 [] (codes "P")) (says_atom 25 [] (codes "Q")))
+    (says_atom 25 [] (codes "P")))
+    (says_atom 25 [] (codes "P"))
 
 pub out-Implies : (a b : Formula) → out-Formula (Implies a b) ≡ Formula-F.Implies a b
 out-Implies a b = ap out-Formula (sym (rolls-Implies a b)) ∙ out-roll-Formula (Formula-F.Implies a b)

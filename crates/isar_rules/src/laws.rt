@@ -12,7 +12,7 @@ ghost use Rattle.isar_rules.specs.WorkedNames.{TakenNames};
 ghost use Rattle.isar_rules.specs.WorkedProofs.{AProof, ProofReports, ProofErrors};
 ghost use Rattle.isar_rules.specs.WorkedAliases.{AnAlias, AMissingAlias};
 ghost use Rattle.isar_rules.specs.WorkedBlobs.{ALoad, BlobLines};
-ghost use Rattle.isar_rules.specs.WorkedPrints.{Prints};
+ghost use Rattle.isar_rules.specs.WorkedPrints.{Prints, SuggestingPrints};
 ghost use Rattle.isar_rules.specs.WorkedForks.{Forks};
 
 /// What the commands of small theories make, computed.
@@ -31,6 +31,7 @@ pub fn worked_examples()
     ensures load { ALoad }
     ensures blob_lines { BlobLines }
     ensures prints { Prints }
+    ensures suggesting_prints { SuggestingPrints }
     ensures forks { Forks }
 {}
 

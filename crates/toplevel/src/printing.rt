@@ -1,11 +1,14 @@
 //! What is printed behind a command.
-ghost use Rattle.std.specs.Prelude.{◌≡◌, ◌++◌, IfOk, codes, string_bytes};
-ghost use Rattle.isar_rules.specs.Shown.{place_text, print};
+ghost use Rattle.std.specs.Prelude.{◌≡◌, ◌++◌, IfOk, OnOk, map, codes, string_bytes};
+ghost use Rattle.isar_rules.specs.Shown.{place_text, suggested_at, suggestion, print};
 
-use command_reports::state_report;
+use command_reports::{state_report, suggest_report};
+use doc_nodes::Aliases;
 use isar_rules::{Place, State};
 use nj_formula::Name;
+use nj_suggest::{by_text, suggest};
 use printed_texts::state_text;
+use proof_terms::Term;
 use report_markup::Report;
 use sqlite_items::Items;
 use std::alloc::{AllocError, Global};
@@ -33,6 +36,53 @@ fn place_text(alloc: Global, place: &Place) -> Result<String, AllocError>
     }
 }
 
+/// The proof that is suggested at a place, where these are the aliases in force.
+fn suggested_at(alloc: Global, aliases: &Aliases, place: &Place) -> Result<Option<Term>, AllocError>
+    ensures { IfOk result (λ term. term
+        ≡ suggested_at (map (λ pair. pair.0) aliases.now) place.now) }
+{
+    let Place::Proof { theory, proof, .. } = place else {
+        return Ok(None);
+    };
+    let Some(goal) = proof.goal() else {
+        return Ok(None);
+    };
+    let scope = proof.scope(alloc, theory.name.as_str(), &theory.facts)?;
+    suggest(alloc, goal, &scope, aliases.names())
+}
+
+/// Adds the report of a suggested proof, where there is one.
+fn add_suggestion(
+    alloc: Global,
+    source: &[char],
+    term: &Option<Term>,
+    reports: &mut Items<Report>,
+) -> Result<(), AllocError>
+    ensures { OnOk result (reports.new ≡ reports.old ++ suggestion source.now term.now) }
+{
+    match term {
+        Some(term) => {
+            let text = by_text(alloc, term)?;
+            reports.push(suggest_report(alloc, source, text)?)
+        }
+        None => Ok(()),
+    }
+}
+
+/// Adds the report of the proof that is suggested behind a command, where there is one.
+fn suggest_behind(
+    alloc: Global,
+    source: &[char],
+    behind: &State,
+    reports: &mut Items<Report>,
+) -> Result<(), AllocError>
+    ensures { OnOk result (reports.new ≡ reports.old ++ suggestion source.now
+        (suggested_at (map (λ pair. pair.0) behind.now.aliases) behind.now.place)) }
+{
+    let term = suggested_at(alloc, behind.aliases.get(), &behind.place)?;
+    add_suggestion(alloc, source, &term, reports)
+}
+
 /// What is printed of a command, by the state behind it.
 pub(crate) fn print(
     alloc: Global,
@@ -44,5 +94,6 @@ pub(crate) fn print(
     let text = place_text(alloc, &behind.place)?;
     let mut reports = Items::new(alloc);
     reports.push(state_report(alloc, source, text)?)?;
+    suggest_behind(alloc, source, behind, &mut reports)?;
     Ok(reports)
 }

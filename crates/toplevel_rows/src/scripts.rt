@@ -18,6 +18,8 @@ const HEADER: &str = "theory A begin";
 
 const LEMMA: &str = "lemma l: \"P --> P\"";
 
+const SWAP: &str = "lemma l: \"P & Q --> Q & P\"";
+
 const BY: &str = "by (impI h h)";
 
 pub(crate) const ROWS: &[Row] = &[
@@ -54,7 +56,44 @@ pub(crate) const ROWS: &[Row] = &[
     Row(
         "a lemma opens its proof",
         &[HEADER, LEMMA],
-        " command def formula P --> P => state prove: P --> P",
+        " command def formula P --> P => state prove: P --> P suggest by (impI h1 h1)",
+    ),
+    Row(
+        "a proof of a goal is suggested",
+        &[HEADER, SWAP],
+        " command def formula P & Q --> Q & P => state prove: P & Q --> Q & P \
+        suggest by (impI h1 (conjI (conjE2 \"P\" h1) (conjE1 \"Q\" h1)))",
+    ),
+    Row(
+        "the suggestion is a proof",
+        &[
+            HEADER,
+            SWAP,
+            "by (impI h1 (conjI (conjE2 \"P\" h1) (conjE1 \"Q\" h1)))",
+        ],
+        " command / proved ref ref => state theory A",
+    ),
+    Row(
+        "nothing is suggested where the search finds nothing",
+        &[HEADER, "lemma l: \"((P --> Q) --> P) --> P\""],
+        " command def formula ((P --> Q) --> P) --> P => \
+        state prove: ((P --> Q) --> P) --> P",
+    ),
+    Row(
+        "a fact of the block is suggested",
+        &[HEADER, LEMMA, "proof", "assume h: \"P\"", "show \"P\""],
+        " command formula P => state prove: P suggest by h",
+    ),
+    Row(
+        "an assumption that is suggested has a name of its own",
+        &[
+            HEADER,
+            "lemma l: \"P --> Q --> P\"",
+            "proof",
+            "assume h1: \"P\"",
+            "show \"Q --> P\"",
+        ],
+        " command formula Q --> P => state prove: Q --> P suggest by (impI h1' h1)",
     ),
     Row(
         "its proof is forked",

@@ -2,7 +2,8 @@ use Rattle.std.proofs.Common.{refl, ap, ◌∷◌, ◌++◌}
 use Rattle.std.specs.Fmt.{digits}
 use Rattle.isar_rules.specs.Places.{refused, accepted, no_subgoal}
 use Rattle.isar_rules.specs.WorkedProofs.{not_p}
-use Rattle.isar_rules.proofs.Printing.{p_text, implies_text, not_p_text, itself_text, swapped_text, ab_text, ba_text, out-Implies}
+use Rattle.suggest_rules.proofs.KnownSuggestions.{swaps, swaps_text, none, no_fact}
+use Rattle.isar_rules.proofs.Printing.{p_text, implies_text, not_p_text, itself_text, swapped_text, swap_text, peirce_text, ab_text, ba_text, out-Implies}
 use Rattle.isar_rules.proofs.Showing.{fix_accepted, show_state, show_reports}
 use Rattle.isar_rules.proofs.Quantified.{quantified_text}
 use Rattle.isar_rules.proofs.Forking.{unknown, theory_fact, local_fact, own_fact}
@@ -149,8 +150,14 @@ returns-clause-prints c = record {
   outside = refl;
   theory = refl;
   end = refl;
-  prove = rw p_text refl;
+  prove = rw (p_text, no_fact) refl;
   block = rw (swapped_text, ab_text, ba_text) refl;
+}
+
+pub returns-clause-suggesting_prints : goal.returns-clause-suggesting_prints
+returns-clause-suggesting_prints c = record {
+  found = rw (swap_text, swaps, swaps_text) refl;
+  none = rw (peirce_text, none) refl;
 }
 
 pub returns-clause-forks : goal.returns-clause-forks
