@@ -8,7 +8,7 @@ use Rattle.doc_nodes.specs.declared.node.Node.{Node}
 use Rattle.doc_nodes.specs.Imports.{aims, is_bad, place_of}
 use Rattle.doc_nodes.specs.Aliases.{aliases_at, folded, in_turn, known, no_aliases, own_pairs, pairs_from}
 use Rattle.text_check.specs.Headings.{alone, bare}
-use Rattle.text_check.proofs.OneNode.{order_one}
+use Rattle.text_check.proofs.KnownOneNode.{order_one}
 
 -- the imports stand at the same places
 places_alike : (name : List ℕ) (node : Node) (imports : List (List ℕ))

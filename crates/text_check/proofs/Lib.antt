@@ -1,6 +1,6 @@
 mod Added
 mod Alike
-mod OneNode
+pub mod KnownOneNode
 mod OneWalk
 mod OneRanges
 mod OneMarkup

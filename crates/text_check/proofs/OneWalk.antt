@@ -15,7 +15,7 @@ use Rattle.markup_lines.specs.OneText.{reported}
 use Rattle.text_check.specs.Walking.{reports_at, reports_from, setting_at, state_at}
 use Rattle.text_check.specs.Headings.{alone, begins, headed, imports_of}
 use Rattle.text_check.proofs.Alike.{aliases_alike, first_alike}
-use Rattle.text_check.proofs.OneNode.{imports_one, order_one}
+use Rattle.text_check.proofs.KnownOneNode.{imports_one, order_one}
 
 -- where there are no blobs no command has one
 no_blob : (needs : Option (List ℕ)) → blob_of [] needs ≡ None
