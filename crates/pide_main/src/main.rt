@@ -3,7 +3,7 @@
 
 use pide_base::Status;
 use pide_io::{StdSink, StdSource};
-use pide_serve::pide;
+use pide_program::pide;
 use std::env;
 use std::process::ExitCode;
 

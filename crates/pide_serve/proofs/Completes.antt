@@ -46,15 +46,15 @@ never-short bytes taken rest at parts none has short =
     absurd (let no : ⊥ = cc in no)
 
 -- the run is done, or memory is short, where nothing else hinders it
-pub completes : (words : Bool) (left left' held held' : Option (List ℕ)) (pulls pulls' pushes pushes' : ℕ) (s : Status) (h : List Entry) → IsRun s left left' held held' h
-    → (s ≡ status.Usage → words ≡ false) → (s ≡ status.ReadFault → Rose pulls pulls') → (s ≡ status.WriteFault → Rose pushes pushes')
-    → CompleteSo words left pulls pulls' pushes pushes' s
-completes words left left' held held' pulls pulls' pushes pushes' s h run usage read write bytes taken known has few quiet_in quiet_out = by_status s refl
+pub completes : (left left' held held' : Option (List ℕ)) (pulls pulls' pushes pushes' : ℕ) (s : Status) (h : List Entry) → IsRun s left left' held held' h
+    → (s ≢ status.Usage) → (s ≡ status.ReadFault → Rose pulls pulls') → (s ≡ status.WriteFault → Rose pushes pushes')
+    → CompleteSo left pulls pulls' pushes pushes' s
+completes left left' held held' pulls pulls' pushes pushes' s h run usage read write bytes known has few quiet_in quiet_out = by_status s refl
   where
     by_status : (t : Status) → s ≡ t → (s ≡ status.Done) ⊎ (s ≡ status.NoMemory)
     by_status status.Done e = inl e
     by_status status.NoMemory e = inr e
-    by_status status.Usage e = absurd (let other : false ≡ true = sym (usage e) ∙ taken in let no : ⊥ = cc in no)
+    by_status status.Usage e = absurd (usage e)
     by_status status.ReadFault e = absurd (quiet_in (read e))
     by_status status.WriteFault e = absurd (quiet_out (write e))
     by_status (status.BadFrame at) e =

@@ -145,11 +145,11 @@ TakesSo _ taken = length taken < too_many
 abbrev pub LongSo : Status → Option (List ℕ) → Option (List ℕ) → Type 0
 LongSo s old new = (taken : List ℕ) × Consumes old new taken × TakesSo s taken
 
--- where the words are taken, the bytes end between messages and are fewer than are too many, and
--- no count rises, the run is done, or memory is short
-abbrev pub CompleteSo : Bool → Option (List ℕ) → ℕ → ℕ → ℕ → ℕ → Status → Type 0
-CompleteSo words left pulls pulls' pushes pushes' s =
-    (bytes : List ℕ) → words ≡ true → left ≡ Some bytes → HasEnding bytes Whole
+-- where the bytes end between messages and are fewer than are too many, and no count rises, the run
+-- is done, or memory is short
+abbrev pub CompleteSo : Option (List ℕ) → ℕ → ℕ → ℕ → ℕ → Status → Type 0
+CompleteSo left pulls pulls' pushes pushes' s =
+    (bytes : List ℕ) → left ≡ Some bytes → HasEnding bytes Whole
     → length bytes < too_many → (Rose pulls pulls' → ⊥) → (Rose pushes pushes' → ⊥)
     → (s ≡ status.Done) ⊎ (s ≡ status.NoMemory)
 

@@ -2,4 +2,3 @@ pub mod Headline
 pub mod Runs
 pub mod Served
 pub mod Steps
-pub mod Words

@@ -1,10 +1,10 @@
-//! The program over memory: each input with its status, its bytes and its history (`pide_serve`).
+//! The program over memory: each input with its status, its bytes and its history (`pide_program`).
 ghost use Rattle.std.specs.Prelude.{◌<◌};
 
 use crate::example::{MORE, REFUSALS, SENT, WRITTEN};
 use pide_base::Status;
 use pide_io::{MemSink, MemSource};
-use pide_serve::pide;
+use pide_program::pide;
 use std::alloc::{AllocError, Global};
 use std::test::Fail;
 
@@ -115,6 +115,20 @@ const UNSERVED: Row = Row {
     ..SERVED
 };
 
+/// A text with a wrong proof in it, which is checked.
+const CHECKED: Row = Row {
+    shows: "a text is checked, and its markup written by lines",
+    words: &["check"],
+    front: 0,
+    after: b"theory A begin lemma l: \"P\" by x end",
+    replies: 0,
+    then: b"0-6 command name=theory\n7-8 theory name=A\n15-20 command name=lemma\n\
+        21-22 def theory=A name=l\n24-27 formula: P\n28-32 error: unknown name x\n\
+        28-30 command name=by\n33-36 command name=end\n",
+    entries: Some(0),
+    ..SERVED
+};
+
 const ROWS: &[Row] = &[
     SERVED,
     UNANSWERED,
@@ -189,9 +203,36 @@ const ROWS: &[Row] = &[
         ..SERVED
     },
     UNSERVED,
+    CHECKED,
+    Row {
+        shows: "a byte of no character ends a check, and nothing is written",
+        after: b"\xff",
+        status: Status::BadText { at: 0 },
+        then: b"",
+        ..CHECKED
+    },
+    Row {
+        shows: "a check whose lines can't be written is a fault of the sink",
+        failing_push: 1,
+        status: Status::WriteFault,
+        then: b"",
+        ..CHECKED
+    },
+    Row {
+        shows: "a check whose text can't be read is a fault of the source",
+        failing_pull: 1,
+        status: Status::ReadFault,
+        then: b"",
+        ..CHECKED
+    },
     Row {
         shows: "a word that is no command is refused",
-        words: &["check"],
+        words: &["server"],
+        ..UNSERVED
+    },
+    Row {
+        shows: "a command that isn't there yet is refused",
+        words: &["replay"],
         ..UNSERVED
     },
     Row {

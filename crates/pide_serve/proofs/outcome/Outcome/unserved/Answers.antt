@@ -3,7 +3,7 @@ use Rattle.std.proofs.Common.{List, sym, subst, reverse}
 use Rattle.session_core.specs.declared.entry.Entry.{Entry}
 use Rattle.pide_serve.specs.Headline.{IsRun}
 use Rattle.pide_serve.proofs.Ends.{unserved-run}
-use Rattle.pide_serve.proofs.program.unserved.Goals as goal
+use Rattle.pide_serve.proofs.outcome.Outcome.unserved.Goals as goal
 
 pub returns-clause-run : goal.returns-clause-run
 returns-clause-run g c =

@@ -1,0 +1,19 @@
+-- A check that could not begin: nothing is taken or written.
+use Rattle.std.proofs.Common.{◌≡◌, [], ℕ, List, Option, refl, sym, subst, arith}
+use Rattle.std.proofs.KnownBytes.{Appends-nil, Consumes-nil}
+use Rattle.std.specs.Str.{chars}
+use Rattle.pide_base.specs.declared.status.Status.{Status}
+use Rattle.pide_base.specs.declared.status.Status.TheVariants as status
+use Rattle.language.specs.Lang.{Lang}
+use Rattle.markup_lines.specs.Lines.{lines}
+use Rattle.pide_check.specs.Checked.{IsChecked}
+
+nothing_checked : {S : Type 0} (l : Lang S) (left held : Option (List ℕ)) → IsChecked l status.NoMemory left left held held
+nothing_checked l left held = ([], Consumes-nil left, omega (arith), ([], lines l (chars []), refl, Appends-nil held))
+
+pub nothing_done : {S : Type 0} (l : Lang S) (left left' held held' : Option (List ℕ)) (s : Status) → s ≡ status.NoMemory → left' ≡ left → held' ≡ held
+    → IsChecked l s left left' held held'
+nothing_done l left left' held held' s short same kept =
+    subst (λ (t : Status). IsChecked l t left left' held held') (sym short)
+    (subst (λ (m : Option (List ℕ)). IsChecked l status.NoMemory left m held held') (sym same)
+    (subst (λ (m : Option (List ℕ)). IsChecked l status.NoMemory left left held m) (sym kept) (nothing_checked l left held)))
