@@ -1,0 +1,3 @@
+theory Lonely imports Other begin
+axiom a: "P"
+end
