@@ -41,6 +41,30 @@ const ROWS: &[Row] = &[
         44-45 ref theory=A name=a\n46-49 command name=end\n",
     ),
     Row(
+        "a proof in steps",
+        b"theory A begin lemma l: \"~ P --> ~ P\" proof assume h: \"~P\" show \"~P\" by h qed end",
+        "Done\n0-6 command name=theory\n7-8 theory name=A\n15-20 command name=lemma\n\
+        21-22 def theory=A name=l\n24-37 formula: ~P --> ~P\n38-43 command name=proof\n\
+        44-50 command name=assume\n51-52 def name=h\n54-58 formula: ~P\n59-63 command name=show\n\
+        64-68 formula: ~P\n69-73 proved\n69-71 command name=by\n72-73 ref name=h\n\
+        74-77 command name=qed\n78-81 command name=end\n",
+    ),
+    Row(
+        "a proof of first-order logic",
+        b"theory A begin lemma l: \"(ALL x. P(x)) --> (EX y. P(y))\" \
+        by (impI h (exI \"c\" (allE \"ALL x. P(x)\" \"c\" h))) end",
+        "Done\n0-6 command name=theory\n7-8 theory name=A\n15-20 command name=lemma\n\
+        21-22 def theory=A name=l\n24-56 formula: (ALL x. P(x)) --> (EX y. P(y))\n57-105 proved\n\
+        57-59 command name=by\n101-102 ref name=h\n106-109 command name=end\n",
+    ),
+    Row(
+        "a variable that an assumption has free",
+        b"theory A begin lemma m: \"P(x) --> (ALL y. P(y))\" by (impI h (allI x h)) end",
+        "Done\n0-6 command name=theory\n7-8 theory name=A\n15-20 command name=lemma\n\
+        21-22 def theory=A name=m\n24-48 formula: P(x) --> (ALL y. P(y))\n\
+        49-71 error: variable x is not fresh\n49-51 command name=by\n72-75 command name=end\n",
+    ),
+    Row(
         "each import is bad",
         b"theory C imports D begin end",
         "Done\n0-24 error: bad import D\n0-6 command name=theory\n25-28 command name=end\n\
