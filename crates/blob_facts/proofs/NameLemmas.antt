@@ -1,19 +1,15 @@
 -- Identifiers at the front of a line, in bytes, and as words of the language.
-use Rattle.std.proofs.Common.{◌≡◌, ◌-◌, ◌++◌, ◌∙◌, length, take, drop, Some, None, sym, append-nil, ℕ, suc, zero, ◌<◌, Bool, true, false, ◌||◌, ◌&&◌, List, [], ◌∷◌, Option, refl, ap, arith, rules}
+use Rattle.std.proofs.Common.{◌≡◌, ◌-◌, ◌++◌, ◌∙◌, length, take, drop, Some, None, sym, append-nil, ℕ, ◌<◌, Bool, true, false, ◌||◌, ◌&&◌, List, [], ◌∷◌, Option, refl, ap, arith}
 use Rattle.std.specs.Prelude.{IsTrue, not, if◌then◌else◌}
-use Rattle.std.specs.Str.{IsAscii, encode_utf8_all}
-use Rattle.std.specs.List.{list_all}
+use Rattle.std.specs.Str.{encode_utf8_all}
 use Rattle.std.specs.Option.{option_map_or}
-use Rattle.std.specs.Char.{is_ascii_alphabetic}
-use Rattle.std.proofs.lemmas.Bool.{both_ways}
 use Rattle.std.proofs.lemmas.List.{take_rest}
 use Rattle.std.proofs.lemmas.Str.{encodes-IsAscii}
-use Rattle.text_words.specs.Identifier.{IsIdentifier, is_identifier, is_identifier_part}
+use Rattle.text_words.specs.Identifier.{IsIdentifier, is_identifier}
 use Rattle.text_words.specs.Longest.{FindsLongest, IsLongest, HasNoFront, longest_front}
 use Rattle.isar_rules.specs.BlobLines.{past_gap, named_fact, fact_in}
-use Rattle.text_words.proofs.KnownTests.{both-parts}
 use Rattle.text_words.proofs.KnownFronts.{one-front, found-front}
-use Rattle.text_words.proofs.KnownIdentifiers.{letter-part, identifier-tested, tested-identifier}
+use Rattle.text_words.proofs.KnownIdentifiers.{identifier-tested, tested-identifier, identifier_ascii}
 use Rattle.symbols.proofs.KnownFinds.{finds-as}
 use Rattle.outer_tokens.specs.Kinds.{is_name}
 use Rattle.outer_tokens.specs.declared.kind.Kind.TheVariants.{Command, Keyword, Ident}
@@ -24,21 +20,6 @@ front_is text found is =
     one-front (λ s. IsTrue (is_identifier s)) text found (longest_front is_identifier text)
     (finds-as IsIdentifier (λ s. IsTrue (is_identifier s)) text found tested-identifier identifier-tested is)
     (found-front is_identifier text)
-
-part_ascii : (c : ℕ) → is_identifier_part c ≡ true → c < 128
-part_ascii c part = search rules
-
-parts_ascii : (s : List ℕ) → list_all is_identifier_part s ≡ true → IsAscii s
-parts_ascii [] parts i = omega arith
-parts_ascii (c ∷ cs) parts zero = part_ascii c (both-parts _ _ parts).0
-parts_ascii (c ∷ cs) parts (suc i) = parts_ascii cs (both-parts _ _ parts).1 i
-
-identifier_ascii : (s : List ℕ) → is_identifier s ≡ true → IsAscii s
-identifier_ascii [] tested i = absurd (both_ways false refl tested)
-identifier_ascii (c ∷ cs) tested zero =
-    part_ascii c (letter-part c (both-parts (is_ascii_alphabetic c) (list_all is_identifier_part cs) tested).0)
-identifier_ascii (c ∷ cs) tested (suc i) =
-    parts_ascii cs (both-parts (is_ascii_alphabetic c) (list_all is_identifier_part cs) tested).1 i
 
 -- the bytes of an identifier are its scalars
 pub identifier_bytes : (s : List ℕ) → is_identifier s ≡ true → encode_utf8_all s ≡ s

@@ -1,30 +1,14 @@
 -- The commands of a node are a front and a back of those before, and new ones between them.
-use Rattle.std.proofs.Common.{◌≡◌, ℕ, zero, suc, ◌+◌, ◌-◌, ◌≤◌, List, [], ◌∷◌, ◌++◌, length, map, take, drop, reverse, refl, sym, ap, subst, ◌∙◌, arith}
-use Rattle.std.proofs.lemmas.List.{length-append, length-take-le, length-drop, length-map, length-reverse, take-append-drop, drop-drop, reverse-append, reverse-reverse, append_assoc}
+use Rattle.std.proofs.Common.{◌≡◌, ℕ, ◌+◌, ◌-◌, ◌≤◌, List, [], ◌∷◌, ◌++◌, length, map, take, drop, reverse, refl, sym, ap, ◌∙◌, arith}
+use Rattle.std.proofs.lemmas.List.{length-append, length-take-le, length-drop, length-map, length-reverse, take-append-drop, drop-drop, reverse-reverse, append_assoc}
 use Rattle.std.proofs.lemmas.List.FromFn.{length-range_with_len}
-use Rattle.std.proofs.Math.Seq.{take-append_seam}
-use Rattle.std.specs.List.{zip, range_with_len}
+use Rattle.std.specs.List.{zip, range_with_len, take-map, drop-map}
+use Rattle.text_words.proofs.KnownLists.{zip_append, take_reverse}
 use Rattle.buffer_rules.specs.Numbers.{Command, Kept, kept, ids_of, IsLongestKept}
-
-zip_append : {A B : Type 0} (xs us : List A) (ys vs : List B) → length xs ≡ length ys → zip (xs ++ us) (ys ++ vs) ≡ zip xs ys ++ zip us vs
-zip_append [] us [] vs e = refl
-zip_append [] us (y ∷ ys) vs e = absurd (omega arith)
-zip_append (x ∷ xs) us [] vs e = absurd (omega arith)
-zip_append (x ∷ xs) us (y ∷ ys) vs e = ap (λ ps. (x, y) ∷ ps) (zip_append xs us ys vs (omega arith))
 
 zip_parts : (cs : List Command) → zip (map (λ c. c.0) cs) (map (λ c. c.1) cs) ≡ cs
 zip_parts [] = refl
 zip_parts (c ∷ cs) = ap (λ ps. c ∷ ps) (zip_parts cs)
-
-pub take_map : {A B : Type 0} (f : A → B) (n : ℕ) (xs : List A) → take n (map f xs) ≡ map f (take n xs)
-take_map f zero xs = refl
-take_map f (suc n) [] = refl
-take_map f (suc n) (x ∷ xs) = ap (λ ys. f x ∷ ys) (take_map f n xs)
-
-drop_map : {A B : Type 0} (f : A → B) (n : ℕ) (xs : List A) → drop n (map f xs) ≡ map f (drop n xs)
-drop_map f zero xs = refl
-drop_map f (suc n) [] = refl
-drop_map f (suc n) (x ∷ xs) = drop_map f n xs
 
 -- a list is its front, what stands behind it, and its back
 pub in_three : {A : Type 0} (xs : List A) (f b : ℕ) → f + b ≤ length xs
@@ -37,16 +21,6 @@ in_three xs f b le =
     ∙ ap (λ ys. take f xs ++ ys) (take-append-drop m (drop f xs))
     ∙ take-append-drop f xs
 
--- the front of a list turned round is its back turned round
-last_part : {A : Type 0} (xs : List A) (b : ℕ) → b ≤ length xs → take b (reverse xs) ≡ reverse (drop (length xs - b) xs)
-last_part xs b le =
-    let m = length xs - b in
-    let last = reverse (drop m xs) in
-    let long : length last ≡ b = length-reverse (drop m xs) ∙ length-drop m xs ∙ omega arith in
-    ap (λ ys. take b (reverse ys)) (sym (take-append-drop m xs))
-    ∙ ap (take b) (reverse-append (take m xs) (drop m xs))
-    ∙ subst (λ n. take n (last ++ reverse (take m xs)) ≡ last) long (take-append_seam last (reverse (take m xs)))
-
 -- lists behind a front have the same back
 same_back : {A : Type 0} (xs ys : List A) (f b : ℕ) → b ≤ length (drop f xs) → b ≤ length (drop f ys)
     → take b (reverse (drop f xs)) ≡ take b (reverse (drop f ys)) → f + b ≤ length xs → f + b ≤ length ys
@@ -57,7 +31,7 @@ same_back xs ys f b in_xs in_ys same le lf =
     let other : drop (length (drop f ys) - b) (drop f ys) ≡ drop (length ys - b) ys =
     drop-drop (length (drop f ys) - b) f ys ∙ ap (λ n. drop n ys) (omega (arith, length-drop f ys)) in
     let turned : reverse (drop (length (drop f xs) - b) (drop f xs)) ≡ reverse (drop (length (drop f ys) - b) (drop f ys)) =
-    sym (last_part (drop f xs) b in_xs) ∙ same ∙ last_part (drop f ys) b in_ys in
+    sym (take_reverse (drop f xs) b in_xs) ∙ same ∙ take_reverse (drop f ys) b in_ys in
     sym one ∙ sym (reverse-reverse (drop (length (drop f xs) - b) (drop f xs))) ∙ ap reverse turned
     ∙ reverse-reverse (drop (length (drop f ys) - b) (drop f ys)) ∙ other
 
@@ -92,8 +66,8 @@ module _ (before : List Command) (now : List (List ℕ)) (next : ℕ)
 
   front_kept : zip (take k.front (map (λ c. c.0) before)) (take k.front now) ≡ take k.front before
   front_kept =
-      ap (λ ys. zip (take k.front (map (λ c. c.0) before)) ys) (sym so.front.same ∙ take_map (λ c. c.1) k.front before)
-      ∙ ap (λ xs. zip xs (map (λ c. c.1) (take k.front before))) (take_map (λ c. c.0) k.front before)
+      ap (λ ys. zip (take k.front (map (λ c. c.0) before)) ys) (sym so.front.same ∙ take-map (λ c. c.1) k.front before)
+      ∙ ap (λ xs. zip xs (map (λ c. c.1) (take k.front before))) (take-map (λ c. c.0) k.front before)
       ∙ zip_parts (take k.front before)
 
   back_kept : zip (drop (length (map (λ c. c.0) before) - k.back) (map (λ c. c.0) before)) (drop (length now - k.back) now)
@@ -104,8 +78,8 @@ module _ (before : List Command) (now : List (List ℕ)) (next : ℕ)
       ap (λ ys. zip (drop (length (map (λ c. c.0) before) - k.back) (map (λ c. c.0) before)) ys) (sym same)
       ∙ ap (λ n. zip (drop (n - k.back) (map (λ c. c.0) before)) (drop (length (map (λ c. c.1) before) - k.back) (map (λ c. c.1) before))) ids_long
       ∙ ap (λ n. zip (drop (length before - k.back) (map (λ c. c.0) before)) (drop (n - k.back) (map (λ c. c.1) before))) sources_long
-      ∙ ap (λ xs. zip xs (drop (length before - k.back) (map (λ c. c.1) before))) (drop_map (λ c. c.0) (length before - k.back) before)
-      ∙ ap (λ ys. zip (map (λ c. c.0) (drop (length before - k.back) before)) ys) (drop_map (λ c. c.1) (length before - k.back) before)
+      ∙ ap (λ xs. zip xs (drop (length before - k.back) (map (λ c. c.1) before))) (drop-map (λ c. c.0) (length before - k.back) before)
+      ∙ ap (λ ys. zip (map (λ c. c.0) (drop (length before - k.back) before)) ys) (drop-map (λ c. c.1) (length before - k.back) before)
       ∙ zip_parts (drop (length before - k.back) before)
 
   -- the commands now: those of the front, new ones, and those of the back

@@ -1,12 +1,12 @@
 -- The node that is found under a name: its commands, their ids, its header.
-use Rattle.std.proofs.Common.{◌≡◌, ℕ, zero, suc, ◌<◌, Bool, true, false, cond, List, [], ◌∷◌, ◌++◌, length, map, Some, None, refl, sym, ap, subst, ◌∙◌}
-use Rattle.std.proofs.lemmas.Bool.{false≢true, ltb-false}
-use Rattle.std.proofs.lemmas.List.Folds.{find_at}
-use Rattle.std.proofs.lemmas.Option.{slice_get_past}
-use Rattle.std.specs.Prelude.{slice_get, nat_lt, find}
-use Rattle.std.specs.List.{AllByRecursion, position, position_or_len}
+use Rattle.std.proofs.Common.{◌≡◌, ℕ, zero, suc, ◌<◌, Bool, true, false, cond, List, [], ◌∷◌, ◌++◌, map, Some, refl, sym, ap, subst, ◌∙◌}
+use Rattle.std.proofs.lemmas.Bool.{false≢true}
+use Rattle.std.specs.Prelude.{slice_get, find}
+use Rattle.std.specs.List.{AllByRecursion}
 use Rattle.std.specs.Option.{option_map, option_and_then}
+use Rattle.text_words.proofs.KnownLists.{position_found}
 use Rattle.import_rounds.specs.Rounds.{has}
+use Rattle.import_rounds.proofs.KnownHas.{has_itself, has_left, has_right}
 use Rattle.shared_map.specs.Pairs.{found, has_key}
 use Rattle.doc_nodes.specs.declared.node.Entry.{Entry}
 use Rattle.doc_nodes.specs.declared.node.Node.{Node}
@@ -15,20 +15,12 @@ use Rattle.doc_nodes.specs.Imports.{NodeList, place_of}
 use Rattle.exec_rules.specs.declared.version.Version.{Version}
 use Rattle.core_rules.specs.Assigned.{command_ids}
 use Rattle.core_rules.specs.Updates.{AllDiffer, node_in}
+use Rattle.core_rules.proofs.KnownCommands.{differ_front, differ_back}
 use Rattle.buffer_rules.specs.Cuts.{source}
 use Rattle.buffer_rules.specs.Numbers.{Command}
 use Rattle.buffer_rules.specs.Preparing.{Buffer}
 use Rattle.buffer_laws.specs.Known.{AreBelow, HasOwnHeader}
-use Rattle.buffer_laws.proofs.Members.{has_itself, has_left, has_right, differ_first, differ_last, below_of}
-
--- the node of a name, as the core and as the buffer look for it
-position_found : {A : Type 0} (p : A → Bool) (xs : List A) → option_and_then (slice_get xs) (position p xs) ≡ find p xs
-position_found p xs = go (nat_lt (position_or_len p xs) (length xs)) refl
-  where
-    go : (b : Bool) → nat_lt (position_or_len p xs) (length xs) ≡ b
-        → option_and_then (slice_get xs) (cond b (Some (position_or_len p xs)) None) ≡ find p xs
-    go true e = sym (find_at p xs)
-    go false e = sym (find_at p xs ∙ slice_get_past xs (position_or_len p xs) (ltb-false (position_or_len p xs) (length xs) e))
+use Rattle.buffer_laws.proofs.Members.{below_of}
 
 pub node_found : (version : Version) (nodes : NodeList) (name : List ℕ) → version.nodes ≡ nodes → node_in version name ≡ found in_order name nodes
 node_found version nodes name same =
@@ -74,7 +66,7 @@ module _ (b : Buffer) where
   found_node [] name node differ below headers e = absurd (cc)
   found_node (n ∷ ns) name node differ below headers e =
       go (has_key in_order name n) e
-      (λ later. found_node ns name node (differ_last (map (λ (x : Entry). x.command) n.1.entries) (command_ids ns) differ)
+      (λ later. found_node ns name node (differ_back (map (λ (x : Entry). x.command) n.1.entries) (command_ids ns) differ)
       (below_last n.1.entries below) headers.1 later)
     where
       below_last : (es : List Entry) → AreBelow b.next (map (λ (x : Entry). x.command) es ++ command_ids ns) → AreBelow b.next (command_ids ns)
@@ -87,7 +79,7 @@ module _ (b : Buffer) where
       go true e later =
           let same : n.1 ≡ node = cc in
           subst (IsNodeOf b) same (record {
-            differ = differ_first (map (λ (x : Entry). x.command) n.1.entries) (command_ids ns) differ;
+            differ = differ_front (map (λ (x : Entry). x.command) n.1.entries) (command_ids ns) differ;
             below = λ i x at. below_of b.next (map (λ (z : Entry). z.command) n.1.entries ++ command_ids ns) x.command below
                 (has_left (map (λ (z : Entry). z.command) n.1.entries) (command_ids ns) x.command (has_at n.1.entries i x at));
             header = headers.0;

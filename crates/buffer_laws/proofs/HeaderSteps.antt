@@ -13,6 +13,7 @@ use Rattle.outer_tokens.specs.declared.kind.Kind.TheVariants as kind
 use Rattle.outer_tokens.specs.declared.stage.Stage.{Stage}
 use Rattle.outer_tokens.specs.declared.stage.Stage.TheVariants.{Start, Theory, Name, Imports, Import, Keywords, PairName, Equals, Pair, Ended, Absent}
 use Rattle.outer_tokens.specs.declared.token.Token.{Token}
+use Rattle.outer_tokens.proofs.KnownStages.{kind-command}
 
 -- nothing of a header has been read
 abbrev pub is_start : Stage → Bool
@@ -60,10 +61,6 @@ command_word Pair x on = refl
 command_word Ended x on = absurd (false≢true (sym on.1))
 command_word Absent x on = refl
 
-kind_command : (k : Kind) → is_command k ≡ true → k ≡ kind.Command
-kind_command kind.Command e = refl
-kind_command _ e = cc
-
 module _ (text : List ℕ) where
   -- an improper token changes nothing
   pub improper_stays : (t : Token) (s : Stage) → is_proper t.kind ≡ false → after_token text s t ≡ s
@@ -90,7 +87,7 @@ module _ (text : List ℕ) where
 
   command_ends : (c : Token) (s : Stage) (ts : List Token) → is_command c.kind ≡ true → IsOn s → end_from text s (c ∷ ts) ≡ None
   command_ends c s ts e on =
-      let is : c.kind ≡ kind.Command = kind_command c.kind e in
+      let is : c.kind ≡ kind.Command = kind-command c.kind e in
       let next : after_token text s c ≡ Absent =
       ap (λ k. if is_proper k then after_word s (k, text_of text c) else s) is ∙ command_word s (text_of text c) on in
       ap (λ q. if is_ended q then Some c.range.stop else end_from text q ts) next ∙ absent_none ts

@@ -12,23 +12,10 @@ use Rattle.outer_tokens.specs.declared.kind.Kind.{Kind}
 use Rattle.outer_tokens.specs.declared.row.Row.{Row}
 use Rattle.outer_tokens.specs.declared.row.Row.TheVariants.{Space, Enclosed, Error, Symbol, LongIdent, Word, Sym}
 use Rattle.outer_tokens.specs.declared.stage.Stage.{Stage}
-use Rattle.outer_tokens.specs.declared.stage.Stage.TheVariants.{Start, Theory, Name, Imports, Import, Keywords, PairName, Equals, Pair, Ended, Absent}
+use Rattle.outer_tokens.specs.declared.stage.Stage.TheVariants.{Start}
 use Rattle.outer_tokens.specs.declared.token.Token.{Token}
 use Rattle.outer_tokens.proofs.KnownKept.{renamed-token, renamed-range}
-use Rattle.outer_tokens.proofs.KnownLexing.{AreStaged, all-tokens, same-tokens}
-
-none_given : (s : Stage) (aliases : List (List ℕ)) → is_ended s ≡ false → given s aliases ≡ []
-none_given Start aliases on = refl
-none_given Theory aliases on = refl
-none_given Name aliases on = refl
-none_given Imports aliases on = refl
-none_given Import aliases on = refl
-none_given Keywords aliases on = refl
-none_given PairName aliases on = refl
-none_given Equals aliases on = refl
-none_given Pair aliases on = refl
-none_given Ended aliases on = absurd (false≢true (sym on))
-none_given Absent aliases on = refl
+use Rattle.outer_tokens.proofs.KnownLexing.{AreStaged, all-tokens, same-tokens, given-none}
 
 -- a word's kind is that of a word
 word_kind : (names : List ℕ → Bool) (row : Row) (s : List ℕ) (k : Kind) → k ≡ kind_of names row s → is_word k ≡ true → kind_of names Word s ≡ k
@@ -69,7 +56,7 @@ module _ (aliases : List (List ℕ)) (text : List ℕ) where
       → end_from text s (map base ts) ≡ end_from text s ts
   same_read [] s from to on is = refl
   same_read (t ∷ ts) s from to on ((start, token), rest) =
-      let plain : is_in_force (given s aliases) ≡ is_in_force [] = ap is_in_force (none_given s aliases on) in
+      let plain : is_in_force (given s aliases) ≡ is_in_force [] = ap is_in_force (given-none s aliases on) in
       let unaliased : IsToken (is_in_force []) text t = subst (λ names. IsToken names text t) plain token in
       ap (λ u. end_from text s (u ∷ map base ts)) (itself (is_in_force []) text t unaliased)
       ∙ go (is_ended (after_token text s t)) refl

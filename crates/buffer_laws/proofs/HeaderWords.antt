@@ -3,7 +3,7 @@ use Rattle.std.proofs.Common.{◌≡◌, ℕ, ◌+◌, ◌-◌, true, false, Lis
 use Rattle.std.proofs.lemmas.Bool.{false≢true}
 use Rattle.std.proofs.lemmas.List.{length-append, length-map, take-append-le}
 use Rattle.std.specs.Prelude.{if◌then◌else◌}
-use Rattle.std.specs.List.{AllByRecursion}
+use Rattle.std.specs.List.{AllByRecursion, take-map}
 use Rattle.outer_tokens.specs.Headings.{Heading, IsHeading, Word, words, proper}
 use Rattle.outer_tokens.specs.Kinds.{is_proper}
 use Rattle.outer_tokens.specs.Renaming.{is_word}
@@ -14,7 +14,6 @@ use Rattle.outer_tokens.specs.declared.kind.Kind.TheVariants as kind
 use Rattle.outer_tokens.specs.declared.row.Row.TheVariants as row
 use Rattle.outer_tokens.specs.declared.token.Token.{Token}
 use Rattle.buffer_laws.proofs.BareTexts.{IsImproper}
-use Rattle.buffer_laws.proofs.CommandLists.{take_map}
 use Rattle.buffer_laws.proofs.HeaderTokens.{base}
 
 no_word : (k : Kind) → is_proper k ≡ false → is_word k ≡ false
@@ -47,7 +46,7 @@ heading_on one other xs ys more h n same is =
     let both : length (words other ys) ≡ length (words one xs) + length more = ap length same ∙ length-append (words one xs) more in
     record {
       within = omega (arith, is.within, long, other_long, both);
-      spelled = sym (take_map (λ (t : Token). (t.kind, text_of other t)) n ys) ∙ ap (take n) same
+      spelled = sym (take-map (λ (t : Token). (t.kind, text_of other t)) n ys) ∙ ap (take n) same
           ∙ take-append-le n (words one xs) more (omega (arith, is.within, long))
-          ∙ take_map (λ (t : Token). (t.kind, text_of one t)) n xs ∙ is.spelled;
+          ∙ take-map (λ (t : Token). (t.kind, text_of one t)) n xs ∙ is.spelled;
     }

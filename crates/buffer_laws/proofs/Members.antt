@@ -1,35 +1,13 @@
 -- Lists in which no number comes twice.
 use Rattle.std.proofs.Common.{◌≡◌, ◌≢◌, ◌⊎◌, ℕ, zero, suc, ◌+◌, ◌<◌, ◌≤◌, Bool, true, false, ◌||◌, List, [], ◌∷◌, ◌++◌, take, drop, refl, sym, ap, ◌∙◌, arith}
-use Rattle.std.proofs.lemmas.Bool.{eqb-true, eq-eqb, false≢true, or_parts, or_cases}
+use Rattle.std.proofs.lemmas.Bool.{eqb-true, false≢true, or_cases, or_from, or_right, false_from_ne_true}
 use Rattle.std.proofs.lemmas.List.{take-append-drop}
 use Rattle.std.specs.Prelude.{◌==◌}
 use Rattle.std.specs.List.{range_with_len}
 use Rattle.import_rounds.specs.Rounds.{has}
-use Rattle.import_rounds.proofs.KnownRounds.{has_both}
+use Rattle.import_rounds.proofs.KnownHas.{has_both, has_itself, has_left, has_right}
 use Rattle.core_rules.specs.Updates.{AllDiffer}
 use Rattle.buffer_laws.specs.Known.{AreBelow}
-
-pub has_itself : (xs : List ℕ) (z : ℕ) → has (z ∷ xs) z ≡ true
-has_itself xs z = ap (λ b. b || has xs z) (eq-eqb z z refl)
-
-or_left : (a b : Bool) → a ≡ true → (a || b) ≡ true
-or_left true b e = refl
-or_left false b e = absurd (false≢true e)
-
-or_right : (a b : Bool) → b ≡ true → (a || b) ≡ true
-or_right true b e = refl
-or_right false b e = e
-
-neither : (a b : Bool) → a ≡ false → b ≡ false → (a || b) ≡ false
-neither true b e f = absurd (false≢true (sym e))
-neither false b e f = f
-
--- what one of two lists has, both together have
-pub has_left : (xs ys : List ℕ) (z : ℕ) → has xs z ≡ true → has (xs ++ ys) z ≡ true
-has_left xs ys z h = has_both xs ys z ∙ or_left (has xs z) (has ys z) h
-
-pub has_right : (xs ys : List ℕ) (z : ℕ) → has ys z ≡ true → has (xs ++ ys) z ≡ true
-has_right xs ys z h = has_both xs ys z ∙ or_right (has xs z) (has ys z) h
 
 pub has_cases : (xs ys : List ℕ) (z : ℕ) → has (xs ++ ys) z ≡ true → (has xs z ≡ true) ⊎ (has ys z ≡ true)
 has_cases xs ys z h = or_cases (has xs z) (has ys z) (sym (has_both xs ys z) ∙ h)
@@ -44,25 +22,12 @@ has_drop n xs z h = ap (λ ys. has ys z) (sym (take-append-drop n xs)) ∙ has_r
 abbrev pub AreApart : List ℕ → List ℕ → Type 0
 AreApart xs ys = (z : ℕ) → has xs z ≡ true → has ys z ≡ true → ⊥
 
-none_by : (b : Bool) → (b ≢ true) → b ≡ false
-none_by true never = absurd (never refl)
-none_by false never = refl
-
 pub differ_join : (xs ys : List ℕ) → AllDiffer xs → AllDiffer ys → AreApart xs ys → AllDiffer (xs ++ ys)
 differ_join [] ys one other apart = other
 differ_join (x ∷ xs) ys one other apart = (
-  has_both xs ys x ∙ neither (has xs x) (has ys x) one.0 (none_by (has ys x) (apart x (has_itself xs x))),
+  has_both xs ys x ∙ or_from (has xs x) (has ys x) one.0 (false_from_ne_true (has ys x) (apart x (has_itself xs x))),
   differ_join xs ys one.1 other (λ z h. apart z (or_right (z == x) (has xs z) h)),
 )
-
-pub differ_first : (xs ys : List ℕ) → AllDiffer (xs ++ ys) → AllDiffer xs
-differ_first [] ys all = tt
-differ_first (x ∷ xs) ys all =
-    ((or_parts (has xs x) (has ys x) (sym (has_both xs ys x) ∙ all.0)).0, differ_first xs ys all.1)
-
-pub differ_last : (xs ys : List ℕ) → AllDiffer (xs ++ ys) → AllDiffer ys
-differ_last [] ys all = all
-differ_last (x ∷ xs) ys all = differ_last xs ys all.1
 
 pub apart_of : (xs ys : List ℕ) → AllDiffer (xs ++ ys) → AreApart xs ys
 apart_of [] ys all z h k = false≢true h
@@ -86,7 +51,7 @@ in_range n (suc k) z h = go (z == n) refl h (λ later. in_range (n + 1) k z late
 pub range_differs : (n k : ℕ) → AllDiffer (range_with_len n k)
 range_differs n zero = tt
 range_differs n (suc k) =
-    (none_by (has (range_with_len (n + 1) k) n) (λ h. let past = in_range (n + 1) k n h in omega (arith, past.0)), range_differs (n + 1) k)
+    (false_from_ne_true (has (range_with_len (n + 1) k) n) (λ h. let past = in_range (n + 1) k n h in omega (arith, past.0)), range_differs (n + 1) k)
 
 -- what is among numbers below n is below it
 pub below_of : (n : ℕ) (xs : List ℕ) (z : ℕ) → AreBelow n xs → has xs z ≡ true → z < n

@@ -3,11 +3,13 @@ use Rattle.std.proofs.Common.{◌≡◌, ◌⊎◌, inl, inr, ℕ, ◌+◌, ◌-
 use Rattle.std.proofs.lemmas.List.{length-map}
 use Rattle.std.specs.List.{range_with_len}
 use Rattle.import_rounds.specs.Rounds.{has}
+use Rattle.import_rounds.proofs.KnownHas.{has_left}
 use Rattle.core_rules.specs.Updates.{AllDiffer}
+use Rattle.core_rules.proofs.KnownCommands.{differ_front, differ_back}
 use Rattle.buffer_rules.specs.Numbers.{Command, kept, ids_of, new_count, IsLongestKept}
 use Rattle.buffer_laws.specs.Known.{AreBelow}
 use Rattle.buffer_laws.proofs.CommandLists.{room_old, in_three}
-use Rattle.buffer_laws.proofs.Members.{AreApart, has_cases, has_take, has_drop, has_left, differ_join, differ_first, differ_last, apart_of, in_range, range_differs, below_of}
+use Rattle.buffer_laws.proofs.Members.{AreApart, has_cases, has_take, has_drop, differ_join, apart_of, in_range, range_differs, below_of}
 
 module _ (before : List Command) (now : List (List ℕ)) (next : ℕ)
     (so : IsLongestKept (map (λ c. c.1) before) now (kept (map (λ c. c.1) before) now)) where
@@ -47,10 +49,10 @@ module _ (before : List Command) (now : List (List ℕ)) (next : ℕ)
         let middle = take (length olds - f - b) (drop f olds) in
         let ends : AreApart (first ++ middle) last = apart_of (first ++ middle) last split in
         let fronts : AllDiffer (first ++ range_with_len next count) =
-        differ_join first (range_with_len next count) (differ_first first middle (differ_first (first ++ middle) last split)) (range_differs next count)
+        differ_join first (range_with_len next count) (differ_front first middle (differ_front (first ++ middle) last split)) (range_differs next count)
         (λ z h g. let low = below_of next olds z below (has_take f olds z h) in let high = in_range next count z g in omega (arith, low, high.0))
         in
-        differ_join (first ++ range_with_len next count) last fronts (differ_last (first ++ middle) last split)
+        differ_join (first ++ range_with_len next count) last fronts (differ_back (first ++ middle) last split)
         (λ z h g. ⊎_elim (λ early. ends z (has_left first middle z early) g)
         (λ new. let low = below_of next olds z below (has_drop (length olds - b) olds z g) in let high = in_range next count z new in omega (arith, low, high.0))
         (has_cases first (range_with_len next count) z h))

@@ -6,19 +6,21 @@ use Rattle.std.specs.Prelude.{find}
 use Rattle.std.specs.Ordering.{is_eq}
 use Rattle.std.specs.declared.cmp.Ordering.TheVariants.{Less}
 use Rattle.import_rounds.specs.Rounds.{has}
+use Rattle.import_rounds.proofs.KnownHas.{has_left, has_right}
 use Rattle.shared_map.specs.Pairs.{has_key, Each}
 use Rattle.doc_nodes.specs.declared.node.Entry.{Entry}
 use Rattle.doc_nodes.specs.declared.node.Node.{Node}
 use Rattle.doc_nodes.specs.Names.{in_order, equal}
 use Rattle.doc_nodes.specs.Imports.{NodeList}
-use Rattle.exec_rules.proofs.KnownNames.{name_is}
+use Rattle.doc_nodes.proofs.KnownNames.{name_is}
 use Rattle.core_rules.specs.Assigned.{command_ids}
 use Rattle.core_rules.specs.Updates.{AllDiffer}
+use Rattle.core_rules.proofs.KnownCommands.{differ_front, differ_back}
 use Rattle.buffer_rules.specs.Cuts.{source, commands_of}
 use Rattle.buffer_rules.specs.Numbers.{Command}
 use Rattle.buffer_rules.specs.Nodes.{before_in}
 use Rattle.buffer_rules.specs.Sheets.{SheetList}
-use Rattle.buffer_laws.proofs.Members.{AreApart, has_left, has_right, differ_first, differ_last, apart_of}
+use Rattle.buffer_laws.proofs.Members.{AreApart, apart_of}
 
 -- the ids that the node of a name had
 abbrev pub ids_before : NodeList → List ℕ → List ℕ
@@ -47,10 +49,10 @@ cut_at q name node tip = go (is_eq (in_order q name))
 pub own_differ : (tip : NodeList) (name : List ℕ) → AllDiffer (command_ids tip) → AllDiffer (ids_before tip name)
 own_differ [] name all = tt
 own_differ ((q, node) ∷ tip) name all =
-    subst AllDiffer (sym (cut_at q name node tip)) (go (is_eq (in_order q name)) (own_differ tip name (differ_last (map (λ e. e.command) node.entries) (command_ids tip) all)))
+    subst AllDiffer (sym (cut_at q name node tip)) (go (is_eq (in_order q name)) (own_differ tip name (differ_back (map (λ e. e.command) node.entries) (command_ids tip) all)))
   where
     go : (b : Bool) → AllDiffer (ids_before tip name) → AllDiffer (ids_by b node (ids_before tip name))
-    go true rest = subst AllDiffer (sym (ids_of_node node)) (differ_first (map (λ e. e.command) node.entries) (command_ids tip) all)
+    go true rest = subst AllDiffer (sym (ids_of_node node)) (differ_front (map (λ e. e.command) node.entries) (command_ids tip) all)
     go false rest = rest
 
 -- what the node of a name had is among all
@@ -70,7 +72,7 @@ one_owner [] m n all other z h k = false≢true h
 one_owner ((q, node) ∷ tip) m n all other z h k =
     go (is_eq (in_order q m)) (is_eq (in_order q n)) refl refl
     (sym (ap (λ xs. has xs z) (cut_at q m node tip)) ∙ h) (sym (ap (λ xs. has xs z) (cut_at q n node tip)) ∙ k)
-    (one_owner tip m n (differ_last (map (λ e. e.command) node.entries) (command_ids tip) all) other z)
+    (one_owner tip m n (differ_back (map (λ e. e.command) node.entries) (command_ids tip) all) other z)
   where
     apart : AreApart (map (λ e. e.command) node.entries) (command_ids tip)
     apart = apart_of (map (λ e. e.command) node.entries) (command_ids tip) all

@@ -1,17 +1,17 @@
 -- What edits make of texts, as a function and as a relation.
 use Rattle.std.proofs.Common.{◌≡◌, ℕ, ◌+◌, ◌≤◌, Bool, true, false, not, if◌then◌else◌, List, [], ◌∷◌, ◌++◌, length, take, drop, sym, refl, ap, ◌∙◌, subst, arith, Result, Ok, Err, ◌↔◌}
-use Rattle.std.proofs.lemmas.Bool.{both_ways, cond-false, ltb-false, le-ltb}
+use Rattle.std.proofs.lemmas.Bool.{cond-false, ltb-false, le-ltb, not-false}
 use Rattle.std.proofs.lemmas.List.{take-append-drop, drop-drop, append_assoc, length-append, length-take-le}
 use Rattle.std.proofs.Math.Seq.{take-append_seam, drop-append_seam}
 use Rattle.text_edits.specs.declared.edit.Edit.{Edit}
 use Rattle.text_edits.specs.declared.edit.Edit.TheVariants.{Insert, Remove}
 use Rattle.text_edits.specs.Edits.{Applies, AppliesList}
 use Rattle.doc_nodes.specs.Names.{equal}
+use Rattle.doc_nodes.proofs.KnownNames.{name_is, name_itself}
 use Rattle.message_values.specs.declared.refusal.Refusal.{Refusal}
 use Rattle.message_values.specs.declared.refusal.Refusal.TheVariants.{EditOutOfRange, RemoveDiffers}
 use Rattle.buffer_rules.specs.Trying.{◌>>=◌}
 use Rattle.buffer_rules.specs.Texts.{is_out_of_range, differs, edited, edit_once, edit_all}
-use Rattle.buffer_rules.proofs.NumberLaws.{equal_so, equal_self}
 
 -- what is there where there was no refusal
 abbrev taken : List ℕ → Result (List ℕ) Refusal → List ℕ
@@ -44,10 +44,6 @@ makes edit text after m =
     ∙ cond-false (differs edit text) (Err RemoveDiffers) (Ok (edited edit text)) m.agrees
     ∙ ap Ok m.gives
 
-not_false : (b : Bool) → not b ≡ false → b ≡ true
-not_false true e = refl
-not_false false e = absurd (both_ways false refl (sym e))
-
 -- what is made is what the edit says
 pub applies : (edit : Edit) (text after : List ℕ) → IsMade edit text after → Applies edit text after
 applies (Insert start x) text after m =
@@ -61,7 +57,7 @@ applies (Insert start x) text after m =
 applies (Remove start x) text after m =
     let within : start + length x ≤ length text = ltb-false (length text) (start + length x) m.reaches in
     let there : x ≡ take (length x) (drop start text) =
-    equal_so x (take (length x) (drop start text)) (not_false _ m.agrees) in
+    name_is x (take (length x) (drop start text)) (not-false _ m.agrees) in
     let rest : drop start text ≡ x ++ drop (start + length x) text =
     sym (take-append-drop (length x) (drop start text))
     ∙ ap (λ y. y ++ drop (length x) (drop start text)) (sym there)
@@ -92,7 +88,7 @@ removes x p q =
     record {
       reaches = le-ltb (length (p ++ x ++ q)) (length p + length x)
           (omega (arith, length-append (p ++ x) q, length-append p x));
-      agrees = ap not (ap (λ y. equal x y) (ap (take (length x)) inner ∙ take-append_seam x q) ∙ equal_self x);
+      agrees = ap not (ap (λ y. equal x y) (ap (take (length x)) inner ∙ take-append_seam x q) ∙ name_itself x);
       gives = ap (λ front. front ++ drop (length p + length x) (p ++ x ++ q))
           (ap (take (length p)) (append_assoc p x q) ∙ take-append_seam p (x ++ q))
           ∙ ap (λ back. p ++ back) (sym (drop-drop (length x) (length p) (p ++ x ++ q))

@@ -1,17 +1,9 @@
 -- How many commands keep their ids, and which ids there are.
 use Rattle.std.proofs.Common.{◌≡◌, ℕ, zero, suc, ◌≤◌, Bool, true, false, List, [], ◌∷◌, length, take, drop, reverse, sym, refl, ap, ◌∙◌, subst, arith}
-use Rattle.std.proofs.lemmas.Slice.Eq.{bytes_eq-Decides}
-use Rattle.std.proofs.lemmas.Map.Text.{is_eq-slice_cmp}
 use Rattle.std.proofs.lemmas.Bool.{both_ways, cond-true, cond-false}
 use Rattle.doc_nodes.specs.Names.{equal}
+use Rattle.doc_nodes.proofs.KnownNames.{name_is, name_itself}
 use Rattle.buffer_rules.specs.Numbers.{equal_front, kept, IsLongestFront, IsLongestKept}
-
--- names that test as equal are
-pub equal_so : (xs ys : List ℕ) → equal xs ys ≡ true → xs ≡ ys
-equal_so xs ys e = grind (arith, bytes_eq-Decides xs ys, is_eq-slice_cmp xs ys)
-
-pub equal_self : (xs : List ℕ) → equal xs xs ≡ true
-equal_self xs = grind (arith, bytes_eq-Decides xs xs, is_eq-slice_cmp xs xs)
 
 abbrev head_of : List ℕ → List (List ℕ) → List ℕ
 head_of d [] = d
@@ -46,7 +38,7 @@ no_more x y xs ys other = record {
   none : (m : ℕ) → m ≤ length (x ∷ xs) → m ≤ length (y ∷ ys) → take m (x ∷ xs) ≡ take m (y ∷ ys) → m ≤ 0
   none zero in_xs in_ys e = omega arith
   none (suc m) in_xs in_ys e =
-      absurd (both_ways (equal x y) other (ap (equal x) (sym (ap (head_of x) e)) ∙ equal_self x))
+      absurd (both_ways (equal x y) other (ap (equal x) (sym (ap (head_of x) e)) ∙ name_itself x))
 
 -- the front that is found is the longest
 pub longest : (xs ys : List (List ℕ)) → IsLongestFront xs ys (equal_front xs ys)
@@ -66,7 +58,7 @@ longest (x ∷ xs) (y ∷ ys) = go (longest xs ys) (equal x y) refl where
   go more true here =
       subst (IsLongestFront (x ∷ xs) (y ∷ ys))
       (sym (cond-true (equal x y) (suc (equal_front xs ys)) 0 here))
-      (one_more x y xs ys (equal_front xs ys) (equal_so x y here) more)
+      (one_more x y xs ys (equal_front xs ys) (name_is x y here) more)
   go more false here =
       subst (IsLongestFront (x ∷ xs) (y ∷ ys))
       (sym (cond-false (equal x y) (suc (equal_front xs ys)) 0 here))

@@ -1,19 +1,16 @@
 -- Chunks are the bytes cut at their lengths.
 use Rattle.std.proofs.Common.{◌≡◌, ℕ, ◌+◌, ◌≤◌, List, [], ◌∷◌, ◌++◌, length, take, drop, map, sum, refl, arith, append_assoc}
 use Rattle.std.proofs.lemmas.List.{length-append, take-append-drop, length-take-le, length-drop}
-use Rattle.std.proofs.lemmas.List.Sums.{sum_by-cons}
 use Rattle.std.specs.List.{concat}
 use Rattle.std.proofs.Math.Seq.{drop-append_seam, take-append_seam}
+use Rattle.text_words.proofs.KnownLists.{sum_cons}
 use Rattle.byte_message.specs.Chunks.{cut}
-
-pub sum-cons : (n : ℕ) (ns : List ℕ) → sum (n ∷ ns) ≡ n + sum ns
-sum-cons n ns = sum_by-cons (λ (x : ℕ). x) n ns
 
 pub lengths-cut : (lengths bytes : List ℕ) → sum lengths ≤ length bytes → map length (cut lengths bytes) ≡ lengths
 lengths-cut [] bytes h = refl
 lengths-cut (n ∷ lengths) bytes h =
     let d = length-drop n bytes in
-    let s = sum-cons n lengths in
+    let s = sum_cons n lengths in
     let t : length (take n bytes) ≡ n = length-take-le n bytes (omega arith) in
     let ih = lengths-cut lengths (drop n bytes) (omega arith) in
     cc
@@ -23,7 +20,7 @@ concat-cut [] [] h = refl
 concat-cut [] (b ∷ bytes) h = absurd (omega arith)
 concat-cut (n ∷ lengths) bytes h =
     let d = length-drop n bytes in
-    let s = sum-cons n lengths in
+    let s = sum_cons n lengths in
     let ih = concat-cut lengths (drop n bytes) (omega arith) in
     let whole = take-append-drop n bytes in
     cc
@@ -39,7 +36,7 @@ cut-concat (chunk ∷ chunks) x =
 
 pub sum-lengths : (chunks : List (List ℕ)) → sum (map length chunks) ≡ length (concat chunks)
 sum-lengths [] = refl
-sum-lengths (chunk ∷ chunks) = let s = sum-cons (length chunk) (map length chunks) in let ih = sum-lengths chunks in let l = length-append chunk (concat chunks) in omega arith
+sum-lengths (chunk ∷ chunks) = let s = sum_cons (length chunk) (map length chunks) in let ih = sum-lengths chunks in let l = length-append chunk (concat chunks) in omega arith
 
 pub length_cut : (lengths bytes : List ℕ) → length (cut lengths bytes) ≡ length lengths
 length_cut [] bytes = refl

@@ -1,6 +1,7 @@
 -- Each stream has a reading, and more bytes only add messages to it.
 use Rattle.std.proofs.Common.{◌≡◌, ℕ, zero, suc, ◌+◌, ◌<◌, ◌≤◌, List, [], ◌∷◌, ◌++◌, length, take, drop, sum, Option, None, Some, Result, Ok, Err, ◌⊎◌, inl, inr, refl, ap, sym, ◌∙◌, arith, append_assoc, subst}
 use Rattle.std.proofs.lemmas.List.{length-append, take-append-drop, length-take-le}
+use Rattle.std.proofs.lemmas.Bool.{cases_lt}
 use Rattle.byte_message.specs.Chunks.{cut}
 use Rattle.byte_message.specs.Line.{judge}
 use Rattle.byte_message.specs.Heading.{Heading, heading, heading_of, judged, line_of, after_line}
@@ -65,16 +66,6 @@ reads-more place bytes first after m e one r =
       ends = subst (λ (p : ℕ). EndsAs p r.rest r.ending) at r.ends;
     }
 
-less_or : (a b : ℕ) → (a < b) ⊎ (b ≤ a)
-less_or zero zero = inr (omega arith)
-less_or zero (suc b) = inl (omega arith)
-less_or (suc a) zero = inr (omega arith)
-less_or (suc a) (suc b) = step (less_or a b)
-  where
-    step : (a < b) ⊎ (b ≤ a) → (suc a < suc b) ⊎ (suc b ≤ suc a)
-    step (inl e) = inl (omega arith)
-    step (inr e) = inr (omega arith)
-
 -- by how many bytes there may be
 reads-within : (most place : ℕ) (bytes : List ℕ) → length bytes < most → Reads place bytes
 reads-within zero place bytes few = absurd (omega arith)
@@ -97,7 +88,7 @@ reads-within (suc most) place bytes few = by_heading (λ at after less. reads-wi
         reads-more place bytes (h.0 ++ chunks) after (cut ls chunks) parts one (on (place + length (h.0 ++ chunks)) after (omega arith))
 
     by_heading : ((at : ℕ) (after : List ℕ) → length after < most → Reads at after) → (h : Heading) → heading bytes ≡ h → Reads place bytes
-    by_heading on (Fit ls body) e = by_body on ls body e (less_or (length body) (sum ls))
+    by_heading on (Fit ls body) e = by_body on ls body e (cases_lt (length body) (sum ls))
     by_heading on (Faulty wrong) e = reads-none place bytes (Bad (placed (told place) wrong)) (wrong, e, refl)
     by_heading on Unended e = reads-short place bytes (inl e)
 

@@ -5,7 +5,7 @@ use Rattle.std.proofs.lemmas.Fmt.{digits_decimal, digits_value-decimal, decimal_
 use Rattle.std.proofs.lemmas.Str.Parse.{IsNumeralModel, numerals_by_fold}
 use Rattle.std.specs.Fmt.{decimal}
 use Rattle.std.specs.List.{AllByRecursion, join_with_byte, list_all}
-use Rattle.text_words.proofs.KnownTests.{both-parts}
+use Rattle.std.proofs.lemmas.Bool.{and_parts}
 use Rattle.byte_message.specs.Line.{is_digit, is_numeral, value_on, onto_first, between_commas, numbers}
 
 own : IsNumeralModel (λ ds. list_all is_digit ds ≡ true) (value_on 0)
@@ -22,7 +22,7 @@ digit_range b e = (grind (arith, e), grind (arith, e))
 one_field : (ds : List ℕ) → list_all is_digit ds ≡ true → between_commas ds ≡ ds ∷ []
 one_field [] e = refl
 one_field (d ∷ ds) e =
-    let p = both-parts (is_digit d) (list_all is_digit ds) e in
+    let p = and_parts (is_digit d) (list_all is_digit ds) e in
     let r = digit_range d p.0 in
     let no : (d == 44) ≡ false = grind (arith, r.0) in
     rw no (ap (λ x. onto_first d x) (one_field ds p.1))
@@ -31,7 +31,7 @@ one_field (d ∷ ds) e =
 more_fields : (ds t : List ℕ) → list_all is_digit ds ≡ true → between_commas (ds ++ 44 ∷ t) ≡ ds ∷ between_commas t
 more_fields [] t e = refl
 more_fields (d ∷ ds) t e =
-    let p = both-parts (is_digit d) (list_all is_digit ds) e in
+    let p = and_parts (is_digit d) (list_all is_digit ds) e in
     let r = digit_range d p.0 in
     let no : (d == 44) ≡ false = grind (arith, r.0) in
     rw no (ap (λ x. onto_first d x) (more_fields ds t p.1))

@@ -2,8 +2,8 @@
 use Rattle.std.proofs.Common.{◌≡◌, ℕ, ◌+◌, ◌-◌, ◌*◌, ◌<◌, ◌≤◌, Bool, true, false, cond, ◌&&◌, ◌==◌, nat_lt, List, [], ◌∷◌, length, map, Option, Some, None, option_map, ◌^◌, refl, ap, sym, ◌∙◌, arith, sum, Ok, Err}
 use Rattle.std.proofs.lemmas.List.{length-map}
 use Rattle.std.specs.List.{list_all}
-use Rattle.byte_message.proofs.Cutting.{sum-cons}
 use Rattle.std.specs.Option.{unwrap_or}
+use Rattle.text_words.proofs.KnownLists.{sum_cons}
 use Rattle.byte_message.specs.Line.{is_digit, is_numeral, value_on, onto_first, between_commas, numbers, too_long, judge_lengths, judge_numbers, judge, without_cr}
 use Rattle.byte_message.specs.Scan.{clamp, grown, scan}
 use Rattle.byte_message.specs.declared.line_fault.LineFault.TheVariants.{BadHeader, TooMany}
@@ -102,7 +102,7 @@ fine-sum [] e = omega arith
 fine-sum (n ∷ ns) e =
     let p = first_fine (nat_lt 16777216 n) (too_long ns) e in
     let small : n ≤ 16777216 = grind (arith, p.0) in
-    let s = sum-cons n ns in
+    let s = sum_cons n ns in
     let ih = fine-sum ns p.1 in
     omega arith
 

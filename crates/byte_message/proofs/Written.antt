@@ -3,11 +3,11 @@ use Rattle.std.proofs.Common.{◌≡◌, ℕ, zero, suc, ◌-◌, ◌*◌, ◌�
 use Rattle.std.proofs.lemmas.List.{length-map, length-append}
 use Rattle.std.specs.Fmt.{decimal}
 use Rattle.std.specs.List.{AllByRecursion, concat, join_with_byte, list_all, slice_index_or}
+use Rattle.std.proofs.lemmas.Bool.{and_parts}
 use Rattle.byte_message.specs.Line.{is_digit, too_long, judge, judge_numbers}
 use Rattle.byte_message.specs.Heading.{heading, judged, after_line}
 use Rattle.byte_message.specs.Stream.{IsMessage, IsSpelling, plain_spelling}
 use Rattle.byte_message.proofs.Headings.{heading-line}
-use Rattle.text_words.proofs.KnownTests.{both-parts}
 use Rattle.byte_message.proofs.Numbers.{IsPlain, digit_range, line_for, Fine, digits, numbers-line, line_len}
 
 -- a line that is written has no newline, and no CR at its end
@@ -17,7 +17,7 @@ plain_byte b (inr e) = let r = digit_range b e in (grind (arith, r.0), grind (ar
 
 plain_digits : (ds : List ℕ) → list_all is_digit ds ≡ true → AllByRecursion IsPlain ds
 plain_digits [] e = tt
-plain_digits (d ∷ ds) e = let p = both-parts (is_digit d) (list_all is_digit ds) e in (inr p.0, plain_digits ds p.1)
+plain_digits (d ∷ ds) e = let p = and_parts (is_digit d) (list_all is_digit ds) e in (inr p.0, plain_digits ds p.1)
 
 plain_append : (xs ys : List ℕ) → AllByRecursion IsPlain xs → AllByRecursion IsPlain ys → AllByRecursion IsPlain (xs ++ ys)
 plain_append [] ys p q = q

@@ -1,6 +1,6 @@
 -- Numbers that are read, and values of options.
 use Rattle.std.proofs.Common.{◌≡◌, ℕ, ◌^◌, Bool, true, false, cond, List, [], ◌∷◌, length, Option, Some, None, refl, sym, ap, ◌∙◌}
-use Rattle.std.proofs.lemmas.Bool.{ltb-true, lt-ltb, and_from, false≢true}
+use Rattle.std.proofs.lemmas.Bool.{ltb-true, lt-ltb, and_from, and_parts}
 use Rattle.std.specs.Prelude.{◌&&◌, nat_lt, Result, Ok, Err, option_and_then, codes, slice_get}
 use Rattle.std.specs.Borrow.{Bor}
 use Rattle.std.specs.Option.{option_map, option_map_or}
@@ -12,17 +12,13 @@ use Rattle.clap.proofs.WalkLemmas.{one_text-rows}
 use Rattle.clap.specs.declared.parser.matches.Found.{Found}
 use Rattle.command_words.specs.Asked.{is_digit, number_of, workers_in}
 
-and-parts : (x y : Bool) → (x && y) ≡ true → (x ≡ true) × (y ≡ true)
-and-parts true y e = (refl, e)
-and-parts false y e = absurd (false≢true e)
-
 all_true : (ds : List ℕ) → AllDigits 10 ds → list_all is_digit ds ≡ true
 all_true [] all = refl
 all_true (c ∷ cs) all = and_from (is_digit c) (list_all is_digit cs) (lt-ltb (digit_value c) 10 all.0) (all_true cs all.1)
 
 true_all : (ds : List ℕ) → list_all is_digit ds ≡ true → AllDigits 10 ds
 true_all [] e = tt
-true_all (c ∷ cs) e = let parts = and-parts (is_digit c) (list_all is_digit cs) e in (ltb-true (digit_value c) 10 parts.0, true_all cs parts.1)
+true_all (c ∷ cs) e = let parts = and_parts (is_digit c) (list_all is_digit cs) e in (ltb-true (digit_value c) 10 parts.0, true_all cs parts.1)
 
 -- the test of a number
 abbrev fits : List ℕ → Bool
@@ -47,9 +43,9 @@ read_number {E} t r G only read = go r read
         → None ≡ cond b (Some (digits_value 10 (without_leading_plus t))) None
     no e p false is = refl
     no e p true is =
-        let outer = and-parts (nat_lt 0 (length (without_leading_plus t)) && list_all is_digit (without_leading_plus t))
+        let outer = and_parts (nat_lt 0 (length (without_leading_plus t)) && list_all is_digit (without_leading_plus t))
         (nat_lt (digits_value 10 (without_leading_plus t)) (2 ^ 32)) is in
-        let inner = and-parts (nat_lt 0 (length (without_leading_plus t))) (list_all is_digit (without_leading_plus t)) outer.0 in
+        let inner = and_parts (nat_lt 0 (length (without_leading_plus t))) (list_all is_digit (without_leading_plus t)) outer.0 in
         absurd (p (
           (ltb-true 0 (length (without_leading_plus t)) inner.0, true_all (without_leading_plus t) inner.1),
           ltb-true (digits_value 10 (without_leading_plus t)) (2 ^ 32) outer.1,

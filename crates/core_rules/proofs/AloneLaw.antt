@@ -1,7 +1,6 @@
 -- One worker that always takes the first ready part comes to rest, and has only one way.
 use Rattle.std.proofs.Common.{◌≡◌, ◌⊎◌, inl, inr, ℕ, zero, suc, ◌+◌, ◌≤◌, true, false, cond, ◌&&◌, List, ◌∷◌, length, Option, Some, None, refl, ap, sym, subst, ◌∙◌, arith}
-use Rattle.std.proofs.lemmas.Bool.{eq-eqb}
-use Rattle.text_words.proofs.KnownTests.{both-parts}
+use Rattle.std.proofs.lemmas.Bool.{eq-eqb, and_parts}
 use Rattle.std.specs.Prelude.{◌==◌}
 use Rattle.pide_base.specs.declared.part.Part.{Part}
 use Rattle.language.specs.Lang.{Lang}
@@ -31,7 +30,7 @@ module _ {S : Type 0} (l : Lang S) (who : ℕ) where
 
   listed : (h : List Event) (p : Part) → IsFirst l h p → among (all_parts l (doc l h).homes) p ≡ true
   listed h p first = is_made l (doc l h).homes p
-      (both-parts (is_part l (doc l h).homes p) (is_wanted (doc l h) p.exec
+      (and_parts (is_part l (doc l h).homes p) (is_wanted (doc l h) p.exec
       && (is_free (standing h p) && has_inputs h (doc l h).homes p)) first.ready).0
 
   module _ (h : List Event) where
@@ -79,8 +78,8 @@ module _ {S : Type 0} (l : Lang S) (who : ℕ) where
     step_legal k None e so = so
     step_legal k (Some p) e so =
         let first = given_first l k p e in
-        let wanted = both-parts (is_wanted (doc l k) p.exec) (is_free (standing k p) && has_inputs k (doc l k).homes p)
-        (both-parts (is_part l (doc l k).homes p) (is_wanted (doc l k) p.exec
+        let wanted = and_parts (is_wanted (doc l k) p.exec) (is_free (standing k p) && has_inputs k (doc l k).homes p)
+        (and_parts (is_part l (doc l k).homes p) (is_wanted (doc l k) p.exec
         && (is_free (standing k p) && has_inputs k (doc l k).homes p)) first.ready).1 in
         let mine : (who == who) ≡ true = eq-eqb who who refl in (
           (

@@ -1,5 +1,5 @@
 -- Where the executions that a version assigns stand.
-use Rattle.std.proofs.Common.{◌≡◌, ◌⊎◌, inl, inr, ℕ, zero, suc, true, false, ◌||◌, List, [], ◌∷◌, ◌++◌, length, Option, Some, None, refl, ap, sym, ◌∙◌, arith}
+use Rattle.std.proofs.Common.{◌≡◌, ◌⊎◌, inl, inr, ℕ, zero, suc, true, ◌||◌, List, [], ◌∷◌, ◌++◌, length, Some, refl, ap, sym, ◌∙◌, arith}
 use mathlib.Core.Bool.{or_assoc}
 use Rattle.std.proofs.lemmas.Bool.{eqb-true, eq-eqb, or_left, or_right, or_cases}
 use Rattle.std.specs.Prelude.{◌==◌, slice_get, flat_map}
@@ -11,10 +11,11 @@ use Rattle.exec_rules.specs.declared.row.Assigned.{Assigned}
 use Rattle.exec_rules.specs.declared.version.Version.{Version}
 use Rattle.exec_rules.specs.Keys.{nothing}
 use Rattle.exec_rules.specs.Listed.{executions, print_list}
+use Rattle.exec_rules.proofs.KnownListed.{in_print}
 use Rattle.core_rules.specs.Assigned.{assigns}
 use Rattle.core_rules.specs.FromScratch.{assigned_to}
 use Rattle.core_rules.proofs.Places.{get_within, get_there}
-use Rattle.import_rounds.proofs.KnownRounds.{has_both}
+use Rattle.import_rounds.proofs.KnownHas.{has_both}
 
 -- the execution is one of the row's
 abbrev pub IsIn : Row → ℕ → Type 0
@@ -33,14 +34,6 @@ pub record RowAt (v : Version) (holds : Row → Type 0) : Type 0 where
 -- the evaluation is assigned
 abbrev pub EvalRow : Version → ℕ → Type 0
 EvalRow v e = RowAt v (λ row. e ≡ row.evaluation)
-
-in_print : (o : Option ℕ) (e : ℕ) → has (print_list o) e ≡ true → o ≡ Some e
-in_print None e is = absurd (cc)
-in_print (Some q) e is = go (or_cases (e == q) false is)
-  where
-    go : ((e == q) ≡ true) ⊎ (false ≡ true) → Some q ≡ Some e
-    go (inl same) = ap (λ x. Some x) (sym (eqb-true e q same))
-    go (inr bad) = absurd (cc)
 
 pub in_row : (row : Row) (e : ℕ) → has (executions row) e ≡ true → IsIn row e
 in_row row e is = go (or_cases (e == row.evaluation) (has (print_list row.print) e) is)

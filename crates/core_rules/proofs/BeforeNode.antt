@@ -1,7 +1,6 @@
 -- What a node had in the tip, where it keeps evaluations: it begins in the same way.
 use Rattle.std.proofs.Common.{◌≡◌, ℕ, zero, suc, ◌<◌, Bool, true, false, cond, List, [], ◌∷◌, ◌++◌, map, find, Some, None, refl, ap, sym, ◌∙◌, arith}
-use Rattle.std.proofs.lemmas.Bool.{eqb-true}
-use Rattle.text_words.proofs.KnownTests.{both-parts}
+use Rattle.std.proofs.lemmas.Bool.{eqb-true, and_parts}
 use Rattle.std.specs.Prelude.{◌==◌, ◌&&◌, not, slice_get}
 use Rattle.std.specs.List.{AllByRecursion}
 use Rattle.import_rounds.specs.Rounds.{has}
@@ -28,7 +27,7 @@ first_by : (t : Times) (e b : Entry) (es bs : List Entry) (r : Row) (rs : List R
     → 0 < cond k (suc (kept t es bs rs)) 0 → e.command ≡ b.command
 first_by t e b es bs r rs false same lt = absurd (omega arith)
 first_by t e b es bs r rs true same lt = eqb-true e.command b.command
-    (both-parts (e.command == b.command) (not (has t.cancelled r.evaluation) && same_blob t e.needs b.needs) same).0
+    (and_parts (e.command == b.command) (not (has t.cancelled r.evaluation) && same_blob t e.needs b.needs) same).0
 
 pub same_header : (t : Times) (node old : Node) (rs : List Row) → HaveHeader node old
     → 0 < kept t node.entries old.entries rs → (node.imports ≡ old.imports) × (node.keywords ≡ old.keywords)

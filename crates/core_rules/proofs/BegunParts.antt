@@ -1,7 +1,6 @@
 -- A part that was begun waits for nothing.
 use Rattle.std.proofs.Common.{◌≡◌, ◌⊎◌, inl, inr, ℕ, ◌<◌, ◌≤◌, Bool, true, false, cond, List, [], ◌∷◌, length, Option, Some, None, refl, ap, sym, subst, ◌∙◌, arith}
-use Rattle.std.proofs.lemmas.Bool.{false≢true, cases_lt}
-use Rattle.text_words.proofs.KnownTests.{both-parts, both-hold}
+use Rattle.std.proofs.lemmas.Bool.{false≢true, cases_lt, and_parts, and_from}
 use Rattle.std.specs.Prelude.{◌&&◌}
 use Rattle.std.specs.Option.{option_map_or}
 use Rattle.std.specs.List.{list_all}
@@ -27,8 +26,8 @@ use Rattle.core_rules.proofs.HomesLaw.{unmade}
 all_still : (old new : ℕ → Bool) → ((e : ℕ) → old e ≡ true → new e ≡ true) → (es : List ℕ) → list_all old es ≡ true → list_all new es ≡ true
 all_still old new still [] all = refl
 all_still old new still (e ∷ es) all =
-    let parts = both-parts (old e) (list_all old es) all in
-    both-hold (new e) (list_all new es) (still e parts.0) (all_still old new still es parts.1)
+    let parts = and_parts (old e) (list_all old es) all in
+    and_from (new e) (list_all new es) (still e parts.0) (all_still old new still es parts.1)
 
 module _ {S : Type 0} (l : Lang S) where
   waits_grown : (hs more : List Home) (k : PartKind) (e : ℕ) → e ≤ length hs → waits_by (grown hs more) k e ≡ waits_by hs k e
@@ -38,10 +37,10 @@ module _ {S : Type 0} (l : Lang S) where
 
   first_inputs : (h : List Event) (p : Part) → IsFirst l h p → has_inputs h (doc l h).homes p ≡ true
   first_inputs h p first =
-      let a = both-parts (is_part l (doc l h).homes p) (is_wanted (doc l h) p.exec
+      let a = and_parts (is_part l (doc l h).homes p) (is_wanted (doc l h) p.exec
       && (is_free (standing h p) && has_inputs h (doc l h).homes p)) first.ready in
-      let b = both-parts (is_wanted (doc l h) p.exec) (is_free (standing h p) && has_inputs h (doc l h).homes p) a.1 in
-      (both-parts (is_free (standing h p)) (has_inputs h (doc l h).homes p) b.1).1
+      let b = and_parts (is_wanted (doc l h) p.exec) (is_free (standing h p) && has_inputs h (doc l h).homes p) a.1 in
+      (and_parts (is_free (standing h p)) (has_inputs h (doc l h).homes p) b.1).1
 
   -- what is finished stays so
   stays_done : (h : List Event) (q p : Part) (s : Standing) → (is_done (standing h q) ≡ true → is_done s ≡ true)

@@ -1,8 +1,7 @@
 -- What is cancelled was made, and stays cancelled.
 use Rattle.std.proofs.Common.{◌≡◌, ℕ, ◌≤◌, Bool, true, false, not, cond, ◌&&◌, List, [], ◌∷◌, length, map, filter, Option, Some, None, refl, ◌∙◌, arith}
 use Rattle.text_words.proofs.KnownLists.{each-both}
-use Rattle.std.proofs.lemmas.Bool.{or_right}
-use Rattle.text_words.proofs.KnownTests.{both-parts}
+use Rattle.std.proofs.lemmas.Bool.{or_right, and_parts}
 use Rattle.std.specs.Prelude.{◌==◌}
 use Rattle.std.specs.Option.{option_map_or}
 use Rattle.std.specs.List.{list_any}
@@ -18,7 +17,7 @@ use Rattle.core_rules.specs.Standing.{is_finished, is_open}
 use Rattle.core_rules.specs.Doc.{Doc, dropped, assignment_of, version_of, doc}
 use Rattle.core_rules.proofs.KnownNumbers.{numbered_within, length_grown}
 use Rattle.core_rules.proofs.Tables.{AtMost, at_most_more}
-use Rattle.import_rounds.proofs.KnownRounds.{has_both}
+use Rattle.import_rounds.proofs.KnownHas.{has_both}
 
 -- what has an unfinished part was made
 pub opened_within : {S : Type 0} (l : Lang S) (h : List Event) (homes : List Home) (e : ℕ) → is_open l h homes e ≡ true → e ≤ length homes
@@ -49,7 +48,7 @@ module _ {S : Type 0} (l : Lang S) where
       each-both (λ x. x ≤ length (grown d.homes new.homes))
       (dropped (is_open l h d.homes) d.tip (version_of nodes blobs new)) d.cancelled
       (filter_within (length (grown d.homes new.homes)) (λ e. is_open l h d.homes e && not (assigns (version_of nodes blobs new) e)) _
-      (λ e is. let le = opened_within l h d.homes e (both-parts (is_open l h d.homes e) (not (assigns (version_of nodes blobs new) e)) is).0 in
+      (λ e is. let le = opened_within l h d.homes e (and_parts (is_open l h d.homes e) (not (assigns (version_of nodes blobs new) e)) is).0 in
       omega (arith, le, length_grown d.homes new.homes)))
       (at_most_more (length d.homes) (length (grown d.homes new.homes)) d.cancelled
       (omega (arith, length_grown d.homes new.homes)) (cancelled_within h))

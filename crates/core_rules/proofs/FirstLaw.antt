@@ -1,7 +1,6 @@
 -- The first ready part, as a part and as a function.
-use Rattle.std.proofs.Common.{◌≡◌, ℕ, zero, suc, ◌+◌, ◌<◌, ◌≤◌, Bool, true, false, cond, ◌&&◌, ◌||◌, List, [], ◌∷◌, length, map, filter, Option, Some, None, refl, ap, sym, subst, ◌∙◌, arith}
-use Rattle.std.proofs.lemmas.Bool.{eqb-true, eq-eqb, false≢true, or_left, or_right}
-use Rattle.text_words.proofs.KnownTests.{both-parts}
+use Rattle.std.proofs.Common.{◌≡◌, ℕ, zero, suc, ◌+◌, ◌<◌, ◌≤◌, Bool, true, false, ◌&&◌, ◌||◌, List, [], ◌∷◌, length, map, filter, Option, Some, None, refl, ap, sym, subst, ◌∙◌, arith}
+use Rattle.std.proofs.lemmas.Bool.{eqb-true, eq-eqb, false≢true, or_left, or_right, and_parts}
 use Rattle.std.specs.Prelude.{◌==◌}
 use Rattle.std.specs.Option.{option_map_or}
 use Rattle.std.specs.List.{list_any, flat_map, range_with_len}
@@ -14,18 +13,8 @@ use Rattle.core_rules.specs.Parts.{same_part, forks, kinds_by, parts_of}
 use Rattle.core_rules.specs.Standing.{standing, is_free}
 use Rattle.core_rules.specs.Doc.{doc}
 use Rattle.core_rules.specs.Ready.{is_part, is_wanted, has_inputs, is_ready_in, is_ready, IsFirst, all_parts, first_among, first_ready}
-use Rattle.core_rules.proofs.KnownNumbers.{numbered_within}
+use Rattle.core_rules.proofs.KnownNumbers.{numbered_within, numbered_positive}
 use Rattle.core_rules.proofs.FirstReady.{among, among_append, among_filter, filtered, IsLeast, first_least, least_one}
-
--- numbers begin with one
-pub numbered_positive : {A : Type 0} (xs : List A) (n : ℕ) (x : A) → numbered xs n ≡ Some x → 1 ≤ n
-numbered_positive [] n x at = absurd (cc)
-numbered_positive (y ∷ xs) n x at = go (n == suc (length xs)) refl at (numbered_positive xs n x)
-  where
-    go : (b : Bool) → (n == suc (length xs)) ≡ b → cond b (Some y) (numbered xs n) ≡ Some x
-        → (numbered xs n ≡ Some x → 1 ≤ n) → 1 ≤ n
-    go true e at rest = omega (arith, eqb-true n (suc (length xs)) e)
-    go false e at rest = rest at
 
 module _ {S : Type 0} (l : Lang S) where
   among_made : (homes : List Home) (a n e : ℕ) (p : Part) → a ≤ e → e < a + n → among (parts_of l homes e) p ≡ true
@@ -70,7 +59,7 @@ module _ {S : Type 0} (l : Lang S) where
 
   ready_listed : (h : List Event) (p : Part) → is_ready l h p ≡ true → among (ready_parts h) p ≡ true
   ready_listed h p ready =
-      let part = both-parts (is_part l (doc l h).homes p) (is_wanted (doc l h) p.exec
+      let part = and_parts (is_part l (doc l h).homes p) (is_wanted (doc l h) p.exec
       && (is_free (standing h p) && has_inputs h (doc l h).homes p)) ready in
       among_filter (is_ready_in l h (doc l h)) (all_parts l (doc l h).homes) p ready (is_made (doc l h).homes p part.0)
 

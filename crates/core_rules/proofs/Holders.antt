@@ -1,7 +1,6 @@
 -- Each part has one holder at most, and each worker holds one part at most.
 use Rattle.std.proofs.Common.{◌≡◌, ◌≢◌, ◌↔◌, ℕ, Bool, true, false, cond, ◌&&◌, List, [], ◌∷◌, Option, Some, None, refl, ap, sym, ◌∙◌}
-use Rattle.std.proofs.lemmas.Bool.{eqb-true, eq-eqb, false≢true}
-use Rattle.text_words.proofs.KnownTests.{both-parts, both-hold}
+use Rattle.std.proofs.lemmas.Bool.{eqb-true, eq-eqb, false≢true, and_parts}
 use Rattle.std.specs.Prelude.{◌==◌}
 use Rattle.pide_base.specs.declared.part.Part.{Part}
 use Rattle.pide_base.specs.declared.part.PartKind.{PartKind}
@@ -75,10 +74,10 @@ module _ (holds : ℕ → Option Part) (stands : Part → Standing) (tells : Tel
 -- a ready part is free
 pub first_free : {S : Type 0} (l : Lang S) (h : List Event) (p : Part) → IsFirst l h p → standing h p ≡ Free
 first_free l h p first =
-    let a = both-parts (is_part l (doc l h).homes p) (is_wanted (doc l h) p.exec
+    let a = and_parts (is_part l (doc l h).homes p) (is_wanted (doc l h) p.exec
     && (is_free (standing h p) && has_inputs h (doc l h).homes p)) first.ready in
-    let b = both-parts (is_wanted (doc l h) p.exec) (is_free (standing h p) && has_inputs h (doc l h).homes p) a.1 in
-    let c = both-parts (is_free (standing h p)) (has_inputs h (doc l h).homes p) b.1 in
+    let b = and_parts (is_wanted (doc l h) p.exec) (is_free (standing h p) && has_inputs h (doc l h).homes p) a.1 in
+    let c = and_parts (is_free (standing h p)) (has_inputs h (doc l h).homes p) b.1 in
     free_by (standing h p) c.0
 
 pub tells_all : {S : Type 0} (l : Lang S) (h : List Event) → IsLegal l h → Tells (held h) (standing h)

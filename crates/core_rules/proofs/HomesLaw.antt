@@ -1,7 +1,6 @@
 -- What executions that live versions assign go by, and those that were not made.
 use Rattle.std.proofs.Common.{◌≡◌, ℕ, ◌<◌, ◌≤◌, Bool, true, false, cond, not, List, [], ◌∷◌, length, map, Some, None, refl, ap, sym, ◌∙◌, arith}
-use Rattle.std.proofs.lemmas.Bool.{false≢true}
-use Rattle.text_words.proofs.KnownTests.{both-parts}
+use Rattle.std.proofs.lemmas.Bool.{false≢true, and_parts}
 use Rattle.std.specs.Prelude.{◌&&◌, slice_get}
 use Rattle.std.specs.Option.{option_map_or}
 use Rattle.std.specs.List.{list_any}
@@ -34,7 +33,7 @@ use Rattle.core_rules.proofs.Holders.{tells_all}
 use Rattle.core_rules.proofs.RowSources.{has_home}
 use Rattle.core_rules.proofs.FromScratchLaw.{from_scratch}
 use Rattle.core_rules.proofs.PlacedOnce.{tip_sorted}
-use Rattle.core_rules.proofs.NamedRows.{found_row, named_once}
+use Rattle.core_rules.proofs.KnownNamedRows.{found_row, named_once}
 
 module _ {S : Type 0} (facts : Facts) (l : Lang S) (h : List Event) (legal : IsLegal l h) where
   pub live_homes : (k : ℕ) (one : Live _) (e : ℕ) → slice_get (doc l h).live k ≡ Some one → assigns one.version e ≡ true
@@ -58,7 +57,7 @@ module _ {S : Type 0} (l : Lang S) where
       sym (ap (λ o. list_any (same_part q) (option_map_or
       (λ (x : Home). map (λ k. record { exec = q.exec; kind = k }) (kinds_by x.input (forks l (doc l h).homes q.exec))) o []))
       (numbered_past (doc l h).homes q.exec past))
-      ∙ (both-parts (is_part l (doc l h).homes q) _ first.ready).0
+      ∙ (and_parts (is_part l (doc l h).homes q) _ first.ready).0
 
   -- nobody works on what was not made
   pub unmade : (h : List Event) (p : Part) → IsLegal l h → length (doc l h).homes < p.exec → standing h p ≡ Free

@@ -1,9 +1,10 @@
 -- A command that was there has the source that it had.
-use Rattle.std.proofs.Common.{◌≡◌, ℕ, zero, suc, ◌≤◌, inl, inr, Bool, true, false, ◌||◌, List, [], ◌∷◌, ◌++◌, map, Some, refl, ap, sym, subst, ◌∙◌, arith}
+use Rattle.std.proofs.Common.{◌≡◌, ℕ, zero, suc, ◌≤◌, inl, inr, true, false, ◌||◌, List, [], ◌∷◌, ◌++◌, map, Some, refl, ap, sym, subst, ◌∙◌, arith}
 use Rattle.text_words.proofs.KnownLists.{each-part}
 use Rattle.std.proofs.lemmas.Bool.{eq-eqb, false≢true, or_parts}
 use Rattle.std.specs.Prelude.{◌==◌, slice_get}
 use Rattle.std.specs.List.{AllByRecursion}
+use Rattle.std.proofs.Math.Bool.{or-true}
 use Rattle.import_rounds.specs.Rounds.{has}
 use Rattle.doc_nodes.specs.declared.node.Entry.{Entry}
 use Rattle.doc_nodes.specs.declared.node.Node.{Node}
@@ -13,7 +14,7 @@ use Rattle.core_rules.specs.Assigned.{command_ids}
 use Rattle.core_rules.specs.Doc.{Doc}
 use Rattle.core_rules.specs.Updates.{AllDiffer, source_in, Stood, IsOld, IsKnown, node_in}
 use Rattle.core_rules.proofs.Tables.{AtMost}
-use Rattle.import_rounds.proofs.KnownRounds.{has_both}
+use Rattle.import_rounds.proofs.KnownHas.{has_both}
 use Rattle.core_rules.proofs.SameCommands.{SameSources}
 
 -- the ids of commands
@@ -26,11 +27,7 @@ has_there (x ∷ es) zero e c at same =
     let one : x ≡ e = cc in
     ap (λ b. b || has (ids es) c) (eq-eqb c x.command (same ∙ sym (ap (λ (y : Entry). y.command) one)))
 has_there (x ∷ es) (suc i) e c at same =
-    ap (λ b. (c == x.command) || b) (has_there es i e c at same) ∙ last (c == x.command)
-  where
-    last : (b : Bool) → (b || true) ≡ true
-    last true = refl
-    last false = refl
+    ap (λ b. (c == x.command) || b) (has_there es i e c at same) ∙ or-true (c == x.command)
 
 -- commands with the same id are the same
 pub same_id : (es : List Entry) (i j : ℕ) (a b : Entry) → AllDiffer (ids es) → slice_get es i ≡ Some a

@@ -1,6 +1,6 @@
 -- Things that are numbered in the order in which they were made.
-use Rattle.std.proofs.Common.{◌≡◌, ℕ, suc, ◌+◌, ◌<◌, ◌≤◌, ◌⊎◌, inl, inr, false, cond, List, [], ◌∷◌, length, Option, Some, None, refl, ap, ◌∙◌, arith}
-use Rattle.std.proofs.lemmas.Bool.{eq-eqb, ne_eqb, cases_lt}
+use Rattle.std.proofs.Common.{◌≡◌, ℕ, suc, ◌+◌, ◌<◌, ◌≤◌, ◌⊎◌, inl, inr, false, cond, List, [], ◌∷◌, length, Option, Some, None, refl, ap, ◌∙◌, arith, Bool, true}
+use Rattle.std.proofs.lemmas.Bool.{eq-eqb, ne_eqb, cases_lt, eqb-true}
 use Rattle.std.specs.Prelude.{◌==◌}
 use Rattle.core_rules.specs.Numbered.{numbered, grown}
 
@@ -39,3 +39,13 @@ module _ {A : Type 0} where
   pub length_grown : (xs ys : List A) → length (grown xs ys) ≡ length xs + length ys
   length_grown xs [] = omega arith
   length_grown xs (y ∷ ys) = length_grown (y ∷ xs) ys ∙ omega arith
+
+-- numbers begin with one
+pub numbered_positive : {A : Type 0} (xs : List A) (n : ℕ) (x : A) → numbered xs n ≡ Some x → 1 ≤ n
+numbered_positive [] n x at = absurd (cc)
+numbered_positive (y ∷ xs) n x at = go (n == suc (length xs)) refl at (numbered_positive xs n x)
+  where
+    go : (b : Bool) → (n == suc (length xs)) ≡ b → cond b (Some y) (numbered xs n) ≡ Some x
+        → (numbered xs n ≡ Some x → 1 ≤ n) → 1 ≤ n
+    go true e at rest = omega (arith, eqb-true n (suc (length xs)) e)
+    go false e at rest = rest at

@@ -1,8 +1,7 @@
 -- Parts that test as the same are.
 use Rattle.std.proofs.Common.{◌≡◌, true, ◌&&◌, refl, ap, ◌∙◌}
-use Rattle.std.proofs.lemmas.Bool.{eqb-true, eq-eqb}
+use Rattle.std.proofs.lemmas.Bool.{eqb-true, eq-eqb, and_parts, and_from}
 use Rattle.std.specs.Prelude.{◌==◌}
-use Rattle.text_words.proofs.KnownTests.{both-parts, both-hold}
 use Rattle.pide_base.specs.declared.part.Part.{Part}
 use Rattle.pide_base.specs.declared.part.PartKind.{PartKind}
 use Rattle.pide_base.specs.declared.part.PartKind.TheVariants as kind
@@ -27,9 +26,9 @@ kind_itself kind.Print = refl
 -- the test of parts
 pub part_is : (p q : Part) → same_part p q ≡ true → p ≡ q
 part_is p q e =
-    let parts = both-parts (p.exec == q.exec) (same_kind p.kind q.kind) e in
+    let parts = and_parts (p.exec == q.exec) (same_kind p.kind q.kind) e in
     ap (λ x. record { exec = x; kind = p.kind }) (eqb-true p.exec q.exec parts.0)
     ∙ ap (λ x. record { exec = q.exec; kind = x }) (kind_is p.kind q.kind parts.1)
 
 pub part_itself : (p : Part) → same_part p p ≡ true
-part_itself p = both-hold (p.exec == p.exec) (same_kind p.kind p.kind) (eq-eqb p.exec p.exec refl) (kind_itself p.kind)
+part_itself p = and_from (p.exec == p.exec) (same_kind p.kind p.kind) (eq-eqb p.exec p.exec refl) (kind_itself p.kind)

@@ -13,7 +13,7 @@ mod Heads
 mod Places
 mod ImportAliases
 mod AliasesByKey
-mod KnownCommands
+pub mod KnownCommands
 mod Sound
 mod BeforeNode
 mod TipNode
@@ -57,4 +57,4 @@ mod RowSources
 mod HomesLaw
 mod BegunParts
 mod PlacedOnce
-mod NamedRows
+pub mod KnownNamedRows

@@ -20,8 +20,8 @@ use Rattle.core_rules.specs.Doc.{Doc, update_of, assignment_of, version_of}
 use Rattle.core_rules.specs.FromScratch.{assigned_to, has_open}
 use Rattle.core_rules.specs.Updates.{FitsNode}
 use Rattle.core_rules.proofs.Facts.{Facts}
-use Rattle.core_rules.proofs.Places.{has_itself, get_there, get_within, all_at}
-use Rattle.import_rounds.proofs.KnownRounds.{has_both}
+use Rattle.core_rules.proofs.Places.{get_there, get_within, all_at}
+use Rattle.import_rounds.proofs.KnownHas.{has_both, has_itself}
 use Rattle.core_rules.proofs.ImportAliases.{Stands}
 use Rattle.core_rules.proofs.Sound.{IsSoundAt, IsSound, IsSoundTip}
 use Rattle.core_rules.proofs.Progress.{Progress, key_rests}

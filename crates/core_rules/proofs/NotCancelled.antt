@@ -1,8 +1,7 @@
 -- What an update gives a node is not cancelled.
 use Rattle.std.proofs.Common.{◌≡◌, ℕ, zero, suc, ◌+◌, ◌<◌, Bool, true, false, not, cond, ◌&&◌, List, [], ◌∷◌, take, drop, Option, Some, None, refl, arith}
 use Rattle.text_words.proofs.KnownLists.{each-both}
-use Rattle.std.proofs.lemmas.Bool.{ne_eqb, or_from, not-true}
-use Rattle.text_words.proofs.KnownTests.{both-parts}
+use Rattle.std.proofs.lemmas.Bool.{ne_eqb, or_from, not-true, and_parts}
 use Rattle.std.specs.Prelude.{◌==◌, ⊤}
 use Rattle.std.specs.Option.{option_map_or}
 use Rattle.std.specs.List.{AllByRecursion, range_with_len}
@@ -53,8 +52,8 @@ kept_not t (e ∷ es) (b ∷ bs) (r ∷ rs) = go (keeps t e b r) refl (kept_not 
         → NoneOf t.cancelled (evals (take (cond x (suc (kept t es bs rs)) 0) (r ∷ rs)))
     go false same rest = tt
     go true same rest =
-        let a = both-parts (e.command == b.command) (not (has t.cancelled r.evaluation) && same_blob t e.needs b.needs) same in
-        let b = both-parts (not (has t.cancelled r.evaluation)) (same_blob t e.needs b.needs) a.1 in
+        let a = and_parts (e.command == b.command) (not (has t.cancelled r.evaluation) && same_blob t e.needs b.needs) same in
+        let b = and_parts (not (has t.cancelled r.evaluation)) (same_blob t e.needs b.needs) a.1 in
         (not-true (has t.cancelled r.evaluation) b.0, rest)
 
 live_not : (c : List ℕ) (o : Option ℕ) → PrintNot c (live_print c o)

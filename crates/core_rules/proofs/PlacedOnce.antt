@@ -8,10 +8,11 @@ use Rattle.std.specs.declared.cmp.Ordering.{Ordering}
 use Rattle.std.specs.declared.cmp.Ordering.TheVariants.{Less, Equal, Greater}
 use Rattle.std.specs.Ordering.{ordering_reverse}
 use Rattle.import_rounds.specs.Rounds.{has}
-use Rattle.shared_map.specs.Pairs.{Each, IsSorted}
+use Rattle.shared_map.specs.Pairs.{IsSorted}
 use Rattle.doc_nodes.specs.declared.node.Node.{Node}
 use Rattle.doc_nodes.specs.Names.{in_order}
 use Rattle.doc_nodes.specs.Imports.{NodeList}
+use Rattle.doc_nodes.proofs.KnownPlaces.{each_at}
 use Rattle.exec_rules.specs.declared.row.Row.{Row}
 use Rattle.exec_rules.specs.declared.home.Head.{Head}
 use Rattle.exec_rules.specs.declared.home.Home.{Home}
@@ -41,11 +42,6 @@ not_less Greater back is = absurd (cc)
 apart : (x y : List ℕ) → in_order x y ≡ Less → x ≡ y → Less ≡ Greater
 apart x y less same =
     not_less (in_order x x) (nat_list_cmp_total.antisymm x x) (subst (λ z. in_order x z ≡ Less) (sym same) less)
-
-pub each_at : (P : List ℕ × Node → Type 0) (nodes : NodeList) (q : ℕ) (y : List ℕ × Node) → Each P nodes → slice_get nodes q ≡ Some y → P y
-each_at P [] q y all at = absurd (cc)
-each_at P (n ∷ nodes) zero y all at = let same : n ≡ y = cc in subst P same all.0
-each_at P (n ∷ nodes) (suc q) y all at = each_at P nodes q y all.1 at
 
 -- a name is that of one node
 pub one_name : (nodes : NodeList) (p q : ℕ) (x y : List ℕ × Node) → IsSorted in_order nodes → slice_get nodes p ≡ Some x

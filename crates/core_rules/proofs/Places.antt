@@ -1,16 +1,14 @@
 -- Places of nodes by name, and what stands at them.
 use Rattle.std.proofs.Common.{◌≡◌, ℕ, zero, suc, ◌<◌, ◌⊎◌, inl, inr, Bool, true, false, ◌||◌, List, [], ◌∷◌, ◌++◌, length, map, get_or, Some, refl, ap, sym, subst, ◌∙◌, arith}
 use mathlib.Core.Bool.{or_assoc}
-use Rattle.std.proofs.lemmas.Bool.{eq-eqb}
 use Rattle.std.proofs.lemmas.Option.{slice_get-get_or}
 use Rattle.std.proofs.lemmas.List.Quantifiers.{position-Some}
 use Rattle.std.specs.Prelude.{◌==◌, slice_get, slice_index_or}
 use Rattle.std.specs.List.{AllByRecursion}
-use Rattle.import_rounds.specs.Rounds.{has}
 use Rattle.doc_nodes.specs.declared.node.Node.{Node}
 use Rattle.doc_nodes.specs.Names.{equal}
 use Rattle.doc_nodes.specs.Imports.{NodeList, place_of, aims_of}
-use Rattle.exec_rules.proofs.KnownNames.{name_is}
+use Rattle.doc_nodes.proofs.KnownNames.{name_is}
 
 -- the node of a name stands at its place
 pub record FoundAt (nodes : NodeList) (name : List ℕ) (q : ℕ) : Type 0 where
@@ -45,9 +43,6 @@ module _ {A : Type 0} where
   all_at P [] i x all at = absurd (cc)
   all_at P (y ∷ xs) zero x all at = let same : y ≡ x = cc in subst P same all.0
   all_at P (y ∷ xs) (suc i) x all at = all_at P xs i x all.1 at
-
-pub has_itself : (xs : List ℕ) (q : ℕ) → has (q ∷ xs) q ≡ true
-has_itself xs q = ap (λ b. b || has xs q) (eq-eqb q q refl)
 
 -- the places of the imports of the node at a place
 pub aims_found : (nodes all : NodeList) (p : ℕ) (pair : List ℕ × Node) → slice_get nodes p ≡ Some pair

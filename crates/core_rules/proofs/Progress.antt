@@ -1,7 +1,6 @@
 -- What holds of the nodes that an update has done so far.
 use Rattle.std.proofs.Common.{◌≡◌, ℕ, suc, ◌≤◌, Bool, true, false, cond, List, [], ◌∷◌, length, map, find, Option, Some, None, refl, ap, sym, ◌∙◌}
-use Rattle.std.proofs.lemmas.Bool.{eqb-true, eq-eqb, false≢true}
-use Rattle.text_words.proofs.KnownTests.{both-parts}
+use Rattle.std.proofs.lemmas.Bool.{eqb-true, eq-eqb, false≢true, and_parts}
 use Rattle.std.specs.Prelude.{◌==◌, slice_get}
 use Rattle.std.specs.List.{list_all}
 use Rattle.std.specs.Option.{option_map_or}
@@ -72,7 +71,7 @@ module _ (nodes : NodeList) (front : List ℕ) (a b : ℕ → Assigned) (same : 
   all_lasts : (names : List (List ℕ)) → AreInside nodes front names → map (last_by nodes a) names ≡ map (last_by nodes b) names
   all_lasts [] inside = refl
   all_lasts (name ∷ names) inside =
-      let parts = both-parts (is_known front (place_of nodes name)) (list_all (λ x. is_known front (place_of nodes x)) names) inside in
+      let parts = and_parts (is_known front (place_of nodes name)) (list_all (λ x. is_known front (place_of nodes x)) names) inside in
       ap (λ x. x ∷ map (last_by nodes a) names) (one_last (place_of nodes name) parts.0)
       ∙ ap (λ xs. last_by nodes b name ∷ xs) (all_lasts names parts.1)
 

@@ -1,9 +1,8 @@
 -- Commands that keep their evaluations have the same source and blob as before.
-use Rattle.std.proofs.Common.{◌≡◌, ℕ, suc, ◌≤◌, Bool, true, false, not, ◌&&◌, cond, List, [], ◌∷◌, length, Option, Some, None, refl, ap, sym, ◌∙◌, arith}
-use Rattle.std.proofs.lemmas.Bool.{eqb-true}
+use Rattle.std.proofs.Common.{◌≡◌, ℕ, suc, ◌≤◌, Bool, true, false, not, ◌&&◌, cond, List, [], ◌∷◌, length, refl, ap, sym, ◌∙◌, arith}
+use Rattle.std.proofs.lemmas.Bool.{eqb-true, and_parts}
 use Rattle.std.proofs.lemmas.Map.Text.{is_eq-slice_cmp}
 use Rattle.std.proofs.lemmas.Slice.Eq.{bytes_eq-Decides}
-use Rattle.text_words.proofs.KnownTests.{both-parts}
 use Rattle.std.specs.Prelude.{◌==◌, ⊤}
 use Rattle.import_rounds.specs.Rounds.{has}
 use Rattle.doc_nodes.specs.declared.node.Entry.{Entry}
@@ -13,15 +12,9 @@ use Rattle.exec_rules.specs.declared.row.Row.{Row}
 use Rattle.exec_rules.specs.declared.home.Input.{Input}
 use Rattle.exec_rules.specs.Kept.{Times, agree, blob_of, same_blob, keeps, kept}
 use Rattle.exec_rules.specs.Homes.{home}
-use Rattle.exec_rules.proofs.KnownNames.{name_is}
+use Rattle.exec_rules.proofs.KnownKept.{agree_is}
 use Rattle.core_rules.specs.Updates.{source_in}
 use Rattle.core_rules.proofs.KeptRows.{SameHome, SameFront}
-
-agree_is : (a b : Option (List ℕ)) → agree a b ≡ true → a ≡ b
-agree_is None None e = refl
-agree_is None (Some y) e = absurd (cc)
-agree_is (Some x) None e = absurd (cc)
-agree_is (Some x) (Some y) e = ap (λ z. Some z) (name_is x y e)
 
 module _ (node old : Node) (times : Times) where
   -- commands at the same place that are the same have the same source
@@ -39,9 +32,9 @@ module _ (node old : Node) (times : Times) where
   same_one : (e b : Entry) (r : Row) → keeps times e b r ≡ true → (e.command ≡ b.command → source_in node e ≡ source_in old b)
       → SameHome node old times.now times.before e b
   same_one e b r keep source =
-      let first = both-parts (e.command == b.command) (not (has times.cancelled r.evaluation) && same_blob times e.needs b.needs) keep in
-      let second = both-parts (not (has times.cancelled r.evaluation)) (same_blob times e.needs b.needs) first.1 in
-      let third = both-parts (agree e.needs b.needs) (agree (blob_of times.now e.needs) (blob_of times.before b.needs)) second.1 in
+      let first = and_parts (e.command == b.command) (not (has times.cancelled r.evaluation) && same_blob times e.needs b.needs) keep in
+      let second = and_parts (not (has times.cancelled r.evaluation)) (same_blob times e.needs b.needs) first.1 in
+      let third = and_parts (agree e.needs b.needs) (agree (blob_of times.now e.needs) (blob_of times.before b.needs)) second.1 in
       λ i. same_by e b i (source (eqb-true e.command b.command first.0)) (agree_is _ _ third.1)
 
   by : (b : Bool) (e c : Entry) (r : Row) (es cs : List Entry) (n : ℕ) → keeps times e c r ≡ b

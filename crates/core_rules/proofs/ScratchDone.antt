@@ -18,8 +18,8 @@ use Rattle.core_rules.specs.Scratch.{Run, Runs, run_from, begins_at, run_node, r
 use Rattle.core_rules.proofs.Tables.{AreOlder}
 use Rattle.core_rules.proofs.HomedRows.{evals}
 use Rattle.core_rules.proofs.Facts.{NodeFacts}
-use Rattle.core_rules.proofs.Places.{among_by, has_itself, get_there, get_within}
-use Rattle.import_rounds.proofs.KnownRounds.{has_both}
+use Rattle.core_rules.proofs.Places.{among_by, get_there, get_within}
+use Rattle.import_rounds.proofs.KnownHas.{has_both, has_itself}
 use Rattle.core_rules.proofs.Sound.{IsSound}
 use Rattle.core_rules.proofs.Progress.{AreInside, other_place}
 use Rattle.core_rules.proofs.SettingsBy.{behind}

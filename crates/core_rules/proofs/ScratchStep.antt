@@ -1,7 +1,6 @@
 -- One node more, from nothing: its executions work on what its commands are run in.
 use Rattle.std.proofs.Common.{◌≡◌, ℕ, true, false, List, [], ◌∷◌, length, map, find, Option, Some, None, refl, ap, sym, subst, ◌∙◌}
-use Rattle.std.proofs.lemmas.Bool.{or_parts, false≢true}
-use Rattle.text_words.proofs.KnownTests.{both-parts}
+use Rattle.std.proofs.lemmas.Bool.{or_parts, false≢true, and_parts}
 use Rattle.std.specs.Prelude.{◌==◌, slice_get, zip, filter_map}
 use Rattle.std.specs.Option.{option_map, option_map_or, option_and_then}
 use Rattle.std.specs.List.{list_any, list_all, cons_option}
@@ -94,7 +93,7 @@ module _ {S : Type 0} (l : Lang S) (homes : List Home) (older : AreOlder homes) 
         ≡ filter_map (imported l (behind l homes)) (zip names (map (last_by nodes assigned) names))
     all_imports [] known shut = refl
     all_imports (name ∷ names) known shut =
-        let parts = both-parts (is_known front (place_of nodes name)) (list_all (λ x. is_known front (place_of nodes x)) names) known in
+        let parts = and_parts (is_known front (place_of nodes name)) (list_all (λ x. is_known front (place_of nodes x)) names) known in
         let shuts = or_parts (is_open_last (last_by nodes assigned name)) (list_any is_open_last (map (last_by nodes assigned) names)) shut in
         ap (λ o. cons_option (option_map (λ state. record { name = name; state = state }) o) (filter_map (import_run l nodes runs) names))
         (one_import name (place_of nodes name) refl parts.0 shuts.0)

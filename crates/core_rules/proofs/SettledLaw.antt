@@ -1,10 +1,10 @@
 -- Each live version is settled, where nothing is ready and nothing held.
-use Rattle.std.proofs.Common.{◌≡◌, inl, inr, ℕ, zero, suc, Bool, true, false, List, [], ◌∷◌, map, Some, None, refl, ap, sym, subst, ◌∙◌}
-use Rattle.std.proofs.lemmas.Bool.{and_from, eq-eqb, or_left, or_right}
-use Rattle.std.specs.Prelude.{◌==◌, slice_get}
+use Rattle.std.proofs.Common.{◌≡◌, inl, inr, ℕ, zero, suc, true, false, List, [], ◌∷◌, map, Some, None, refl, ap, sym, subst, ◌∙◌}
+use Rattle.std.proofs.lemmas.Bool.{and_from, or_left, or_right}
+use Rattle.std.specs.Prelude.{slice_get}
 use Rattle.std.specs.Option.{option_map_or}
 use Rattle.std.specs.List.{list_any, list_all, AllByRecursion}
-use Rattle.import_rounds.specs.Rounds.{has}
+use Rattle.import_rounds.proofs.KnownHas.{all_passed}
 use Rattle.pide_base.specs.declared.part.Part.{Part}
 use Rattle.pide_base.specs.declared.part.PartKind.TheVariants as kind
 use Rattle.doc_versions.specs.declared.versions.Live.{Live}
@@ -30,12 +30,6 @@ use Rattle.core_rules.proofs.KnownParts.{part_itself}
 use Rattle.core_rules.proofs.Blocked.{IsOver, blocked}
 use Rattle.core_rules.proofs.AssignedRows.{IsIn, RowAt, assigned_at_row}
 use Rattle.core_rules.proofs.RestLaw.{P, from, over, eval_parts_over}
-
-all_passed : (test : ℕ → Bool) (xs : List ℕ) → ((e : ℕ) → has xs e ≡ true → test e ≡ true) → list_all test xs ≡ true
-all_passed test [] all = refl
-all_passed test (x ∷ xs) all = and_from (test x) (list_all test xs)
-    (all x (or_left (x == x) (has xs x) (eq-eqb x x refl)))
-    (all_passed test xs (λ e is. all e (or_right (e == x) (has xs e) is)))
 
 -- what a live version assigns is assigned
 pub live_assigns : (live : List (Live Version)) (k : ℕ) (one : Live Version) (e : ℕ) → slice_get live k ≡ Some one

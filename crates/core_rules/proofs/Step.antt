@@ -1,7 +1,6 @@
 -- One node more in an update.
 use Rattle.std.proofs.Common.{◌≡◌, ℕ, suc, ◌<◌, ◌≤◌, ◌⊎◌, inl, inr, true, false, List, [], ◌∷◌, ◌++◌, length, Option, Some, None, refl, ap, sym, subst, ◌∙◌, arith}
-use Rattle.std.proofs.lemmas.Bool.{eqb-true, and_from, or_left}
-use Rattle.text_words.proofs.KnownTests.{both-parts}
+use Rattle.std.proofs.lemmas.Bool.{eqb-true, and_from, or_left, and_parts}
 use Rattle.std.specs.Prelude.{◌==◌, slice_get}
 use Rattle.std.specs.List.{list_all}
 use Rattle.import_rounds.specs.Rounds.{has, is_known}
@@ -21,7 +20,7 @@ use Rattle.core_rules.specs.Updates.{FitsNode}
 use Rattle.core_rules.proofs.Tables.{AtMost, AreOlder}
 use Rattle.core_rules.proofs.Facts.{Facts}
 use Rattle.core_rules.proofs.Places.{among_by}
-use Rattle.import_rounds.proofs.KnownRounds.{has_both}
+use Rattle.import_rounds.proofs.KnownHas.{has_both}
 use Rattle.core_rules.proofs.ImportAliases.{Stands}
 use Rattle.core_rules.proofs.Sound.{IsSoundTip, stands_on, extends_grown}
 use Rattle.core_rules.proofs.Progress.{AreInside, IsDone, Progress, key_is, key_rests, assigned_other, assigned_newest, other_place}
@@ -38,7 +37,7 @@ pub inside_more : (nodes : NodeList) (front : List ℕ) (p : ℕ) (names : List 
     → AreInside nodes (front ++ p ∷ []) names
 inside_more nodes front p [] known = refl
 inside_more nodes front p (name ∷ names) known =
-    let parts = both-parts (is_known front (place_of nodes name)) (list_all (λ x. is_known front (place_of nodes x)) names) known in
+    let parts = and_parts (is_known front (place_of nodes name)) (list_all (λ x. is_known front (place_of nodes x)) names) known in
     and_from _ _ (one (place_of nodes name) parts.0) (inside_more nodes front p names parts.1)
   where
     one : (o : Option ℕ) → is_known front o ≡ true → is_known (front ++ p ∷ []) o ≡ true

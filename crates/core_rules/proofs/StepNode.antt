@@ -1,7 +1,6 @@
 -- One node more in an update: what is needed of the nodes before it.
 use Rattle.std.proofs.Common.{◌≡◌, ℕ, zero, suc, ◌<◌, ◌≤◌, Bool, true, false, cond, List, [], ◌∷◌, ◌++◌, length, map, find, Option, Some, None, refl, ap, sym, subst, ◌∙◌, arith}
-use Rattle.std.proofs.lemmas.Bool.{ltb-true, ltb-false}
-use Rattle.text_words.proofs.KnownTests.{both-parts}
+use Rattle.std.proofs.lemmas.Bool.{ltb-true, ltb-false, and_parts}
 use Rattle.std.specs.Prelude.{slice_get, nat_lt}
 use Rattle.std.specs.List.{list_all, AllByRecursion}
 use Rattle.std.specs.Option.{option_map_or}
@@ -62,7 +61,7 @@ module _ (facts : Facts) (d : Doc) (tip : IsSoundTip d) (nodes : NodeList) (blob
       → AllByRecursion (ImportStands homes nodes blobs (assigned_at w.done)) names
   stand_all [] known = tt
   stand_all (name ∷ names) known =
-      let parts = both-parts (is_known front (place_of nodes name)) (list_all (λ x. is_known front (place_of nodes x)) names) known in (
+      let parts = and_parts (is_known front (place_of nodes name)) (list_all (λ x. is_known front (place_of nodes x)) names) known in (
         λ q other e there.
             let done = so.each q other (ap (is_known front) (sym e) ∙ parts.0) there in
             (done.sound.bare, done.sound.stands),
@@ -101,10 +100,10 @@ module _ (facts : Facts) (d : Doc) (tip : IsSoundTip d) (nodes : NodeList) (blob
   known_at [] i name q known is place = absurd (cc)
   known_at (x ∷ names) zero name q known is place =
       let same : x ≡ name = cc in
-      let parts = both-parts (is_known front (place_of nodes x)) (list_all (λ x. is_known front (place_of nodes x)) names) known in
+      let parts = and_parts (is_known front (place_of nodes x)) (list_all (λ x. is_known front (place_of nodes x)) names) known in
       ap (is_known front) (sym (ap (place_of nodes) same ∙ place)) ∙ parts.0
   known_at (x ∷ names) (suc i) name q known is place =
-      let parts = both-parts (is_known front (place_of nodes x)) (list_all (λ x. is_known front (place_of nodes x)) names) known in
+      let parts = and_parts (is_known front (place_of nodes x)) (list_all (λ x. is_known front (place_of nodes x)) names) known in
       known_at names i name q parts.1 is place
 
   shut_wanted : (o : Option (List ℕ)) → find (is_bad nodes) pair.1.imports ≡ o → 0 < wanted_at nodes p

@@ -1,6 +1,6 @@
 -- The order in which ready parts are taken is total.
 use Rattle.std.proofs.Common.{◌≡◌, ◌⊎◌, inl, inr, ℕ, ◌<◌, ◌≤◌, Bool, true, false, ◌&&◌, ◌||◌, refl, ap, sym, ◌∙◌, arith}
-use Rattle.std.proofs.lemmas.Bool.{eqb-true, eq-eqb, ltb-true, ltb-false, or_from, cases_lt, false≢true, ne_eqb}
+use Rattle.std.proofs.lemmas.Bool.{eqb-true, eq-eqb, ltb-true, ltb-false, or_from, cases_lt, false≢true, ne_eqb, le-ltb}
 use Rattle.std.specs.Prelude.{◌==◌, nat_lt}
 use Rattle.pide_base.specs.declared.part.Part.{Part}
 use Rattle.pide_base.specs.declared.part.PartKind.{PartKind}
@@ -29,18 +29,11 @@ later_by false false a e b f p q is = go (cases_lt a b)
 pub later_is : (p q : Priority) (e f : ℕ) → goes_before p e q f ≡ false → Later (height p) e (height q) f
 later_is p q e f is = later_by (nat_lt (height q) (height p)) (height p == height q) (height p) e (height q) f refl refl is
 
-not_less : (m n : ℕ) → n ≤ m → nat_lt m n ≡ false
-not_less m n le = go (nat_lt m n) refl
-  where
-    go : (b : Bool) → nat_lt m n ≡ b → b ≡ false
-    go true e = absurd (omega (arith, le, ltb-true m n e))
-    go false e = refl
-
 is_later : (p q : Priority) (e f : ℕ) → Later (height p) e (height q) f → goes_before p e q f ≡ false
-is_later p q e f (inl lt) = or_from _ _ (not_less (height q) (height p) (omega (arith, lt)))
+is_later p q e f (inl lt) = or_from _ _ (le-ltb (height q) (height p) (omega (arith, lt)))
     (ap (λ b. b && nat_lt e f) (ne_eqb (height p) (height q) (λ same. absurd (omega (arith, lt, same)))))
-is_later p q e f (inr both) = or_from _ _ (not_less (height q) (height p) (omega (arith, both.0)))
-    (last (height p == height q) (not_less e f both.1))
+is_later p q e f (inr both) = or_from _ _ (le-ltb (height q) (height p) (omega (arith, both.0)))
+    (last (height p == height q) (le-ltb e f both.1))
   where
     last : (b : Bool) → nat_lt e f ≡ false → (b && nat_lt e f) ≡ false
     last true is = is

@@ -1,7 +1,6 @@
 -- All that can still be worked on is in the tip.
 use Rattle.std.proofs.Common.{◌≡◌, ◌⊎◌, inl, inr, ℕ, Bool, true, false, not, cond, ◌&&◌, List, [], ◌∷◌, ◌++◌, refl, ap, sym, ◌∙◌}
-use Rattle.std.proofs.lemmas.Bool.{false≢true, or_parts}
-use Rattle.text_words.proofs.KnownTests.{both-parts}
+use Rattle.std.proofs.lemmas.Bool.{false≢true, or_parts, and_parts}
 use Rattle.std.specs.Prelude.{◌==◌}
 use Rattle.std.specs.List.{list_any}
 use Rattle.import_rounds.specs.Rounds.{has}
@@ -18,7 +17,7 @@ use Rattle.core_rules.specs.Standing.{Free, Held, Done, standing, is_done, is_fi
 use Rattle.core_rules.specs.Doc.{Doc, dropped, assignment_of, version_of, doc}
 use Rattle.core_rules.specs.Legal.{IsLegal}
 use Rattle.core_rules.specs.Ready.{is_wanted}
-use Rattle.import_rounds.proofs.KnownRounds.{has_both}
+use Rattle.import_rounds.proofs.KnownHas.{has_both}
 use Rattle.core_rules.proofs.Holders.{first_free, tells_all}
 use Rattle.core_rules.proofs.KnownParts.{part_is}
 use Rattle.core_rules.proofs.KnownStays.{parts_grown}
@@ -99,7 +98,7 @@ module _ {S : Type 0} (facts : Facts) (l : Lang S) where
   pub in_tip : (h : List Event) (e : ℕ) → IsLegal l h → is_wanted (doc l h) e ≡ true
       → is_open l h (doc l h).homes e ≡ true → assigns (doc l h).tip e ≡ true
   in_tip h e legal wanted opened =
-      let parts = both-parts (is_assigned (doc l h).live e) (not (has (doc l h).cancelled e)) wanted in
+      let parts = and_parts (is_assigned (doc l h).live e) (not (has (doc l h).cancelled e)) wanted in
       in_tip_by h e legal parts.0 (not-true (has (doc l h).cancelled e) parts.1) opened
     where
       not-true : (b : Bool) → not b ≡ true → b ≡ false

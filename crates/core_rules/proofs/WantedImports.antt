@@ -4,6 +4,7 @@ use Rattle.std.proofs.lemmas.Bool.{eq-eqb, or_from, lt-ltb}
 use Rattle.std.specs.Prelude.{slice_get, nat_lt}
 use Rattle.std.specs.List.{list_any}
 use Rattle.std.specs.Option.{option_map_or}
+use Rattle.std.proofs.Math.Bool.{or-true}
 use Rattle.import_rounds.specs.Looks.{aims_at}
 use Rattle.doc_nodes.specs.declared.node.Entry.{Entry}
 use Rattle.doc_nodes.specs.declared.node.Node.{Node}
@@ -31,11 +32,7 @@ aimed_name nodes (x ∷ names) name zero q at place =
     ap (λ o. is_at q o || is_aimed (map (place_of nodes) names) q) here
     ∙ ap (λ b. b || is_aimed (map (place_of nodes) names) q) (eq-eqb q q refl)
 aimed_name nodes (x ∷ names) name (suc i) q at place =
-    ap (λ b. is_at q (place_of nodes x) || b) (aimed_name nodes names name i q at place) ∙ last (is_at q (place_of nodes x))
-  where
-    last : (b : Bool) → (b || true) ≡ true
-    last true = refl
-    last false = refl
+    ap (λ b. is_at q (place_of nodes x) || b) (aimed_name nodes names name i q at place) ∙ or-true (is_at q (place_of nodes x))
 
 -- the last of commands that are all assigned has an evaluation
 last_shut : (es : List Entry) (rs : List Row) → length es ≤ length rs → is_open_last (last_of es rs) ≡ false

@@ -1,37 +1,15 @@
 -- Names in scalars and in bytes.
-use Rattle.std.proofs.Common.{◌≡◌, ℕ, suc, zero, ◌<◌, Bool, true, false, List, [], ◌∷◌, sym, refl, ap, ◌∙◌, arith, rules, Some, None}
+use Rattle.std.proofs.Common.{◌≡◌, ℕ, Bool, true, false, List, sym, refl, ap, ◌∙◌, Some, None}
 use Rattle.std.specs.Str.{IsAscii, encode_utf8_all}
-use Rattle.std.specs.List.{list_all}
-use Rattle.std.proofs.lemmas.Bool.{both_ways, cond-true, cond-false}
+use Rattle.std.proofs.lemmas.Bool.{both_ways, cond-true, cond-false, and_parts}
 use Rattle.std.proofs.lemmas.Str.{encodes-IsAscii, chars-IsAscii, chars_from_encodes, IsUtf8-from_ascii}
-use Rattle.std.specs.Char.{is_ascii_alphabetic}
-use Rattle.text_words.specs.Identifier.{is_identifier, is_identifier_part}
-use Rattle.text_words.proofs.KnownTests.{both-parts}
-use Rattle.text_words.proofs.KnownIdentifiers.{letter-part}
+use Rattle.text_words.proofs.KnownIdentifiers.{identifier_ascii}
 use Rattle.pide_base.specs.NodeName.{is_node_name}
 use Rattle.doc_blobs.specs.Needs.{named_by}
 
--- what an identifier goes on with is in ASCII
-part_ascii : (c : ℕ) → is_identifier_part c ≡ true → c < 128
-part_ascii c part = search rules
-
--- so is a list of such
-parts_ascii : (s : List ℕ) → list_all is_identifier_part s ≡ true → IsAscii s
-parts_ascii [] parts i = omega arith
-parts_ascii (c ∷ cs) parts zero = part_ascii c (both-parts _ _ parts).0
-parts_ascii (c ∷ cs) parts (suc i) = parts_ascii cs (both-parts _ _ parts).1 i
-
--- an identifier is
-name_ascii : (s : List ℕ) → is_identifier s ≡ true → IsAscii s
-name_ascii [] tested i = absurd (both_ways false refl tested)
-name_ascii (c ∷ cs) tested zero =
-    part_ascii c (letter-part c (both-parts (is_ascii_alphabetic c) (list_all is_identifier_part cs) tested).0)
-name_ascii (c ∷ cs) tested (suc i) =
-    parts_ascii cs (both-parts (is_ascii_alphabetic c) (list_all is_identifier_part cs) tested).1 i
-
 -- a node's name is
 node_name_ascii : (s : List ℕ) → is_node_name s ≡ true → IsAscii s
-node_name_ascii s named = name_ascii s (both-parts _ _ named).0
+node_name_ascii s named = identifier_ascii s (and_parts _ _ named).0
 
 -- scalars whose bytes are a name are just these
 bytes_are : (s : List ℕ) → is_node_name (encode_utf8_all s) ≡ true → s ≡ encode_utf8_all s

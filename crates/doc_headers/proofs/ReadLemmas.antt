@@ -118,10 +118,6 @@ module _ (text : List ℕ) (place : ℕ) (r : Reading) (t : Token) (read : IsRea
         ap (λ (x : Reading). x.header) n.1.says,
       )
 
-pub ended-one : (s : Stage) → is_ended s ≡ true → s ≡ Ended
-ended-one Ended e = refl
-ended-one _ e = absurd (cc (e))
-
 pub absent-ends : (text : List ℕ) (ts : List Token) → end_from text Absent ts ≡ None
 absent-ends text [] = refl
 absent-ends text (t ∷ ts) = go (is_proper t.kind) refl (absent-ends text ts) where

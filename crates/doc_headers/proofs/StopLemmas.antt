@@ -10,10 +10,11 @@ use Rattle.outer_tokens.specs.Lexing.{tokens_from, tokens_under, header_end}
 use Rattle.outer_tokens.specs.declared.stage.Stage.TheVariants.{Start, Ended, Absent}
 use Rattle.outer_tokens.specs.declared.token.Token.{Token}
 use Rattle.outer_tokens.proofs.KnownLexing.{tokens-append, rest-tokens, all-tokens, same-tokens, between-rises}
+use Rattle.outer_tokens.proofs.KnownStages.{ended-is}
 use Rattle.doc_headers.specs.Headers.{AreBaseTokens, HasHeader, HasNoHeader}
 use Rattle.doc_headers.specs.Reading.{nothing, advanced, header_from, header_in}
 use Rattle.doc_headers.specs.declared.read.Reading.{Reading}
-use Rattle.doc_headers.proofs.ReadLemmas.{IsRead, read-start, tokens-next, read-on, read-header, ended-one, absent-ends, read-end}
+use Rattle.doc_headers.proofs.ReadLemmas.{IsRead, read-start, tokens-next, read-on, read-header, absent-ends, read-end}
 
 -- the tokens that have been read and these more are the text's
 base-is : (text : List ℕ) (ts : List Token) → AreBaseTokens text ts → header_end text ≡ end_from text Start ts
@@ -47,7 +48,7 @@ from-tells text place r (t ∷ ts) read (starts, token, rest) =
     go (is_ended (advanced text t r).stage) refl (λ (on : is_ended (advanced text t r).stage ≡ false). from-tells text t.range.stop (advanced text t r) ts (read-on text place r t read (starts, token) on) rest)
   where
     go : (b : Bool) → is_ended (advanced text t r).stage ≡ b → (is_ended (advanced text t r).stage ≡ false → MatchOption (header_from text (advanced text t r) ts) (HasNoHeader text) (HasHeader text)) → MatchOption (if b then Some (advanced text t r).header else header_from text (advanced text t r) ts) (HasNoHeader text) (HasHeader text)
-    go true ended more = read-header text place r t read (starts, token) (between-rises (λ _. is_in_force []) text t.range.stop (length text) ts rest) (ended-one (advanced text t r).stage ended)
+    go true ended more = read-header text place r t read (starts, token) (between-rises (λ _. is_in_force []) text t.range.stop (length text) ts rest) (ended-is (advanced text t r).stage ended)
     go false on more = more on
 
 pub in-tells : (text : List ℕ) → MatchOption (header_in text) (HasNoHeader text) (HasHeader text)

@@ -8,7 +8,8 @@ use Rattle.std.proofs.lemmas.Bool.Decides.{nat_tests}
 use Rattle.shared_map.specs.Pairs.{found}
 use Rattle.import_rounds.specs.Rounds.{has, is_known}
 use Rattle.import_rounds.specs.Looks.{aims_at}
-use Rattle.import_rounds.proofs.KnownRounds.{has_both, cut_at, cut, has_middle}
+use Rattle.import_rounds.proofs.KnownHas.{has_both, cut_at, has_middle}
+use Rattle.import_rounds.proofs.KnownRounds.{cut}
 use Rattle.doc_nodes.specs.declared.inherited.NodeAliases.{NodeAliases}
 use Rattle.doc_nodes.specs.Names.{in_order, equal}
 use Rattle.doc_nodes.specs.Imports.{NodeList, aims, is_ordered, order}

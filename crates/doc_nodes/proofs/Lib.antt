@@ -1,3 +1,5 @@
+pub mod KnownNames
+pub mod KnownPlaces
 mod Lists
 mod PrefixLemmas
 mod NameLemmas

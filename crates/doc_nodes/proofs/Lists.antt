@@ -4,7 +4,8 @@ use Rattle.std.specs.Prelude.{slice_get, get_or}
 use Rattle.std.specs.List.{zip, filter_map, cons_option, flat_map, range_with_len}
 use Rattle.std.proofs.lemmas.List.{take_more}
 use Rattle.std.proofs.lemmas.List.Concat.{flat_map-append}
-use Rattle.std.proofs.lemmas.List.Elements.{filter-append}
+use Rattle.std.proofs.lemmas.List.Elements.{filter-append, filter_map-append}
+use Rattle.import_rounds.proofs.KnownFiltered.{range_next}
 
 drop_next : {X : Type 0} (xs : List X) (k : ℕ) (x : X) → slice_get xs k ≡ Some x → drop k xs ≡ x ∷ drop (suc k) xs
 drop_next [] k x e = absurd (cc)
@@ -48,12 +49,6 @@ zip-none_second (x ∷ ks) [] k e = refl
 zip-none_second (x ∷ ks) (y ∷ vs) zero e = absurd (cc)
 zip-none_second (x ∷ ks) (y ∷ vs) (suc k) e = zip-none_second ks vs k e
 
-range_next : (a n : ℕ) → range_with_len a (suc n) ≡ range_with_len a n ++ (a + n) ∷ []
-range_next a zero = let same : a ≡ a + 0 = omega arith in ap (λ b. b ∷ []) same
-range_next a (suc n) =
-    let same : a + 1 + n ≡ a + suc n = omega arith in
-    ap (λ xs. a ∷ xs) (range_next (a + 1) n ∙ ap (λ b. range_with_len (a + 1) n ++ b ∷ []) same)
-
 pub range_more : (n : ℕ) → range_with_len 0 (n + 1) ≡ range_with_len 0 n ++ n ∷ []
 range_more n =
     let next : n + 1 ≡ suc n = omega arith in
@@ -62,15 +57,6 @@ range_more n =
 
 pub filter_range_more : (f : ℕ → Bool) (n : ℕ) → filter f (range_with_len 0 (n + 1)) ≡ filter f (range_with_len 0 n) ++ cond (f n) (n ∷ []) []
 filter_range_more f n = ap (filter f) (range_more n) ∙ filter-append f (range_with_len 0 n) (n ∷ [])
-
-pub filter_map-append : {X Y : Type 0} (f : X → Option Y) (xs ys : List X) → filter_map f (xs ++ ys) ≡ filter_map f xs ++ filter_map f ys
-filter_map-append f [] ys = refl
-filter_map-append {Y = Y} f (x ∷ xs) ys = go (f x) (filter_map-append f xs ys)
-  where
-    go : (o : Option Y) → filter_map f (xs ++ ys) ≡ filter_map f xs ++ filter_map f ys
-        → cons_option o (filter_map f (xs ++ ys)) ≡ cons_option o (filter_map f xs) ++ filter_map f ys
-    go None rest = rest
-    go (Some y) rest = ap (λ zs. y ∷ zs) rest
 
 pub filter_map_more : {X Y : Type 0} (f : X → Option Y) (xs : List X) (i : ℕ) (d : X) → i < length xs
     → filter_map f (take (i + 1) xs) ≡ filter_map f (take i xs) ++ cons_option (f (get_or xs i d)) []

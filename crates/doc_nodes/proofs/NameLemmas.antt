@@ -1,46 +1,11 @@
 -- Names compared.
-use Rattle.std.proofs.Common.{◌≡◌, ℕ, ◌+◌, Bool, true, false, cond, inl, inr, List, [], ◌∷◌, ◌++◌, drop, Option, Some, None, nat_cmp, refl, sym, ap, ◌∙◌, arith}
+use Rattle.std.proofs.Common.{◌≡◌, ℕ, ◌+◌, Bool, true, false, cond, List, [], ◌∷◌, ◌++◌, drop, Option, Some, None, refl, sym, ap, ◌∙◌}
 use Rattle.std.specs.Prelude.{slice_get, find, option_map, if◌then◌else◌}
 use Rattle.std.specs.Option.{option_or}
-use Rattle.std.specs.Cmp.{nat_cmp_is}
-use Rattle.std.specs.Ordering.{is_eq, ordering_then}
-use Rattle.std.specs.declared.cmp.Ordering.{Ordering}
-use Rattle.std.proofs.lemmas.Bool.{cases_lt, false≢true}
 use Rattle.shared_map.specs.Pairs.{has_key, found}
 use Rattle.doc_nodes.proofs.Lists.{drop_some}
-use Rattle.std.specs.declared.cmp.Ordering.TheVariants.{Less, Equal, Greater}
 use Rattle.doc_nodes.specs.Names.{in_order, equal}
-
-nat_same : (x y : ℕ) → nat_cmp x y ≡ Equal → x ≡ y
-nat_same x y e = elim (cases_lt x y) [
-  | inl less ↦ absurd (order_apart (nat_cmp_is x y Less less ∙ e))
-  | inr at_least ↦ elim (cases_lt y x) [
-    | inl more ↦ absurd (order_apart_back (nat_cmp_is x y Greater more ∙ e))
-    | inr at_most ↦ omega arith
-  ]
-]
-  where
-    order_apart : Less ≡ Equal → ⊥
-    order_apart e = cc
-
-    order_apart_back : Greater ≡ Equal → ⊥
-    order_apart_back e = cc
-
--- equal names are the same list
-pub equal_is : (xs ys : List ℕ) → equal xs ys ≡ true → xs ≡ ys
-equal_is [] [] e = refl
-equal_is [] (y ∷ ys) e = absurd (false≢true e)
-equal_is (x ∷ xs) [] e = absurd (false≢true e)
-equal_is (x ∷ xs) (y ∷ ys) e = go (nat_cmp x y) refl e (equal_is xs ys)
-  where
-    go : (o : Ordering) → nat_cmp x y ≡ o → is_eq (ordering_then o (in_order xs ys)) ≡ true → (equal xs ys ≡ true → xs ≡ ys) → x ∷ xs ≡ y ∷ ys
-    go Less is e rest = absurd (false≢true e)
-    go Equal is e rest = let first = nat_same x y is in let later = rest e in cc
-    go Greater is e rest = absurd (false≢true e)
-
-pub equal_itself : (xs : List ℕ) → equal xs xs ≡ true
-equal_itself [] = refl
-equal_itself (x ∷ xs) = ap (λ o. is_eq (ordering_then o (in_order xs xs))) (sym (nat_cmp_is x x Equal refl)) ∙ equal_itself xs
+use Rattle.doc_nodes.proofs.KnownNames.{name_is}
 
 -- the pair behind the others is found where no other has the name
 pub found-append : (name : List ℕ) (xs : List (List ℕ × List ℕ)) (pair : List ℕ × List ℕ)
@@ -69,7 +34,7 @@ indexed_more index new_index pairs new_pairs name target are none more pushed q 
   where
     go : (b : Bool) → equal name q ≡ b → cond b (Some target) (found in_order q index) ≡ option_or (found in_order q pairs) (cond (equal name q) (Some target) None)
     go true e =
-        let missing : found in_order q pairs ≡ None = ap (λ z. found in_order z pairs) (sym (equal_is name q e)) ∙ none in
+        let missing : found in_order q pairs ≡ None = ap (λ z. found in_order z pairs) (sym (name_is name q e)) ∙ none in
         sym (ap (λ o. option_or o (cond (equal name q) (Some target) None)) missing ∙ ap (λ b. cond b (Some target) None) e)
     go false e = are q ∙ or_none (found in_order q pairs) ∙ ap (λ b. option_or (found in_order q pairs) (cond b (Some target) None)) (sym e)
       where

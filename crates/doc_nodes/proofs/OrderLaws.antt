@@ -7,7 +7,10 @@ use Rattle.std.proofs.lemmas.List.{length-map}
 use Rattle.std.proofs.lemmas.Option.{slice_get_within}
 use Rattle.import_rounds.specs.Rounds.{has, is_known}
 use Rattle.import_rounds.specs.Looks.{aims_at}
-use Rattle.import_rounds.proofs.KnownRounds.{has_both, cut, has_passes, has_middle, once_in, filtered_within, filtered_has, is_order, all_ordered, ordered_known}
+use Rattle.import_rounds.proofs.KnownHas.{has_both, has_middle}
+use Rattle.import_rounds.proofs.KnownFiltered.{has_passes, once_in, filtered_within, filtered_has}
+use Rattle.import_rounds.proofs.KnownRounds.{cut, is_order}
+use Rattle.import_rounds.proofs.KnownOrdered.{all_ordered, ordered_known}
 use Rattle.doc_nodes.specs.declared.node.Node.{Node}
 use Rattle.doc_nodes.specs.Imports.{NodeList, place_of, aims_of, aims, ordered, is_ordered, others, order, placed}
 use Rattle.doc_nodes.proofs.WantedLemmas.{placed_within}

@@ -1,12 +1,14 @@
 -- What is reached, in the subject's words.
 use Rattle.std.proofs.Common.{◌≡◌, ◌⊎◌, inl, inr, ℕ, eqb, Bool, true, false, ◌&&◌, ◌||◌, cond, List, [], ◌∷◌, ◌++◌, Option, Some, None, refl, sym, ap, subst, ◌∙◌, arith, append_assoc}
 use Rattle.std.specs.List.{list_all}
-use Rattle.std.proofs.lemmas.Bool.{false≢true}
+use Rattle.std.proofs.lemmas.Bool.{false≢true, and_parts, or_cases}
 use Rattle.std.proofs.lemmas.Bool.Decides.{nat_tests}
 use Rattle.std.proofs.lemmas.List.Folds.{list_any-append}
+use Rattle.std.proofs.Math.Bool.{or-true}
 use Rattle.import_rounds.specs.Rounds.{has, is_known}
 use Rattle.import_rounds.specs.Looks.{aims_at}
-use Rattle.import_rounds.proofs.KnownRounds.{has_both, cut_at, ordered_known}
+use Rattle.import_rounds.proofs.KnownHas.{has_both, cut_at}
+use Rattle.import_rounds.proofs.KnownOrdered.{ordered_known}
 use Rattle.doc_nodes.specs.Imports.{NodeList, aims, is_ordered, ordered, order}
 use Rattle.doc_nodes.specs.Wanted.{is_at, is_aimed, wants, hands_on, reached, is_reached}
 use Rattle.doc_nodes.specs.Reached.{Reached}
@@ -14,19 +16,11 @@ use Rattle.doc_nodes.specs.Reached.Reached.{direct, further}
 use Rattle.doc_nodes.proofs.OrderLaws.{each_once, aims_before, within_in_order}
 use Rattle.doc_nodes.proofs.WantedLemmas.{placed_within}
 
-either : (a b : Bool) → (a || b) ≡ true → (a ≡ true) ⊎ (b ≡ true)
-either true b h = inl refl
-either false b h = inr h
-
-both : (a b : Bool) → (a && b) ≡ true → (a ≡ true) × (b ≡ true)
-both true b h = (refl, h)
-both false b h = absurd (false≢true h)
-
 -- what is aimed at is known, where all aims are
 aimed_known : (places : List ℕ) (aims : List (Option ℕ)) (p : ℕ) → list_all (is_known places) aims ≡ true → is_aimed aims p ≡ true → has places p ≡ true
 aimed_known places [] p all h = absurd (false≢true h)
 aimed_known places (None ∷ aims) p all h = absurd (false≢true all)
-aimed_known places (Some q ∷ aims) p all h = go (eqb p q) refl h (both (has places q) (list_all (is_known places) aims) all) (aimed_known places aims p)
+aimed_known places (Some q ∷ aims) p all h = go (eqb p q) refl h (and_parts (has places q) (list_all (is_known places) aims) all) (aimed_known places aims p)
   where
     go : (b : Bool) → eqb p q ≡ b → (b || is_aimed aims p) ≡ true → (has places q ≡ true) × (list_all (is_known places) aims ≡ true)
         → (list_all (is_known places) aims ≡ true → is_aimed aims p ≡ true → has places p ≡ true) → has places p ≡ true
@@ -42,14 +36,14 @@ module _ (nodes : NodeList) where
   reached_from [] p h = absurd (false≢true h)
   reached_from (q ∷ ps) p h =
       go (hands_on nodes (reached nodes ps) q) refl
-      (either _ _ (sym (list_any-append (is_at p) (cond (hands_on nodes (reached nodes ps) q) (aims_at (aims nodes) q) []) (reached nodes ps)) ∙ h))
+      (or_cases _ _ (sym (list_any-append (is_at p) (cond (hands_on nodes (reached nodes ps) q) (aims_at (aims nodes) q) []) (reached nodes ps)) ∙ h))
       (reached_from ps)
     where
       from : (is_ordered nodes q && (wants nodes q || is_aimed (reached nodes ps) q)) ≡ true → is_aimed (aims_at (aims nodes) q) p ≡ true
           → ((r : ℕ) → is_aimed (reached nodes ps) r ≡ true → Reached nodes r) → Reached nodes p
       from hands aimed rest =
-          let b = both (is_ordered nodes q) (wants nodes q || is_aimed (reached nodes ps) q) hands in
-          elim (either (wants nodes q) (is_aimed (reached nodes ps) q) b.1) [
+          let b = and_parts (is_ordered nodes q) (wants nodes q || is_aimed (reached nodes ps) q) hands in
+          elim (or_cases (wants nodes q) (is_aimed (reached nodes ps) q) b.1) [
             | inl idle ↦ direct q p b.0 idle aimed
             | inr later ↦ further q p (rest q later) aimed
           ]
@@ -67,11 +61,7 @@ module _ (nodes : NodeList) where
   reached_more (q ∷ front) ps p h =
       list_any-append (is_at p) (cond (hands_on nodes (reached nodes (front ++ ps)) q) (aims_at (aims nodes) q) []) (reached nodes (front ++ ps))
       ∙ ap (λ b. is_aimed (cond (hands_on nodes (reached nodes (front ++ ps)) q) (aims_at (aims nodes) q) []) p || b) (reached_more front ps p h)
-      ∙ or_true (is_aimed (cond (hands_on nodes (reached nodes (front ++ ps)) q) (aims_at (aims nodes) q) []) p)
-    where
-      or_true : (b : Bool) → (b || true) ≡ true
-      or_true true = refl
-      or_true false = refl
+      ∙ or-true (is_aimed (cond (hands_on nodes (reached nodes (front ++ ps)) q) (aims_at (aims nodes) q) []) p)
 
   handed : (q p : ℕ) (ps : List ℕ) → hands_on nodes (reached nodes ps) q ≡ true → is_aimed (aims_at (aims nodes) q) p ≡ true → is_aimed (reached nodes (q ∷ ps)) p ≡ true
   handed q p ps hands aimed =
@@ -84,19 +74,19 @@ module _ (nodes : NodeList) where
       → is_aimed (reached nodes (front ++ q ∷ ps)) q ≡ true → is_aimed (reached nodes ps) q ≡ true
   reached_behind before [] q ps e h =
       go (hands_on nodes (reached nodes ps) q) refl
-      (either _ _ (sym (list_any-append (is_at q) (cond (hands_on nodes (reached nodes ps) q) (aims_at (aims nodes) q) []) (reached nodes ps)) ∙ h))
+      (or_cases _ _ (sym (list_any-append (is_at q) (cond (hands_on nodes (reached nodes ps) q) (aims_at (aims nodes) q) []) (reached nodes ps)) ∙ h))
     where
       go : (b : Bool) → hands_on nodes (reached nodes ps) q ≡ b
           → (is_aimed (cond b (aims_at (aims nodes) q) []) q ≡ true) ⊎ (is_aimed (reached nodes ps) q ≡ true) → is_aimed (reached nodes ps) q ≡ true
       go b f (inr later) = later
       go true f (inl aimed) =
-          let b = both (is_ordered nodes q) (wants nodes q || is_aimed (reached nodes ps) q) f in
+          let b = and_parts (is_ordered nodes q) (wants nodes q || is_aimed (reached nodes ps) q) f in
           let early = aimed_known before (aims_at (aims nodes) q) q (aims_before nodes before q ps e b.0) aimed in
           absurd (false≢true (sym (each_once nodes before q ps e) ∙ early))
       go false f (inl aimed) = absurd (false≢true aimed)
   reached_behind before (z ∷ front) q ps e h =
       go (hands_on nodes (reached nodes (front ++ q ∷ ps)) z) refl
-      (either _ _ (sym (list_any-append (is_at q) (cond (hands_on nodes (reached nodes (front ++ q ∷ ps)) z) (aims_at (aims nodes) z) []) (reached nodes (front ++ q ∷ ps))) ∙ h))
+      (or_cases _ _ (sym (list_any-append (is_at q) (cond (hands_on nodes (reached nodes (front ++ q ∷ ps)) z) (aims_at (aims nodes) z) []) (reached nodes (front ++ q ∷ ps))) ∙ h))
       (reached_behind (before ++ z ∷ []) front q ps (e ∙ sym (append_assoc before (z ∷ []) (front ++ q ∷ ps))))
     where
       twice : order nodes ≡ (before ++ z ∷ front) ++ q ∷ ps
@@ -107,7 +97,7 @@ module _ (nodes : NodeList) where
           → (is_aimed (reached nodes (front ++ q ∷ ps)) q ≡ true → is_aimed (reached nodes ps) q ≡ true) → is_aimed (reached nodes ps) q ≡ true
       go b f (inr later) rest = rest later
       go true f (inl aimed) rest =
-          let b = both (is_ordered nodes z) (wants nodes z || is_aimed (reached nodes (front ++ q ∷ ps)) z) f in
+          let b = and_parts (is_ordered nodes z) (wants nodes z || is_aimed (reached nodes (front ++ q ∷ ps)) z) f in
           let early = aimed_known before (aims_at (aims nodes) z) q (aims_before nodes before z (front ++ q ∷ ps) e b.0) aimed in
           let first = each_once nodes (before ++ z ∷ front) q ps twice in
           absurd (false≢true (sym first ∙ has_both before (z ∷ front) q ∙ ap (λ c. c || has (z ∷ front) q) early))
@@ -134,12 +124,8 @@ module _ (nodes : NodeList) where
         aimed_ordered q p b.0 aimed,
         hands_by q p b.0 aimed (λ ps front e.
             ap (λ c. wants nodes q || c) (reached_behind [] front q ps e (subst (λ (xs : List ℕ). is_aimed (reached nodes xs) q ≡ true) e b.1))
-            ∙ or_true (wants nodes q)),
+            ∙ or-true (wants nodes q)),
       )
-    where
-      or_true : (b : Bool) → (b || true) ≡ true
-      or_true true = refl
-      or_true false = refl
 
   pub reached_complete : (p : ℕ) → Reached nodes p → is_reached nodes p ≡ true
   reached_complete p r = (both_reached p r).1

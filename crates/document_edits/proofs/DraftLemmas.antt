@@ -1,5 +1,5 @@
 -- What items make of open nodes, and of the nodes that come of them.
-use Rattle.std.proofs.Common.{◌≡◌, ℕ, ◌≤◌, Bool, true, false, cond, List, [], ◌∷◌, length, drop, get_or, map, arith, Option, Some, None, Result, Ok, Err, refl, sym, ap, subst, ◌∙◌}
+use Rattle.std.proofs.Common.{◌≡◌, ℕ, Bool, true, false, cond, List, ◌∷◌, map, Option, Some, None, Result, Ok, Err, refl, sym, ap, subst, ◌∙◌}
 use Rattle.std.specs.Option.{option_map, option_map_or, is_some}
 use Rattle.std.specs.List.{AllZip}
 use Rattle.std.proofs.lemmas.Bool.{false≢true}
@@ -20,8 +20,7 @@ use Rattle.buffer_rules.specs.Sheets.{SheetList, blank, sheet_of, sheet_after, c
 use Rattle.buffer_rules.specs.Nodes.{uncut}
 use Rattle.sheet_edits.specs.declared.fault.PrepareError.{PrepareError}
 use Rattle.sheet_edits.specs.OpenSheet.{OpenSheet}
-use Rattle.sheet_edits.specs.declared.fault.PrepareError.TheVariants.{Refused, NoMemory}
-use Rattle.sheet_edits.specs.Telling.{Tells, TellsError}
+use Rattle.sheet_edits.specs.Telling.{Tells}
 use Rattle.document_edits.specs.Standing.{OpenList, sheets_of, bare, DraftedUnder, Drafted}
 use Rattle.document_edits.proofs.KeyLists.{found-over, over-put, over-without}
 use Rattle.document_edits.proofs.PairLists.{AllZip-put, AllZip-without}
@@ -124,16 +123,6 @@ pub item_edited : (name : List ℕ) (edits : List Edit) (told : Option Perspecti
     → change_one name (change.Edit edits told) sheets ≡ Ok new
 item_edited name edits told sheets new s made e =
     ap (λ r. r >>= λ sheet. Ok (put in_order (name, sheet) sheets)) made ∙ ap (λ (ss : SheetList). Ok ss) (sym e)
-
--- a refusal of the first step is that of both
-pub told_then : {A B : Type 0} (e : PrepareError) (r : Result A Refusal) (f : A → Result B Refusal) → TellsError e r → TellsError e (r >>= f)
-told_then (Refused refusal) r f told = ap (λ s. s >>= f) told
-told_then NoMemory r f told = tt
-
--- a list that has an item, taken apart at its first
-pub head_tail : {X : Type 0} (xs : List X) (x : X) → 1 ≤ length xs → x ≡ get_or xs 0 x → xs ≡ x ∷ drop 1 xs
-head_tail [] x some is = absurd (omega arith)
-head_tail (y ∷ xs) x some is = ap (λ z. z ∷ xs) (sym is)
 
 -- one item and then the others
 pub next_item : (item : Item) (more : List Item) (sheets after : SheetList) (whole : Result SheetList Refusal)

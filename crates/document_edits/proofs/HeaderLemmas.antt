@@ -13,10 +13,11 @@ use Rattle.shared_map.proofs.KnownFound.{found_put, found_without}
 use Rattle.doc_nodes.specs.declared.node.Node.{Node}
 use Rattle.doc_nodes.specs.Names.{in_order, equal}
 use Rattle.doc_nodes.specs.Imports.{NodeList}
+use Rattle.doc_nodes.proofs.KnownNames.{name_is}
 use Rattle.sheet_edits.specs.OpenSheet.{OpenSheet}
 use Rattle.document_edits.specs.Standing.{OpenList, Drafted}
 use Rattle.document_edits.specs.Heads.{head, heads}
-use Rattle.document_edits.proofs.KeyLists.{equal_so, found-over}
+use Rattle.document_edits.proofs.KeyLists.{found-over}
 use Rattle.document_edits.proofs.PairLists.{put_at}
 
 itself : (name : List ℕ) → is_eq (in_order name name) ≡ true
@@ -32,7 +33,7 @@ found_split name (x ∷ xs) v e = go (equal x.0 name) refl (found_split name xs 
   go true same rest f =
       let value : x.1 ≡ v = cc (f) in
       let one : x ≡ (name, v) =
-      ap (λ k. let p : List ℕ × Node = (k, x.1) in p) (equal_so x.0 name same) ∙ ap (λ n. let p : List ℕ × Node = (name, n) in p) value in
+      ap (λ k. let p : List ℕ × Node = (k, x.1) in p) (name_is x.0 name same) ∙ ap (λ n. let p : List ℕ × Node = (name, n) in p) value in
       ([], xs, ap (λ p. p ∷ xs) one)
   go false same rest f =
       let split = rest f in

@@ -1,20 +1,13 @@
 -- Values of pairs changed one by one: what a key finds, and what changes of the pairs make.
-use Rattle.std.proofs.Common.{◌≡◌, ℕ, Bool, true, false, cond, List, [], ◌∷◌, ◌++◌, filter, map, Option, Some, None, refl, sym, ap, ◌∙◌, arith}
+use Rattle.std.proofs.Common.{◌≡◌, Bool, true, false, cond, List, [], ◌∷◌, ◌++◌, filter, map, Option, Some, None, refl, sym, ap, ◌∙◌}
 use Rattle.std.specs.Prelude.{find}
 use Rattle.std.specs.Option.{option_map}
 use Rattle.std.specs.Ordering.{is_eq, is_lt, is_gt}
 use Rattle.std.specs.declared.cmp.Ordering.{Ordering}
 use Rattle.std.proofs.lemmas.List.{map-append}
-use Rattle.std.proofs.lemmas.Slice.Eq.{bytes_eq-Decides}
-use Rattle.std.proofs.lemmas.Map.Text.{is_eq-slice_cmp}
 use Rattle.shared_map.specs.Pairs.{has_key, found}
 use Rattle.shared_map.specs.Cuts.{before, behind, at_key}
 use Rattle.shared_map.specs.Changes.{put, without}
-use Rattle.doc_nodes.specs.Names.{equal}
-
--- names that are in one place of their order are the same
-pub equal_so : (xs ys : List ℕ) → equal xs ys ≡ true → xs ≡ ys
-equal_so xs ys e = grind (arith, bytes_eq-Decides xs ys, is_eq-slice_cmp xs ys)
 
 module _ {K V W : Type 0} (f : V → W) where
   abbrev pub over : List (K × V) → List (K × W)

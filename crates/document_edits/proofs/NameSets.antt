@@ -6,8 +6,10 @@ use Rattle.std.specs.declared.cmp.Ordering.{Ordering}
 use Rattle.std.specs.declared.cmp.Ordering.TheVariants.{Less, Equal, Greater}
 use Rattle.std.specs.Cmp.Lexicographic.{nat_list_cmp_total}
 use Rattle.std.proofs.lemmas.List.{take-append-drop}
+use Rattle.std.proofs.Math.Bool.{or-true}
 use Rattle.shared_map.specs.Pairs.{found}
 use Rattle.doc_nodes.specs.Names.{in_order, equal}
+use Rattle.doc_nodes.proofs.KnownNames.{name_is}
 use Rattle.message_values.specs.declared.item.Item.{Item}
 use Rattle.message_values.specs.declared.item.BlobChange.{BlobChange}
 use Rattle.message_values.specs.declared.refusal.Refusal.{Refusal}
@@ -16,7 +18,6 @@ use Rattle.buffer_rules.specs.Trying.{◌>>=◌}
 use Rattle.buffer_rules.specs.Updates.{BlobList, is_among, has_twice, names_twice, removes_none, blob_once, blobs_after}
 use Rattle.document_edits.specs.NameSets.{NameSet, AreNames, AreChanged}
 use Rattle.document_edits.specs.BlobSteps.{blob_step}
-use Rattle.document_edits.proofs.KeyLists.{equal_so}
 
 turned : (o : Ordering) → is_eq (ordering_reverse o) ≡ is_eq o
 turned Less = refl
@@ -69,7 +70,7 @@ changed_more set new before blobs after name text other are texts marks differ q
   where
     go : (b : Bool) → equal name q ≡ b → (is_some (found in_order q new) ≡ false) ↔ (found in_order q after ≡ found in_order q before)
     go true e =
-        let same : name ≡ q = equal_so name q e in
+        let same : name ≡ q = name_is name q e in
         let mark : is_some (found in_order q new) ≡ other =
         ap (λ (o : Option (Unit {0})). is_some o) (marks q ∙ ap (λ b. cond b (cond other (Some tt) None) (found in_order q set)) e) ∙ marked_so other in
         let is : found in_order q after ≡ text = texts q ∙ ap (λ b. cond b text (found in_order q blobs)) e in
@@ -84,16 +85,12 @@ changed_more set new before blobs after name text other are texts marks differ q
           λ f. ap (λ (o : Option (Unit {0})). is_some o) mark ∙ (are q).1 (sym is ∙ f),
         )
 
-or_true : (b : Bool) → (b || true) ≡ true
-or_true true = refl
-or_true false = refl
-
 -- a name that comes twice behind a front comes twice
 pub twice_behind : (front items : List Item) → names_twice items ≡ true → names_twice (front ++ items) ≡ true
 twice_behind [] items e = e
 twice_behind (x ∷ front) items e =
     ap (λ b. is_among (map (λ (i : Item). i.node) (front ++ items)) x.node || b) (twice_behind front items e)
-    ∙ or_true (is_among (map (λ (i : Item). i.node) (front ++ items)) x.node)
+    ∙ or-true (is_among (map (λ (i : Item). i.node) (front ++ items)) x.node)
 
 -- an item before those from a place on
 split_before : (items : List Item) (at : ℕ) (item : Item) → 0 < at → at ≤ length items → item ≡ get_or items (at - 1) item → drop (at - 1) items ≡ item ∷ drop at items

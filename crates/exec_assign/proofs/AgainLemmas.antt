@@ -9,12 +9,12 @@ use Rattle.import_rounds.specs.Rounds.{has}
 use Rattle.doc_nodes.specs.declared.node.Entry.{Entry}
 use Rattle.doc_nodes.specs.declared.node.Node.{Node}
 use Rattle.doc_nodes.specs.Names.{in_order, equal}
+use Rattle.doc_nodes.proofs.KnownNames.{name_itself}
 use Rattle.exec_rules.specs.declared.row.Row.{Row}
 use Rattle.exec_rules.specs.Kept.{BlobList, Times, agree, same_blob, keeps, kept}
 use Rattle.exec_rules.specs.Rows.{live_print, print_of, takes_print, with_prints, behind_prints}
 use Rattle.exec_rules.specs.declared.home.Input.TheVariants.{Print}
 use Rattle.exec_rules.specs.Homes.{home, print_homes}
-use Rattle.exec_rules.proofs.KnownNames.{name_itself}
 use Rattle.exec_assign.specs.Fitting.{Fit}
 use Rattle.exec_assign.specs.Untouched.{IsAlive}
 

@@ -1,11 +1,10 @@
 -- Of which rows the same is cancelled.
-use Rattle.std.proofs.Common.{◌≡◌, ℕ, zero, suc, Bool, true, false, cond, ◌||◌, List, [], ◌∷◌, ◌++◌, Option, Some, None, refl, sym, ap, ◌∙◌}
-use Rattle.std.proofs.lemmas.Bool.{eq-eqb}
+use Rattle.std.proofs.Common.{◌≡◌, ℕ, zero, suc, true, cond, List, [], ◌∷◌, Option, Some, None, refl, sym, ap, ◌∙◌}
 use Rattle.std.proofs.lemmas.Grind.{flat_map-append}
-use Rattle.std.proofs.lemmas.List.Folds.{list_any-append}
 use Rattle.std.specs.Prelude.{slice_get, not, ◌&&◌, ◌==◌, flat_map}
 use Rattle.std.specs.Option.{option_map_or, option_and_then}
 use Rattle.import_rounds.specs.Rounds.{has}
+use Rattle.import_rounds.proofs.KnownHas.{has_itself, has_left, has_right}
 use Rattle.doc_nodes.specs.declared.node.Entry.{Entry}
 use Rattle.doc_nodes.specs.Imports.{place_of}
 use Rattle.exec_rules.specs.declared.row.Row.{Row}
@@ -16,19 +15,6 @@ use Rattle.exec_rules.specs.Rows.{live_print, live_prints}
 use Rattle.exec_rules.specs.Listed.{executions, print_list}
 use Rattle.exec_rules.specs.Assigning.{rows_in}
 use Rattle.exec_assign.specs.Agreeing.{AgreeAt}
-
-has_left : (xs ys : List ℕ) (e : ℕ) → has xs e ≡ true → has (xs ++ ys) e ≡ true
-has_left xs ys e h = list_any-append (λ q. e == q) xs ys ∙ ap (λ b. b || has ys e) h
-
-has_right : (xs ys : List ℕ) (e : ℕ) → has ys e ≡ true → has (xs ++ ys) e ≡ true
-has_right xs ys e h = list_any-append (λ q. e == q) xs ys ∙ or_true (has xs e) (has ys e) h
-  where
-    or_true : (a b : Bool) → b ≡ true → (a || b) ≡ true
-    or_true true b h = refl
-    or_true false b h = h
-
-has_one : (xs : List ℕ) (e : ℕ) → has (e ∷ xs) e ≡ true
-has_one xs e = ap (λ b. b || has xs e) (eq-eqb e e refl)
 
 -- the executions of a row are among those of its node, and these among all
 row_among : (rs : List Row) (i e : ℕ) (row : Row) → slice_get rs i ≡ Some row → has (executions row) e ≡ true → has (flat_map executions rs) e ≡ true
@@ -59,11 +45,11 @@ pub record RowAgrees (one other : List ℕ) (row : Row) : Type 0 where
 print_agrees : (one other : List ℕ) (print : Option ℕ) → ((e : ℕ) → has (print_list print) e ≡ true → has one e ≡ has other e)
     → live_print one print ≡ live_print other print
 print_agrees one other None agree = refl
-print_agrees one other (Some q) agree = ap (λ b. cond b None (Some q)) (agree q (has_one [] q))
+print_agrees one other (Some q) agree = ap (λ b. cond b None (Some q)) (agree q (has_itself [] q))
 
 row_agrees : (one other : List ℕ) (row : Row) → ((e : ℕ) → has (executions row) e ≡ true → has one e ≡ has other e) → RowAgrees one other row
 row_agrees one other row agree = record {
-  evaluation = agree row.evaluation (has_one (print_list row.print) row.evaluation);
+  evaluation = agree row.evaluation (has_itself (print_list row.print) row.evaluation);
   print = print_agrees one other row.print (λ e h. agree e (has_right (row.evaluation ∷ []) (print_list row.print) e h));
 }
 

@@ -8,8 +8,8 @@ use Rattle.std.specs.Borrow.{Bor}
 use Rattle.std.specs.Option.{option_copied}
 use Rattle.shared_map.specs.Pairs.{found}
 use Rattle.doc_nodes.specs.Names.{in_order, equal}
+use Rattle.doc_nodes.proofs.KnownNames.{name_is}
 use Rattle.exec_rules.specs.Kept.{BlobList, Times, agree, same_blob}
-use Rattle.exec_rules.proofs.KnownNames.{name_is}
 use Rattle.exec_assign.specs.Untouched.{AreChanged}
 
 not_not : (a b : Bool) → a ≡ not b → b ≡ not a

@@ -10,13 +10,13 @@ use Rattle.doc_nodes.specs.declared.node.Node.{Node}
 use Rattle.doc_nodes.specs.Names.{equal}
 use Rattle.doc_nodes.specs.Imports.{NodeList, place_of}
 use Rattle.doc_nodes.specs.Wanted.{wanted_at}
+use Rattle.doc_nodes.proofs.KnownNames.{name_is}
 use Rattle.exec_rules.specs.declared.key.Key.{Key}
 use Rattle.exec_rules.specs.declared.row.Row.{Row}
 use Rattle.exec_rules.specs.Rows.{live_print, live_prints, print_of, behind, with_prints}
 use Rattle.exec_rules.specs.Assigning.{Update, rows_in, kept_of, greater, given, assignment}
 use Rattle.exec_assign.specs.Telling.{made_by}
 use Rattle.exec_assign.specs.Numbered.{IsHeld, AreHeld}
-use Rattle.exec_rules.proofs.KnownNames.{name_is}
 use Rattle.exec_assign.proofs.RowLemmas.{behind_first}
 use Rattle.exec_assign.proofs.OldLemmas.{live_is}
 use Rattle.exec_assign.proofs.DoneLemmas.{each_assigned}

@@ -2,6 +2,7 @@
 use Rattle.std.proofs.Common.{◌≡◌, ◌≢◌, ℕ, zero, suc, ◌+◌, ◌<◌, Bool, true, false, List, [], ◌∷◌, ◌++◌, length, map, take, drop, get_or, Some, refl, ap, ◌∙◌, arith}
 use Rattle.std.proofs.lemmas.List.{take_more}
 use Rattle.std.specs.Prelude.{find, ◌&&◌}
+use Rattle.std.proofs.Math.Bool.{and-false}
 use Rattle.exec_rules.specs.declared.key.Last.{Last}
 use Rattle.exec_rules.specs.Keys.{same_last, same_lasts}
 
@@ -62,13 +63,9 @@ lasts_over (x ∷ xs) [] i over same = absurd (omega arith)
 lasts_over (x ∷ xs) (y ∷ ys) zero over same = absurd (omega arith)
 lasts_over (x ∷ xs) (y ∷ ys) (suc i) over same = lasts_over xs ys i (omega arith) (omega arith)
 
-and_false : (b : Bool) → (b && false) ≡ false
-and_false true = refl
-and_false false = refl
-
 pub lasts_lengths : (xs ys : List Last) → length xs ≢ length ys → same_lasts xs ys ≡ false
 lasts_lengths [] [] differ = absurd (differ refl)
 lasts_lengths [] (y ∷ ys) differ = refl
 lasts_lengths (x ∷ xs) [] differ = refl
 lasts_lengths (x ∷ xs) (y ∷ ys) differ =
-    ap (λ b. same_last x y && b) (lasts_lengths xs ys (λ same. differ (omega (arith, same)))) ∙ and_false (same_last x y)
+    ap (λ b. same_last x y && b) (lasts_lengths xs ys (λ same. differ (omega (arith, same)))) ∙ and-false (same_last x y)

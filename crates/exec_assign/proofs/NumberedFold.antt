@@ -6,6 +6,7 @@ use Rattle.std.proofs.lemmas.List.FromFn.{get_or-map-range_with_len}
 use Rattle.std.specs.Prelude.{slice_get, slice_index_or, ◌||◌}
 use Rattle.std.specs.List.{flat_map}
 use Rattle.std.specs.Option.{option_map_or}
+use Rattle.std.proofs.lemmas.Bool.{or_parts, or_right}
 use Rattle.import_rounds.specs.Rounds.{has}
 use Rattle.doc_nodes.specs.declared.node.Node.{Node}
 use Rattle.doc_nodes.specs.Imports.{order}
@@ -25,14 +26,6 @@ Distinct (p ∷ ps) = (has ps p ≡ false) × Distinct ps
 itself : (p : ℕ) → eqb p p ≡ true
 itself p = grind (arith, nat_tests)
 
-or_later : (b c : Bool) → c ≡ true → (b || c) ≡ true
-or_later true c e = refl
-or_later false c e = e
-
-not_later : (b c : Bool) → (b || c) ≡ false → (b ≡ false) × (c ≡ false)
-not_later true c e = absurd (cc)
-not_later false c e = (refl, e)
-
 parted : (p : ℕ) (xs : List ℕ) → has xs p ≡ true → (front : List ℕ) × (rest : List ℕ) × (xs ≡ front ++ p ∷ rest)
 parted p [] e = absurd (cc)
 parted p (x ∷ xs) e = go (eqb p x) refl (λ h. parted p xs h)
@@ -46,7 +39,7 @@ parted p (x ∷ xs) e = go (eqb p x) refl (λ h. parted p xs h)
 distinct : (xs : List ℕ) → ((front rest : List ℕ) (p : ℕ) → xs ≡ front ++ p ∷ rest → has front p ≡ false) → Distinct xs
 distinct [] once = tt
 distinct (x ∷ xs) once =
-    (go (has xs x) refl, distinct xs (λ front rest p e. (not_later (eqb p x) (has front p) (once (x ∷ front) rest p (ap (λ ys. x ∷ ys) e))).1))
+    (go (has xs x) refl, distinct xs (λ front rest p e. (or_parts (eqb p x) (has front p) (once (x ∷ front) rest p (ap (λ ys. x ∷ ys) e))).1))
   where
     go : (b : Bool) → has xs x ≡ b → has xs x ≡ false
     go false e = e
@@ -69,7 +62,7 @@ stays_one u work p q other = go (slice_get u.nodes p) refl
 stays : (u : Update) (ps : List ℕ) (work : Work) (q : ℕ) → has ps q ≡ false → assigned_at (assign_all u ps work).done q ≡ assigned_at work.done q
 stays u [] work q e = refl
 stays u (p ∷ ps) work q e =
-    let none = not_later (eqb q p) (has ps q) e in
+    let none = or_parts (eqb q p) (has ps q) e in
     stays u ps (assign_one u work p) q none.1 ∙ stays_one u work p q none.0
 
 module _ (all_keep : AllKeep) (u : Update) (first : ℕ) (old : AreBelow first u.tip) where
@@ -117,7 +110,7 @@ module _ (all_keep : AllKeep) (u : Update) (first : ℕ) (old : AreBelow first u
       is p (ap (λ b. b || has ps p) (itself p)) ∙ stays u ps (assign_one u work p) p once.0 in
       sym (append_assoc (with_numbers first work.homes) (new_at u first a p) (flat_map (new_at u first a) ps))
       ∙ ap (λ xs. xs ++ flat_map (new_at u first a) ps) (one_made work p a next here)
-      ∙ all_made ps (assign_one u work p) a once.1 (one_next work p next) (λ q e. is q (or_later (eqb q p) (has ps q) e))
+      ∙ all_made ps (assign_one u work p) a once.1 (one_next work p next) (λ q e. is q (or_right (eqb q p) (has ps q) e))
 
   -- all nodes, in the order of imports
   pub made_in_order : ((p : ℕ) → has (order u.nodes) p ≡ true → p < length u.nodes)

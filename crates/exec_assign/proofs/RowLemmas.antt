@@ -3,6 +3,7 @@ use Rattle.std.proofs.Common.{◌≡◌, ℕ, zero, suc, ◌+◌, ◌-◌, ◌<�
 use Rattle.std.proofs.lemmas.List.{drop_more, drop_all, length-append, length-map, length-take-le}
 use Rattle.std.proofs.lemmas.List.FromFn.{length-range_with_len}
 use Rattle.std.specs.List.{range_with_len}
+use Rattle.import_rounds.proofs.KnownFiltered.{range_next}
 use Rattle.doc_nodes.specs.declared.node.Entry.{Entry}
 use Rattle.doc_nodes.specs.declared.node.Node.{Node}
 use Rattle.exec_rules.specs.declared.row.Row.{Row}
@@ -20,13 +21,6 @@ drop_next (x ∷ xs) (suc i) = drop_next xs i
 
 pub drop_one : {X : Type 0} (xs : List X) (i : ℕ) → drop 1 (drop i xs) ≡ drop (i + 1) xs
 drop_one xs i = let next : suc i ≡ i + 1 = omega arith in drop_next xs i ∙ ap (λ n. drop n xs) next
-
--- one number more
-range_next : (a n : ℕ) → range_with_len a (suc n) ≡ range_with_len a n ++ (a + n) ∷ []
-range_next a zero = let same : a ≡ a + 0 = omega arith in ap (λ b. b ∷ []) same
-range_next a (suc n) =
-    let same : a + 1 + n ≡ a + suc n = omega arith in
-    ap (λ xs. a ∷ xs) (range_next (a + 1) n ∙ ap (λ b. range_with_len (a + 1) n ++ b ∷ []) same)
 
 pub range_more : (a n : ℕ) → range_with_len a (n + 1) ≡ range_with_len a n ++ (a + n) ∷ []
 range_more a n = let next : n + 1 ≡ suc n = omega arith in ap (λ k. range_with_len a k) next ∙ range_next a n

@@ -3,6 +3,7 @@ use Rattle.std.proofs.Common.{◌≡◌, ◌≢◌, ℕ, zero, suc, ◌+◌, ◌
 use Rattle.std.proofs.lemmas.List.{drop_more, drop_all}
 use Rattle.std.proofs.lemmas.Bool.{eq-eqb}
 use Rattle.std.specs.Prelude.{slice_get, ◌&&◌, ◌==◌}
+use Rattle.std.proofs.Math.Bool.{and-false}
 use Rattle.doc_nodes.specs.declared.node.Entry.{Entry}
 use Rattle.exec_rules.specs.declared.row.Row.{Row}
 use Rattle.exec_rules.specs.Listed.{Told, told, same_by, same_told}
@@ -57,16 +58,12 @@ told_long [] rs = refl
 told_long (e ∷ es) [] = ap suc (told_long es [])
 told_long (e ∷ es) (r ∷ rs) = ap suc (told_long es rs)
 
-and_false : (b : Bool) → (b && false) ≡ false
-and_false true = refl
-and_false false = refl
-
 lengths_differ : {A : Type 0} (same : A → A → Bool) (xs ys : List A) → length xs ≢ length ys → same_by same xs ys ≡ false
 lengths_differ same [] [] differ = absurd (differ refl)
 lengths_differ same [] (y ∷ ys) differ = refl
 lengths_differ same (x ∷ xs) [] differ = refl
 lengths_differ same (x ∷ xs) (y ∷ ys) differ =
-    ap (λ b. same x y && b) (lengths_differ same xs ys (λ e. differ (ap suc e))) ∙ and_false (same x y)
+    ap (λ b. same x y && b) (lengths_differ same xs ys (λ e. differ (ap suc e))) ∙ and-false (same x y)
 
 -- other numbers of commands are told otherwise
 pub told_differ : (es bs : List Entry) (rs qs : List Row) → length es ≢ length bs → same_by same_told (told es rs) (told bs qs) ≡ false

@@ -1,6 +1,5 @@
 -- The finished parts of commands, one after the other.
-use Rattle.std.proofs.Common.{◌≡◌, ◌⊎◌, inl, inr, ℕ, zero, suc, ◌+◌, ◌<◌, ◌≤◌, List, [], ◌∷◌, ◌++◌, length, get_or, drop, Option, refl, ap, sym, ◌∙◌, append_assoc, add-one, arith}
-use Rattle.std.proofs.Math.Seq.{drop-cons}
+use Rattle.std.proofs.Common.{◌≡◌, ◌⊎◌, inl, inr, ℕ, zero, suc, ◌+◌, ◌<◌, ◌≤◌, List, [], ◌∷◌, ◌++◌, length, drop, Option, refl, ap, sym, ◌∙◌, append_assoc, arith}
 use Rattle.std.proofs.lemmas.Bool.{cases_lt}
 use Rattle.std.specs.Prelude.{min, flat_map}
 use Rattle.exec_table.specs.declared.execution.Execution.{Execution}
@@ -10,10 +9,6 @@ use Rattle.exec_rules.specs.Listed.{executions}
 use Rattle.core_rules.specs.Shown.{PartShown}
 use Rattle.core_jobs.specs.declared.done.Done.{Done}
 use Rattle.exec_lists.specs.Parts.{parts_known, rows_known}
-
--- the rest of a list from a place on begins with what stands there
-pub next_at : {A : Type 0} (xs : List A) (i : ℕ) (x : A) → i < length xs → x ≡ get_or xs i x → drop i xs ≡ x ∷ drop (i + 1) xs
-next_at xs i x lt is = drop-cons xs i x lt ∙ ap (λ y. y ∷ drop (suc i) xs) (sym is) ∙ ap (λ n. x ∷ drop n xs) (sym (add-one i))
 
 module _ {S : Type 0} (table : ℕ → Option (Execution (Done S))) where
   -- one command more

@@ -1,13 +1,12 @@
 -- Keys that are the same.
 use Rattle.std.proofs.Common.{◌≡◌, true, List, [], ◌∷◌, refl, ap, sym, ◌∙◌}
-use Rattle.std.proofs.lemmas.Bool.{eqb-true, eq-eqb}
-use Rattle.text_words.proofs.KnownTests.{both-parts, both-hold}
+use Rattle.std.proofs.lemmas.Bool.{eqb-true, eq-eqb, and_parts, and_from}
+use Rattle.doc_nodes.proofs.KnownNames.{name_is, name_itself}
 use Rattle.exec_rules.specs.declared.key.Last.{Last}
 use Rattle.exec_rules.specs.declared.key.Last.TheVariants.{Empty, Open, Made}
 use Rattle.exec_rules.specs.declared.key.Key.{Key}
 use Rattle.exec_rules.specs.declared.key.Key.TheVariants.{Lasts, BadImport}
 use Rattle.exec_rules.specs.Keys.{same_last, same_lasts, same_key}
-use Rattle.exec_rules.proofs.KnownNames.{name_is, name_itself}
 
 last_is : (a b : Last) → same_last a b ≡ true → a ≡ b
 last_is Empty Empty e = refl
@@ -30,12 +29,12 @@ lasts_are [] [] e = refl
 lasts_are [] (y ∷ ys) e = absurd (cc)
 lasts_are (x ∷ xs) [] e = absurd (cc)
 lasts_are (x ∷ xs) (y ∷ ys) e =
-    ap (λ z. z ∷ xs) (last_is x y ((both-parts (same_last x y) (same_lasts xs ys) e).0))
-    ∙ ap (λ zs. y ∷ zs) (lasts_are xs ys ((both-parts (same_last x y) (same_lasts xs ys) e).1))
+    ap (λ z. z ∷ xs) (last_is x y ((and_parts (same_last x y) (same_lasts xs ys) e).0))
+    ∙ ap (λ zs. y ∷ zs) (lasts_are xs ys ((and_parts (same_last x y) (same_lasts xs ys) e).1))
 
 lasts_themselves : (xs : List Last) → same_lasts xs xs ≡ true
 lasts_themselves [] = refl
-lasts_themselves (x ∷ xs) = both-hold (same_last x x) (same_lasts xs xs) (last_itself x) (lasts_themselves xs)
+lasts_themselves (x ∷ xs) = and_from (same_last x x) (same_lasts xs xs) (last_itself x) (lasts_themselves xs)
 
 pub key_is : (a b : Key) → same_key a b ≡ true → a ≡ b
 key_is (Lasts xs) (Lasts ys) e = ap Lasts (lasts_are xs ys e)

@@ -1,10 +1,9 @@
 -- A name that is shown is no longer than the names that may show it.
-use Rattle.std.proofs.Common.{◌≡◌, ◌≤◌, ◌+◌, ◌-◌, ℕ, zero, suc, true, nat_le, List, [], ◌∷◌, length, map, bytes_eq, ap, sym, subst, ◌∙◌, arith, ⊎_elim}
+use Rattle.std.proofs.Common.{◌≡◌, ◌≤◌, ◌+◌, ◌-◌, ℕ, zero, suc, true, nat_le, List, [], ◌∷◌, length, map, bytes_eq, sym, subst, ◌∙◌, arith, ⊎_elim}
 use Rattle.std.specs.Prelude.{sum}
 use Rattle.std.specs.List.{list_any}
 use Rattle.std.proofs.lemmas.Bool.{or_cases, and_parts}
-use Rattle.std.proofs.lemmas.List.Sums.{sum_by-cons}
-use Rattle.std.proofs.lemmas.Slice.Eq.{bytes_eq-Decides}
+use Rattle.text_words.proofs.KnownLists.{sum_cons, same_length}
 use Rattle.nj_formula.specs.declared.argument.Argument.{Argument}
 use Rattle.nj_formula.specs.declared.argument.Argument.TheVariants.{Free, Bound, Apply}
 use Rattle.nj_formula.specs.Statement.{Statement, falsity, atom, neg, conj, disj, implies, every, exists}
@@ -13,16 +12,10 @@ use Rattle.nj_print.specs.ArgumentText.{name_at}
 use Rattle.nj_print.specs.Primed.{shown_layer, is_shown_in, is_shown}
 use Rattle.formula_texts.specs.Printed.{longest_layer, longest_in, longest}
 
-first_more : (n : ℕ) (ns : List ℕ) → sum (n ∷ ns) ≡ n + sum ns
-first_more n ns = sum_by-cons (λ x. x) n ns
-
-same_length : (x y : List ℕ) → bytes_eq x y ≡ true → length y ≡ length x
-same_length x y e = ap length (sym ((bytes_eq-Decides x y).0 e))
-
 named_length : (names : List (List ℕ)) (k : ℕ) → length (name_at names k) ≤ sum (map length names)
 named_length [] k = omega arith
-named_length (x ∷ names) zero = omega (arith, first_more (length x) (map length names))
-named_length (x ∷ names) (suc k) = omega (arith, named_length names k, first_more (length x) (map length names))
+named_length (x ∷ names) zero = omega (arith, sum_cons (length x) (map length names))
+named_length (x ∷ names) (suc k) = omega (arith, named_length names k, sum_cons (length x) (map length names))
 
 module _ (y : List ℕ) (names : List (List ℕ)) (d : ℕ) where
   Fits : Argument → Type 0
@@ -47,7 +40,7 @@ module _ (y : List ℕ) (names : List (List ℕ)) (d : ℕ) where
   each_fits [] each shown = cc
   each_fits (a ∷ args) each shown =
       let more : sum (map (longest_in names) (a ∷ args)) ≡ longest_in names a + sum (map (longest_in names) args) =
-      first_more (longest_in names a) (map (longest_in names) args) in
+      sum_cons (longest_in names a) (map (longest_in names) args) in
       ⊎_elim (λ first. omega (arith, more, each.0 first)) (λ later. omega (arith, more, each_fits args each.1 later))
       (or_cases (is_shown_in y names d a) (list_any (λ shown. shown) (map (is_shown_in y names d) args)) shown)
 

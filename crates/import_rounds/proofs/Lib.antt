@@ -1,5 +1,8 @@
-mod Has
-mod Exactly
+mod Counts
+pub mod KnownHas
+pub mod KnownRising
+pub mod KnownFiltered
 mod Steps
 mod RoundLemmas
 pub mod KnownRounds
+pub mod KnownOrdered

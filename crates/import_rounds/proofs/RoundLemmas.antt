@@ -3,10 +3,12 @@ use Rattle.std.proofs.Common.{◌≡◌, ℕ, zero, suc, ◌<◌, Bool, true, fa
 use mathlib.Core.Bool.{false≢true}
 use Rattle.std.specs.List.{list_all}
 use Rattle.std.specs.List.Sorted.{IsStrictlyIncreasing}
+use Rattle.std.proofs.lemmas.Bool.{or_parts}
 use Rattle.import_rounds.specs.Rounds.{has, is_known, is_next, round, after_rounds}
 use Rattle.import_rounds.specs.Looks.{marked, met_by, aims_at, IsDue, AreMarks}
-use Rattle.import_rounds.proofs.Has.{has-append}
-use Rattle.import_rounds.proofs.Exactly.{exactly, has_filter, has_filter_within}
+use Rattle.import_rounds.proofs.KnownHas.{has_both}
+use Rattle.import_rounds.proofs.KnownRising.{exactly}
+use Rattle.import_rounds.proofs.KnownFiltered.{has_filter, has_filter_within}
 
 all_from : {X : Type 0} (f : X → Bool) (xs : List X) (d : X) → ((q : ℕ) → q < length xs → f (get_or xs q d) ≡ true) → list_all f xs ≡ true
 all_from f [] d each = refl
@@ -75,15 +77,7 @@ pub due_imports : (rows : List (List (Option ℕ))) (marks : List Bool) (ordered
 due_imports rows marks ordered last are is i due = go (list_all (is_known ordered) (aims_at rows i)) refl
   where
     fresh : (has ordered i || has last i) ≡ false
-    fresh = sym (has-append ordered last i) ∙ sym (are i) ∙ due.unordered
-
-    left : (a b : Bool) → (a || b) ≡ false → a ≡ false
-    left true b h = h
-    left false b h = refl
-
-    right : (a b : Bool) → (a || b) ≡ false → b ≡ false
-    right true b h = absurd (false≢true (sym h))
-    right false b h = h
+    fresh = sym (has_both ordered last i) ∙ sym (are i) ∙ due.unordered
 
     late : (a b : Bool) → (a || b) ≡ true → a ≡ false → b ≡ true
     late true b h e = absurd (false≢true (sym e))
@@ -91,15 +85,15 @@ due_imports rows marks ordered last are is i due = go (list_all (is_known ordere
 
     by : (aim : Option ℕ) → met_by marks aim ≡ true → is_known ordered aim ≡ false → (p : ℕ) × (aim ≡ Some p) × (has last p ≡ true)
     by None met unknown = absurd (false≢true met)
-    by (Some p) met unknown = (p, refl, late (has ordered p) (has last p) (sym (has-append ordered last p) ∙ sym (are p) ∙ met) unknown)
+    by (Some p) met unknown = (p, refl, late (has ordered p) (has last p) (sym (has_both ordered last p) ∙ sym (are p) ∙ met) unknown)
 
     go : (b : Bool) → list_all (is_known ordered) (aims_at rows i) ≡ b
         → (q : ℕ) × (p : ℕ) × (q < length (aims_at rows i)) × (get_or (aims_at rows i) q None ≡ Some p) × (has last p ≡ true)
     go true e =
-        let unordered : has ordered i ≡ false = left (has ordered i) (has last i) fresh in
+        let unordered : has ordered i ≡ false = (or_parts (has ordered i) (has last i) fresh).0 in
         let next : is_next rows ordered i ≡ true = rw (unordered, e) in
         let placed = has_filter (is_next rows ordered) (length rows) 0 i (omega arith) (omega (arith, due.in_range)) next in
-        absurd (false≢true (sym (right (has ordered i) (has last i) fresh) ∙ ap (λ xs. has xs i) is ∙ placed))
+        absurd (false≢true (sym (or_parts (has ordered i) (has last i) fresh).1 ∙ ap (λ xs. has xs i) is ∙ placed))
     go false e =
         let f = one_fails (is_known ordered) (aims_at rows i) None e in
         let a = by (get_or (aims_at rows i) f.0 None) (due.met f.0 f.1) f.2 in
@@ -113,4 +107,4 @@ after_step rows m k ordered last e is = rw (e, is)
 -- the places of the last round are marked too
 pub marks_more : (marks new : List Bool) (ordered last : List ℕ) → AreMarks marks ordered
     → ((p : ℕ) → marked new p ≡ (marked marks p || has last p)) → AreMarks new (ordered ++ last)
-marks_more marks new ordered last are more p = more p ∙ ap (λ b. b || has last p) (are p) ∙ sym (has-append ordered last p)
+marks_more marks new ordered last are more p = more p ∙ ap (λ b. b || has last p) (are p) ∙ sym (has_both ordered last p)

@@ -4,28 +4,17 @@ use Rattle.std.proofs.lemmas.Bool.{cases_lt}
 use Rattle.std.proofs.lemmas.Bool.Decides.{nat_tests}
 use Rattle.std.proofs.lemmas.List.{get_or_default}
 use Rattle.std.proofs.lemmas.List.Folds.{list_any_more}
+use Rattle.std.proofs.Math.Bool.{or_assoc, or-true, or-false}
 use Rattle.import_rounds.specs.Rounds.{has}
 use Rattle.import_rounds.specs.Looks.{marked}
-use Rattle.import_rounds.proofs.Has.{place_of}
-
-or_assoc : (a b c : Bool) → ((a || b) || c) ≡ (a || (b || c))
-or_assoc true b c = refl
-or_assoc false b c = refl
+use Rattle.import_rounds.proofs.KnownHas.{has_contained}
 
 marked_set : (m : List Bool) (q p : ℕ) → q < length m → marked (set m q true) p ≡ (marked m p || eqb p q)
 marked_set m q p lt = go (eqb p q) refl
   where
-    or_true : (b : Bool) → true ≡ (b || true)
-    or_true true = refl
-    or_true false = refl
-
-    or_false : (b : Bool) → b ≡ (b || false)
-    or_false true = refl
-    or_false false = refl
-
     go : (b : Bool) → eqb p q ≡ b → marked (set m q true) p ≡ (marked m p || b)
-    go true e = let same : p ≡ q = grind (arith, nat_tests) in rw same (get_or-set_same m q true false lt ∙ or_true _)
-    go false e = let other : p ≡ q → ⊥ = grind (arith, nat_tests) in get_or-set_other m q p true false other ∙ or_false _
+    go true e = let same : p ≡ q = grind (arith, nat_tests) in rw same (get_or-set_same m q true false lt ∙ sym (or-true _))
+    go false e = let other : p ≡ q → ⊥ = grind (arith, nat_tests) in get_or-set_other m q p true false other ∙ sym (or-false _)
 
 -- one more place is marked
 pub marked_more : (m old : List Bool) (xs : List ℕ) (k p : ℕ) → k < length xs → get_or xs k 0 < length m
@@ -55,7 +44,7 @@ pub added_all : (P : ℕ → Type 0) (xs new : List ℕ)
     → ((k d : ℕ) → k < length xs → P (get_or xs k d) → has new (get_or xs k d) ≡ true)
     → (p : ℕ) → has xs p ≡ true → P p → has new p ≡ true
 added_all P xs new each p h due =
-    let c = place_of xs p h in
+    let c = has_contained xs p h in
     subst (λ z. has new z ≡ true) c.2 (each c.0 p c.1 (subst P (sym c.2) due))
 
 -- what is new came now or before

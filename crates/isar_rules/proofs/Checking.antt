@@ -4,6 +4,7 @@ use Rattle.nj_formula.specs.declared.formula.Formula.{Formula}
 use Rattle.nj_formula.specs.declared.formula.Formula.TheVariants.{Implies}
 use Rattle.nj_formula.specs.Meaning.{meaning}
 use Rattle.nj_formula.specs.Statement.{Statement}
+use Rattle.nj_formula.proofs.KnownFormulas.{out-Implies}
 use Rattle.theory_ctx.specs.Answers.{found}
 use Rattle.theory_ctx.specs.Locals.{Scoped, looked_in}
 use Rattle.proof_state.specs.Same.{decide}
@@ -24,7 +25,6 @@ use Rattle.isar_rules.specs.Cites.{Cited, cited_layer, refs, cited as cites}
 use Rattle.isar_rules.specs.Forks.{judged, verdict}
 use Rattle.proof_terms.specs.Texts.{fault_text}
 use Rattle.proof_state.proofs.KnownFirst.{is_first_of}
-use Rattle.isar_rules.proofs.Printing.{out-Implies}
 
 out-Fact : (c : Cite) → out-Term (Fact c) ≡ Term-F.Fact c
 out-Fact c = ap out-Term (sym (rolls-Fact c)) ∙ out-roll-Term (Term-F.Fact c)

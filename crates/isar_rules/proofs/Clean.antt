@@ -29,11 +29,7 @@ use Rattle.isar_rules.specs.Steps.{acted}
 use Rattle.proof_terms.specs.Cited.{IsPlaceOf}
 use Rattle.isar_rules.proofs.Good.{IsGood, good_token}
 use Rattle.isar_rules.proofs.Spots.{IfSpot, SpotsAre}
-
--- what comes of it has this
-abbrev pub IfTried : {A : Type 0} → (A → Type 0) → Tried A → Type 0
-IfTried P (Ok a) = P a
-IfTried P (Err text) = ⊤
+use Rattle.isar_rules.proofs.KnownTried.{IfTried}
 
 chained : {A B : Type 0} (P : A → Type 0) (Q : B → Type 0) (t : Tried A) (next : A → Tried B) → IfTried P t → ((a : A) → P a → IfTried Q (next a)) → IfTried Q (and_then t next)
 chained P Q (Ok a) next p each = each a p

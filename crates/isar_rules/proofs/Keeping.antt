@@ -24,25 +24,18 @@ use Rattle.isar_rules.specs.Kept.{errors_in, IsDoneOrRefused}
 use Rattle.isar_rules.specs.Shown.{suggested_at, suggestion}
 use Rattle.proof_terms.specs.Cited.{IsPlaceOf}
 use Rattle.proof_terms.specs.declared.term.Term.{Term}
+use Rattle.proof_terms.proofs.KnownCiting.{all_in}
 use Rattle.isar_rules.proofs.Tokens.{Rises, Within, range-within, ranges-treelike, source-rises}
 use Rattle.isar_rules.proofs.Good.{IsGood, IsQuiet, IsPlaced, sorted, joined, all_map, no_errors, good_announced, word_report}
 use Rattle.isar_rules.proofs.Citing.{fork-placed}
 use Rattle.isar_rules.proofs.Spots.{IfShape, shape-is}
-use Rattle.isar_rules.proofs.Clean.{IfTried, IsClean, InSource, acted-clean}
+use Rattle.isar_rules.proofs.Clean.{IsClean, InSource, acted-clean}
+use Rattle.isar_rules.proofs.KnownTried.{IfTried}
 
 -- reports lie in the source, and any two are equal in range, nested or disjoint
 pub record AreTidyIn (source : List ℕ) (reports : List Report) : Type 0 where
   pub lie : AllByRecursion (LiesIn source) reports
   pub treelike : IsTreelike reports
-
--- each token is one of them
-weaker : (t : Token) (ts us : List Token) → AllByRecursion (λ u. IsPlaceOf ts u.range) us → AllByRecursion (λ u. IsPlaceOf (t ∷ ts) u.range) us
-weaker t ts [] all = tt
-weaker t ts (u ∷ us) all = (inr all.0, weaker t ts us all.1)
-
-all-in : (ts : List Token) → AllByRecursion (λ t. IsPlaceOf ts t.range) ts
-all-in [] = tt
-all-in (t ∷ ts) = (inl refl, weaker t ts ts (all-in ts))
 
 tried-clean : (source : List ℕ) (tokens : List Token) (blob : Option (List ℕ)) (p : Place) (s : Option Shape)
     → IfShape (InSource source tokens) s → IfTried (IsClean source tokens) (tried blob p s)
@@ -121,7 +114,7 @@ shape-clean : (source : List ℕ) (blob : Option (List ℕ)) (before : State)
 shape-clean source blob before =
     let aliases = aliases_at before.place before.aliases in
     let tokens = source_tokens aliases source in
-    tried-clean source tokens blob before.place (shape_of aliases source tokens) (shape-is (IsPlaceOf tokens) aliases source tokens (all-in tokens))
+    tried-clean source tokens blob before.place (shape_of aliases source tokens) (shape-is (IsPlaceOf tokens) aliases source tokens (all_in tokens))
 
 pub step-kept : (source : List ℕ) (blob : Option (List ℕ)) (before : State) → IsDoneOrRefused before (step source blob before)
 step-kept source blob before = made-kept source _ before _ (shape-clean source blob before)

@@ -1,3 +1,4 @@
+pub mod KnownTried
 mod Printing
 mod Showing
 mod Quantified

@@ -1,8 +1,7 @@
 -- The texts of the formulas of the examples, and what else is computed of formulas.
-use Rattle.std.proofs.Common.{◌≡◌, true, [], codes, refl, ap, sym, ◌∙◌, inl, inr, ◌⊎◌}
-use Rattle.nj_formula.specs.declared.formula.Formula.{Formula, out-Formula, out-roll-Formula}
-use Rattle.nj_formula.specs.declared.formula.Formula.TheOpen.{Formula-F}
-use Rattle.nj_formula.specs.declared.formula.Formula.TheVariants.{Implies, rolls-Implies}
+use Rattle.std.proofs.Common.{◌≡◌, true, [], codes, refl, inl, inr, ◌⊎◌}
+use Rattle.nj_formula.specs.declared.formula.Formula.{Formula}
+use Rattle.nj_formula.specs.declared.formula.Formula.TheVariants.{Implies}
 use Rattle.nj_formula.specs.Meaning.{meaning}
 use Rattle.proof_state.specs.Same.{decide, is_first, says_same}
 use Rattle.proof_state.proofs.KnownFirst.{is_first_of}
@@ -52,9 +51,6 @@ peirce_text =
     (says_implies 26 [] (prop (codes "P")) (prop (codes "Q")) _ _ (says_atom 26 [] (codes "P")) (says_atom 25 [] (codes "Q")))
     (says_atom 25 [] (codes "P")))
     (says_atom 25 [] (codes "P"))
-
-pub out-Implies : (a b : Formula) → out-Formula (Implies a b) ≡ Formula-F.Implies a b
-out-Implies a b = ap out-Formula (sym (rolls-Implies a b)) ∙ out-roll-Formula (Formula-F.Implies a b)
 
 pub same_itself : (f : Formula) → says_same f f ≡ true
 unfolding says_same

@@ -1,19 +1,10 @@
 -- The node that is called by a name.
-use Rattle.std.proofs.Common.{◌≡◌, ℕ, Bool, true, false, cond, not, List, [], ◌∷◌, ◌+◌, length, Some, None, refl, ap, sym, ◌∙◌, arith}
+use Rattle.std.proofs.Common.{◌≡◌, ℕ, Bool, true, false, cond, not, List, [], ◌∷◌, ◌+◌, length, Some, None, refl, ap, ◌∙◌, arith}
 use Rattle.std.proofs.lemmas.Bool.{ltb-true}
 use Rattle.std.specs.Prelude.{find, nat_lt}
 use Rattle.std.specs.List.{position_or_len}
 use Rattle.doc_nodes.specs.Names.{equal}
 use Rattle.doc_nodes.specs.Imports.{NodeList, place_of}
-
--- what is found passes the test
-pub found_passes : {A : Type 0} (test : A → Bool) (xs : List A) (x : A) → find test xs ≡ Some x → test x ≡ true
-found_passes test [] x at = absurd (cc)
-found_passes test (y ∷ xs) x at = go (test y) refl at (found_passes test xs x)
-  where
-    go : (b : Bool) → test y ≡ b → cond b (Some y) (find test xs) ≡ Some x → (find test xs ≡ Some x → test x ≡ true) → test x ≡ true
-    go true is at rest = let same : y ≡ x = cc in ap test (sym same) ∙ is
-    go false is at rest = rest at
 
 -- where nothing is found, none has a place
 none_counts : {A : Type 0} (test : A → Bool) (xs : List A) → find test xs ≡ None → position_or_len test xs ≡ length xs

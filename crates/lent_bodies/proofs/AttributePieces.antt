@@ -5,8 +5,8 @@ use Rattle.std.specs.List.{slice_split}
 use Rattle.xml_tree.specs.declared.tree.Attribute.{Attribute}
 use Rattle.yxml.specs.Cut.{IsCut}
 use Rattle.yxml.specs.Reading.{is_y, with_attribute, attribute_of, attributes_of}
+use Rattle.yxml.proofs.KnownPieces.{pieces_some}
 use Rattle.lent_bodies.specs.Attributes.{listed, left, AreAttributes}
-use Rattle.lent_bodies.proofs.Chunks.{pieces_some}
 
 with_none : (o : Option (List Attribute)) → with_attribute None o ≡ None
 with_none (Some list) = refl

@@ -11,17 +11,18 @@ use Rattle.xml_tree.proofs.KnownMarks.{tree_marks-Elem}
 use Rattle.xml_tree.proofs.KnownRebuilt.{same_from_marks}
 use Rattle.yxml.specs.Reading.{marks_in}
 use Rattle.yxml.specs.Spelling.{onto, merged}
+use Rattle.yxml.proofs.KnownMerged.{merged_open}
 use Rattle.lent_bodies.specs.declared.mark.LentMark.{LentMark}
 use Rattle.lent_bodies.specs.declared.mark.LentMark.TheVariants.{Opening, Closing, Words}
 use Rattle.lent_bodies.specs.LentMarks.{mark}
 use Rattle.lent_bodies.specs.Inside.{inside, behind, body_at, IsClosed}
 use Rattle.lent_bodies.proofs.Inside.{Ends, ends, closes-inside}
-use Rattle.lent_bodies.proofs.Merged.{opens-merged, closes-merged, merged-closing, words_first, words_some}
+use Rattle.lent_bodies.proofs.Merged.{closes-merged, merged-closing, words_first, words_some}
 
 -- the marks of the body at a place
 pub marks-at : (text : List ℕ) → IsClosed text → marks (body_at text) ≡ merged (inside 0 (marks_in text))
 marks-at text closed = balanced-marks (merged (inside 0 (marks_in text)))
-    (closes-merged 0 (inside 0 (marks_in text)) (closes-inside 0 (marks_in text)), opens-merged 0 (inside 0 (marks_in text)) ∙ closed)
+    (closes-merged 0 (inside 0 (marks_in text)) (closes-inside 0 (marks_in text)), merged_open 0 (inside 0 (marks_in text)) ∙ closed)
 
 -- a start tag stands first
 module _ (text rest after name : List ℕ) (attributes : List Attribute) (first : marks_in text ≡ opening name attributes ∷ marks_in rest)

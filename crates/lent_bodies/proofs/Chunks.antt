@@ -1,30 +1,26 @@
 -- What the first chunk of a text says, and what the rest of it says.
-use Rattle.std.proofs.Common.{◌≡◌, ◌≢◌, ℕ, ◌+◌, ◌<◌, List, [], ◌∷◌, ◌++◌, length, get_or, false, Option, Some, None, Err, Bool, refl, sym, ◌∙◌, ap, arith, All, MatchOption, eq-eqb}
+use Rattle.std.proofs.Common.{◌≡◌, ◌≢◌, ℕ, ◌+◌, ◌<◌, List, [], ◌∷◌, ◌++◌, length, Option, Some, None, Err, refl, sym, ◌∙◌, ap, arith, MatchOption, eq-eqb}
 use Rattle.std.specs.Borrow.{Bor}
 use Rattle.std.specs.List.{slice_split}
 use Rattle.std.proofs.Math.Dec.{eqb}
 use Rattle.std.proofs.Math.ListN.{length-append}
-use Rattle.std.proofs.lemmas.Bool.{ne_eqb}
-use Rattle.std.proofs.lemmas.List.{get_or_default}
-use Rattle.std.proofs.lemmas.List.Splits.{slice_split_none, slice_split_at, length-slice_split}
+use Rattle.std.proofs.lemmas.List.Splits.{slice_split_none, slice_split_at}
 use Rattle.std.proofs.lemmas.Str.Pattern.{IsSplitOnceResult, split_parts}
 use Rattle.xml_tree.specs.declared.tree.Attribute.{Attribute}
 use Rattle.yxml.specs.declared.fault.YxmlFault.TheVariants.{BadTag, BadText}
 use Rattle.yxml.specs.Cut.{IsCut}
 use Rattle.yxml.specs.Reading.{is_x, is_y, said, tag_said, start_said, attributes_of, marks_said, marks_from, first_fault}
+use Rattle.yxml.proofs.KnownPieces.{lacks_byte, pieces_some}
 use Rattle.lent_bodies.specs.Chunks.{IsFirstChunk}
-
-lacks : (c : ℕ) (bs : List ℕ) → ((i : ℕ) → i < length bs → get_or bs i 0 ≢ c) → All (λ b. eqb b c ≡ false) bs
-lacks c bs h k d small = ne_eqb _ _ (λ e. h k small (get_or_default bs k 0 d small ∙ e))
 
 -- a text is cut at an ASCII character
 pub cut_there : (c : ℕ) (bs : List ℕ) (r : Option (Bor (List ℕ) × Bor (List ℕ))) → IsSplitOnceResult c bs r → c < 128
     → MatchOption r (slice_split (λ b. eqb b c) bs ≡ bs ∷ []) (λ x. IsCut (λ b. eqb b c) bs x.0.now x.1.now)
-cut_there c bs None h small = slice_split_none (λ b. eqb b c) bs (lacks c bs (split_parts c bs None h small))
+cut_there c bs None h small = slice_split_none (λ b. eqb b c) bs (lacks_byte c bs (split_parts c bs None h small))
 cut_there c bs (Some x) h small =
     let parts = split_parts c bs (Some x) h small in
     record {
-      pieces = ap (slice_split (λ b. eqb b c)) parts.0 ∙ slice_split_at (λ b. eqb b c) x.0.now c x.1.now (lacks c _ parts.1) (eq-eqb c c refl);
+      pieces = ap (slice_split (λ b. eqb b c)) parts.0 ∙ slice_split_at (λ b. eqb b c) x.0.now c x.1.now (lacks_byte c _ parts.1) (eq-eqb c c refl);
       sizes = omega (arith, length-append x.0.now (c ∷ x.1.now), ap length parts.0);
     }
 
@@ -70,9 +66,6 @@ only_one text one = record {
   within = omega arith;
   parted = λ some. absurd (omega (arith, some));
 }
-
-pub pieces_some : (p : ℕ → Bool) (text : List ℕ) → slice_split p text ≢ []
-pieces_some p text e = omega (arith, length-slice_split p text, ap length e)
 
 tag_nameless : (at : ℕ) (pieces : List (List ℕ)) → pieces ≢ [] → Err (BadTag at) ≡ tag_said at ([] ∷ pieces)
 tag_nameless at [] some = absurd (some refl)

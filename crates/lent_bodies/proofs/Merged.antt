@@ -1,20 +1,9 @@
 -- Texts side by side are one text, which makes no difference to the elements around them.
-use Rattle.std.proofs.Common.{◌≡◌, ◌≢◌, ℕ, ◌+◌, ◌-◌, List, [], ◌∷◌, ◌++◌, refl, sym, ap, ◌∙◌, append_assoc}
+use Rattle.std.proofs.Common.{◌≡◌, ◌≢◌, ℕ, ◌+◌, ◌-◌, List, [], ◌∷◌, ◌++◌, refl, ap, ◌∙◌}
 use Rattle.xml_tree.specs.Bodies.{ClosesOpen}
-use Rattle.xml_tree.specs.Marks.{Mark, opening, closing, words, open_after}
+use Rattle.xml_tree.specs.Marks.{Mark, opening, closing, words}
 use Rattle.yxml.specs.Spelling.{onto, merged}
-
-opens-onto : (d : ℕ) (s : List ℕ) (ms : List Mark) → open_after d (onto (words s) ms) ≡ open_after d ms
-opens-onto d s [] = refl
-opens-onto d s (words t ∷ ms) = refl
-opens-onto d s (opening name attributes ∷ ms) = refl
-opens-onto d s (closing ∷ ms) = refl
-
-pub opens-merged : (d : ℕ) (ms : List Mark) → open_after d (merged ms) ≡ open_after d ms
-opens-merged d [] = refl
-opens-merged d (opening name attributes ∷ ms) = opens-merged (d + 1) ms
-opens-merged d (closing ∷ ms) = opens-merged (d - 1) ms
-opens-merged d (words s ∷ ms) = opens-onto d s (merged ms) ∙ opens-merged d ms
+use Rattle.yxml.proofs.KnownMerged.{onto_onto}
 
 closes-onto : (d : ℕ) (s : List ℕ) (ms : List Mark) → ClosesOpen d ms → ClosesOpen d (onto (words s) ms)
 closes-onto d s [] h = tt
@@ -59,17 +48,11 @@ abbrev pub joined : List ℕ → List Mark → List Mark
 joined [] ms = merged ms
 joined (b ∷ bs) ms = onto (words (b ∷ bs)) (merged ms)
 
-onto-twice : (s t : List ℕ) (ms : List Mark) → onto (words s) (onto (words t) ms) ≡ onto (words (s ++ t)) ms
-onto-twice s t [] = refl
-onto-twice s t (opening name attributes ∷ ms) = refl
-onto-twice s t (closing ∷ ms) = refl
-onto-twice s t (words u ∷ ms) = ap (λ x. words x ∷ ms) (sym (append_assoc s t u))
-
 -- more of the text
 pub joined-more : (s t : List ℕ) (ms : List Mark) → t ≢ [] → joined s (words t ∷ ms) ≡ joined (s ++ t) ms
 joined-more s [] ms some = absurd (some refl)
 joined-more [] (b ∷ bs) ms some = refl
-joined-more (a ∷ more) (b ∷ bs) ms some = onto-twice (a ∷ more) (b ∷ bs) (merged ms)
+joined-more (a ∷ more) (b ∷ bs) ms some = onto_onto (a ∷ more) (b ∷ bs) (merged ms)
 
 closes-unjoined : (d : ℕ) (s : List ℕ) (ms : List Mark) → ClosesOpen d (onto (words s) ms) → ClosesOpen d ms
 closes-unjoined d s [] h = tt

@@ -8,9 +8,10 @@ use Rattle.xml_tree.proofs.KnownNesting.{IsWithin, Nests-trees, within-closes}
 use Rattle.yxml.specs.Answer.{answer_by, body_in}
 use Rattle.yxml.specs.Reading.{marks_in, fault_in}
 use Rattle.yxml.specs.Spelling.{merged, Spells}
+use Rattle.yxml.proofs.KnownMerged.{merged_open}
 use Rattle.lent_bodies.specs.Inside.{inside, body_at, IsClosed}
 use Rattle.lent_bodies.proofs.Inside.{all-inside}
-use Rattle.lent_bodies.proofs.Merged.{opens-merged, closes-unmerged}
+use Rattle.lent_bodies.proofs.Merged.{closes-unmerged}
 
 -- the end tags of a normal body close what is open in it, and all of that
 body-closes : (body : List Tree) → IsNormal body → ClosesOpen 0 (marks body) × (open_after 0 (marks body) ≡ 0)
@@ -30,7 +31,7 @@ module _ (text : List ℕ) (body : List Tree) (spells : Spells text body) (norma
   all_of_it = all-inside 0 (marks_in text) text-closes
 
   pub whole_closed : IsClosed text
-  whole_closed = ap (open_after 0) all_of_it ∙ sym (opens-merged 0 (marks_in text)) ∙ ap (open_after 0) spells.same ∙ (body-closes body normal).1
+  whole_closed = ap (open_after 0) all_of_it ∙ sym (merged_open 0 (marks_in text)) ∙ ap (open_after 0) spells.same ∙ (body-closes body normal).1
 
   pub whole_body : fault_in text ≡ None → Ok (body_at text) ≡ body_in text
   whole_body none = ap (λ ms. Ok (body_of (merged ms))) all_of_it ∙ sym (ap (λ fault. answer_by fault (merged (marks_in text))) none)

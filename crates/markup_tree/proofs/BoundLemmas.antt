@@ -1,8 +1,8 @@
 -- What lies within bounds.
-use Rattle.std.proofs.Common.{◌≡◌, ◌<◌, ◌≤◌, ◌⊎◌, ℕ, nat_lt, nat_le, Bool, true, false, Some, None, List, [], ◌∷◌, ◌++◌, cond, filter, refl, sym, ◌∙◌, ap, subst, inl, inr, ⊎_elim, append-nil, arith}
+use Rattle.std.proofs.Common.{◌≡◌, ◌<◌, ◌≤◌, ◌⊎◌, ℕ, nat_lt, nat_le, false, Some, None, List, [], ◌∷◌, ◌++◌, cond, filter, refl, sym, ◌∙◌, ap, subst, inl, inr, ⊎_elim, append-nil, arith}
 use Rattle.std.specs.Prelude.{◌&&◌}
 use Rattle.std.specs.Option.{option_or}
-use Rattle.std.proofs.lemmas.Bool.{le-ltb, lt-leb}
+use Rattle.std.proofs.lemmas.Bool.{le-ltb, lt-leb, and_right}
 use Rattle.pide_base.specs.declared.range.Range.{Range}
 use Rattle.report_markup.specs.declared.report.Report.{Report}
 use Rattle.markup_tree.specs.declared.bounds.Bounds.{Bounds}
@@ -28,14 +28,10 @@ fork_within b c left x right one two =
     (wider b (joined_bounds b x.range c) left (omega arith) (omega arith) one)
     ((omega arith, omega arith), wider c (joined_bounds b x.range c) right (omega arith) (omega arith) two)
 
-and_false : (a b : Bool) → b ≡ false → (a && b) ≡ false
-and_false true b e = e
-and_false false b e = refl
-
 -- nothing surrounds a place outside of the bounds
 outside : (place : ℕ) (r : Range) → (place ≤ r.start) ⊎ (r.stop ≤ place) → surrounds place r ≡ false
 outside place r out =
-    ⊎_elim (λ low. ap (λ b. b && nat_lt place r.stop) (le-ltb r.start place low)) (λ high. and_false (nat_lt r.start place) (nat_lt place r.stop) (le-ltb place r.stop high)) out
+    ⊎_elim (λ low. ap (λ b. b && nat_lt place r.stop) (le-ltb r.start place low)) (λ high. and_right (nat_lt r.start place) (nat_lt place r.stop) (le-ltb place r.stop high)) out
 
 pub none_around : (place : ℕ) (b : Bounds) (xs : List Report) → (place ≤ b.first) ⊎ (b.reach ≤ place) → LieWithin b xs → innermost place xs ≡ None
 none_around place b [] out all = refl
@@ -53,7 +49,7 @@ none_contains range b (x ∷ xs) out all =
   where
     apart : (range.start < x.range.start) ⊎ (x.range.stop < range.stop) → contains range x ≡ false
     apart (inl low) = ap (λ t. t && nat_le range.stop x.range.stop) (lt-leb x.range.start range.start low)
-    apart (inr high) = and_false (nat_le x.range.start range.start) (nat_le range.stop x.range.stop) (lt-leb range.stop x.range.stop high)
+    apart (inr high) = and_right (nat_le x.range.start range.start) (nat_le range.stop x.range.stop) (lt-leb range.stop x.range.stop high)
 
 pub none_added : (range : Range) (b : Bounds) (xs : List Report) → (range.start < b.first) ⊎ (b.reach < range.stop) → LieWithin b xs
     → (old : List Report) → old ≡ old ++ filter (contains range) xs

@@ -1,24 +1,10 @@
 -- Ranges that cross.
-use Rattle.std.proofs.Common.{◌≡◌, ◌<◌, ◌≤◌, ◌⊎◌, ◌↔◌, ℕ, Bool, true, false, nat_lt, IsTrue, refl, sym, ◌∙◌, inl, inr, ⊎_elim, arith}
+use Rattle.std.proofs.Common.{◌≡◌, ◌<◌, ◌≤◌, ◌⊎◌, ◌↔◌, Bool, true, false, nat_lt, IsTrue, refl, sym, ◌∙◌, inl, inr, ⊎_elim, arith}
 use Rattle.std.specs.Prelude.{◌&&◌, ◌||◌}
-use Rattle.std.proofs.lemmas.Bool.{ltb-true, ltb-false, lt-ltb, false≢true}
+use Rattle.std.proofs.lemmas.Bool.{ltb-true, lt-ltb, false≢true, and_parts, and_from, or_cases, cases_lt}
 use Rattle.pide_base.specs.declared.range.Range.{Range}
 use Rattle.report_markup.specs.Ranges.{AreTreelike}
 use Rattle.markup_tree.specs.Crossing.{crosses}
-
-pub both_true : (a b : Bool) → (a && b) ≡ true → (a ≡ true) × (b ≡ true)
-both_true true true e = (refl, refl)
-both_true true false e = cc
-both_true false b e = cc
-
-pub and_true : (a b : Bool) → a ≡ true → b ≡ true → (a && b) ≡ true
-and_true true true e f = refl
-and_true true false e f = cc
-and_true false b e f = cc
-
-pub either_true : (a b : Bool) → (a || b) ≡ true → (a ≡ true) ⊎ (b ≡ true)
-either_true true b e = inl refl
-either_true false b e = inr e
 
 pub or_true : (a b : Bool) → (a ≡ true) ⊎ (b ≡ true) → (a || b) ≡ true
 or_true true b e = refl
@@ -30,42 +16,26 @@ or_turned true false = refl
 or_turned false true = refl
 or_turned false false = refl
 
-pub below_true : (m n : ℕ) → nat_lt m n ≡ true → m < n
-below_true m n e = ltb-true m n e
-
-pub true_below : (m n : ℕ) → m < n → nat_lt m n ≡ true
-true_below m n e = lt-ltb m n e
-
-pub below_false : (m n : ℕ) → nat_lt m n ≡ false → n ≤ m
-below_false m n e = ltb-false m n e
-
-split : (m n : ℕ) → (m < n) ⊎ (n ≤ m)
-split m n = by (nat_lt m n) refl
-  where
-    by : (b : Bool) → nat_lt m n ≡ b → (m < n) ⊎ (n ≤ m)
-    by true e = inl (ltb-true m n e)
-    by false e = inr (ltb-false m n e)
-
 -- the second begins within the first and ends behind it
 abbrev pub BeginsWithin : Range → Range → Type 0
 BeginsWithin r s = (r.start < s.start) × (s.start < r.stop) × (r.stop < s.stop)
 
 one_way : (r s : Range) → (nat_lt r.start s.start && nat_lt s.start r.stop && nat_lt r.stop s.stop) ≡ true → BeginsWithin r s
 one_way r s e =
-    let outer = both_true (nat_lt r.start s.start && nat_lt s.start r.stop) (nat_lt r.stop s.stop) e in
-    let inner = both_true (nat_lt r.start s.start) (nat_lt s.start r.stop) outer.0 in
-    (below_true r.start s.start inner.0, below_true s.start r.stop inner.1, below_true r.stop s.stop outer.1)
+    let outer = and_parts (nat_lt r.start s.start && nat_lt s.start r.stop) (nat_lt r.stop s.stop) e in
+    let inner = and_parts (nat_lt r.start s.start) (nat_lt s.start r.stop) outer.0 in
+    (ltb-true r.start s.start inner.0, ltb-true s.start r.stop inner.1, ltb-true r.stop s.stop outer.1)
 
 way_one : (r s : Range) → BeginsWithin r s → (nat_lt r.start s.start && nat_lt s.start r.stop && nat_lt r.stop s.stop) ≡ true
 way_one r s c =
-    and_true (nat_lt r.start s.start && nat_lt s.start r.stop) (nat_lt r.stop s.stop)
-    (and_true (nat_lt r.start s.start) (nat_lt s.start r.stop) (true_below r.start s.start c.0) (true_below s.start r.stop c.1))
-    (true_below r.stop s.stop c.2)
+    and_from (nat_lt r.start s.start && nat_lt s.start r.stop) (nat_lt r.stop s.stop)
+    (and_from (nat_lt r.start s.start) (nat_lt s.start r.stop) (lt-ltb r.start s.start c.0) (lt-ltb s.start r.stop c.1))
+    (lt-ltb r.stop s.stop c.2)
 
 pub crossed : (r s : Range) → crosses r s ≡ true → BeginsWithin r s ⊎ BeginsWithin s r
 crossed r s e =
     ⊎_elim (λ f. inl (one_way r s f)) (λ f. inr (one_way s r f))
-    (either_true (nat_lt r.start s.start && nat_lt s.start r.stop && nat_lt r.stop s.stop) (nat_lt s.start r.start && nat_lt r.start s.stop && nat_lt s.stop r.stop) e)
+    (or_cases (nat_lt r.start s.start && nat_lt s.start r.stop && nat_lt r.stop s.stop) (nat_lt s.start r.start && nat_lt r.start s.stop && nat_lt s.stop r.stop) e)
 
 pub cross : (r s : Range) → BeginsWithin r s ⊎ BeginsWithin s r → crosses r s ≡ true
 cross r s c =
@@ -87,7 +57,7 @@ not_treelike_turned r s c t =
 
 -- ranges that do not cross are equal, nested or disjoint
 pub treelike : (r s : Range) → crosses r s ≡ false → AreTreelike r s
-treelike r s uncrossed = by (split s.start r.stop) (split r.start s.stop) (split r.start s.start) (split s.start r.start) (split r.stop s.stop) (split s.stop r.stop)
+treelike r s uncrossed = by (cases_lt s.start r.stop) (cases_lt r.start s.stop) (cases_lt r.start s.start) (cases_lt s.start r.start) (cases_lt r.stop s.stop) (cases_lt s.stop r.stop)
   where
     none : BeginsWithin r s ⊎ BeginsWithin s r → ⊥
     none c = false≢true (sym uncrossed ∙ cross r s c)

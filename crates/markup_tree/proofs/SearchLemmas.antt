@@ -1,16 +1,16 @@
 -- What searches find on either side of a report.
 use Rattle.std.proofs.Common.{◌≡◌, ◌<◌, ◌≤◌, ℕ, nat_lt, Bool, true, false, Option, Some, None, List, [], ◌∷◌, ◌++◌, cond, refl, sym, ◌∙◌, ap, subst, inl, ⊎_elim, arith}
-use Rattle.std.specs.Prelude.{find, option_map, ◌||◌}
+use Rattle.std.specs.Prelude.{find, option_map}
 use Rattle.std.specs.Option.{option_or}
 use Rattle.std.specs.List.{AllByRecursion}
-use Rattle.std.proofs.lemmas.Bool.{false≢true}
+use Rattle.std.proofs.lemmas.Bool.{false≢true, and_parts, or_parts, and_from, ltb-false, ltb-true, lt-ltb}
 use Rattle.pide_base.specs.declared.range.Range.{Range}
 use Rattle.report_markup.specs.declared.report.Report.{Report}
 use Rattle.markup_tree.specs.Crossing.{crosses, first_crossing}
 use Rattle.markup_tree.specs.Innermost.{surrounds, innermost, ends_before, begins_behind, may_cross}
 use Rattle.markup_tree.specs.Standing.{StandsBefore, Stand}
 use Rattle.markup_tree.proofs.OrderLemmas.{Before, before_of}
-use Rattle.markup_tree.proofs.CrossLemmas.{both_true, and_true, below_true, true_below, below_false, BeginsWithin, crossed, cross}
+use Rattle.markup_tree.proofs.CrossLemmas.{BeginsWithin, crossed, cross}
 use Rattle.markup_tree.proofs.StandLemmas.{CrossesNone, crossed_none}
 
 module _ (range : Range) (x : Report) (right : List Report) where
@@ -111,15 +111,11 @@ found Q place (x ∷ xs) m all e = by (innermost place xs) refl (found Q place x
 
 around : (place : ℕ) (r : Range) → surrounds place r ≡ true → (r.start < place) × (place < r.stop)
 around place r e =
-    let both = both_true (nat_lt r.start place) (nat_lt place r.stop) e in
-    (below_true r.start place both.0, below_true place r.stop both.1)
+    let both = and_parts (nat_lt r.start place) (nat_lt place r.stop) e in
+    (ltb-true r.start place both.0, ltb-true place r.stop both.1)
 
 round : (place : ℕ) (r : Range) → r.start < place → place < r.stop → surrounds place r ≡ true
-round place r a b = and_true (nat_lt r.start place) (nat_lt place r.stop) (true_below r.start place a) (true_below place r.stop b)
-
-neither : (a b : Bool) → (a || b) ≡ false → (a ≡ false) × (b ≡ false)
-neither true b e = cc
-neither false b e = (refl, e)
+round place r a b = and_from (nat_lt r.start place) (nat_lt place r.stop) (lt-ltb r.start place a) (lt-ltb place r.stop b)
 
 module _ (range : Range) where
   -- none of the two innermost ranges tells of a crossing
@@ -150,12 +146,12 @@ module _ (range : Range) where
       by None e q =
           let here : ends_before (Some x.range) range.stop ≡ false =
           subst (λ b. ends_before (cond b (Some x.range) None) range.stop ≡ false) (round range.start x.range c.0 c.1) q in
-          let stop : range.stop ≤ x.range.stop = below_false x.range.stop range.stop here in
+          let stop : range.stop ≤ x.range.stop = ltb-false x.range.stop range.stop here in
           omega (arith, c, stop)
       by (Some m) e q =
           let y = found (StandsBefore x) range.start xs m all e in
           let at = around range.start m y.2 in
-          let stop : range.stop ≤ m.stop = below_false m.stop range.stop q in
+          let stop : range.stop ≤ m.stop = ltb-false m.stop range.stop q in
           let before : Before x.range m = subst (Before x.range) y.1 (before_of x y.0 y.3.0) in
           let apart : crosses x.range m ≡ false = subst (λ s. crosses x.range s ≡ false) y.1 y.3.1 in
           ⊎_elim
@@ -171,11 +167,11 @@ module _ (range : Range) where
       by None e q =
           let here : begins_behind (Some x.range) range.start ≡ false =
           subst (λ b. begins_behind (cond b (Some x.range) None) range.start ≡ false) (round range.stop x.range c.1 c.2) q in
-          let start : x.range.start ≤ range.start = below_false range.start x.range.start here in
+          let start : x.range.start ≤ range.start = ltb-false range.start x.range.start here in
           omega (arith, c, start)
       by (Some m) e q =
           let y = found (StandsBefore x) range.stop xs m all e in
-          let start : m.start ≤ range.start = below_false range.start m.start q in
+          let start : m.start ≤ range.start = ltb-false range.start m.start q in
           let before : Before x.range m = subst (Before x.range) y.1 (before_of x y.0 y.3.0) in
           ⊎_elim (λ less. omega (arith, less, start, c)) (λ same. omega (arith, same, start, c)) before
 
@@ -192,4 +188,4 @@ module _ (range : Range) where
   pub no_crossing : (xs : List Report) → Stand xs → may_cross range xs ≡ false → first_crossing range xs ≡ None
   no_crossing xs stand quiet =
       crossed_none range xs
-      (none_crosses xs stand (neither (ends_before (innermost range.start xs) range.stop) (begins_behind (innermost range.stop xs) range.start) quiet))
+      (none_crosses xs stand (or_parts (ends_before (innermost range.start xs) range.stop) (begins_behind (innermost range.stop xs) range.start) quiet))

@@ -1,7 +1,7 @@
 -- What is asked is what the chunks spell.
 use Rattle.std.proofs.Common.{◌≡◌, ℕ, true, false, Bool, if◌then◌else◌, List, [], ◌∷◌, map, length, Option, Some, None, Result, Ok, Err, find, bytes_eq, refl, sym, ap, subst, ◌∙◌}
 use Rattle.std.specs.Str.{is_utf8}
-use Rattle.text_words.proofs.KnownTests.{both-parts, both-hold}
+use Rattle.std.proofs.lemmas.Bool.{and_parts, and_from}
 use Rattle.data_shapes.proofs.KnownSteps.{passed}
 use Rattle.data_shapes.proofs.KnownTrees.{same_bytes}
 use Rattle.message_values.specs.declared.editor_message.EditorMessage.{EditorMessage}
@@ -16,23 +16,20 @@ use Rattle.message_values.specs.Spelled.{AllUtf8, IsSpelled, function_of}
 use Rattle.message_values.proofs.Made.{message_made}
 use Rattle.message_values.proofs.Messages.{message_found}
 use Rattle.message_values.proofs.Telling.{OneAnswer}
+use Rattle.message_values.proofs.KnownRefused.{not_refused}
 
 -- an answer behind a test that is not the refusal
 behind : {A : Type 0} (b : Bool) (r : Result A Refusal) (reason : Refusal) (x : A) → (if b then r else Err reason) ≡ Ok x → (b ≡ true) × (r ≡ Ok x)
 behind true r reason x e = (refl, e)
 behind false r reason x e = absurd (cc)
 
-not_refused : {A : Type 0} (reason : Refusal) (o : Option A) (x : A) → or_refused reason o ≡ Ok x → o ≡ Some x
-not_refused reason None x e = absurd (cc)
-not_refused reason (Some y) x e = cc
-
 all_utf8 : (texts : List (List ℕ)) → all_yes (map is_utf8 texts) ≡ true → AllUtf8 texts
 all_utf8 [] h = tt
-all_utf8 (t ∷ ts) h = let p = both-parts (is_utf8 t) (all_yes (map is_utf8 ts)) h in (p.0, all_utf8 ts p.1)
+all_utf8 (t ∷ ts) h = let p = and_parts (is_utf8 t) (all_yes (map is_utf8 ts)) h in (p.0, all_utf8 ts p.1)
 
 utf8_all : (texts : List (List ℕ)) → AllUtf8 texts → all_yes (map is_utf8 texts) ≡ true
 utf8_all [] h = refl
-utf8_all (t ∷ ts) h = both-hold (is_utf8 t) (all_yes (map is_utf8 ts)) h.0 (utf8_all ts h.1)
+utf8_all (t ∷ ts) h = and_from (is_utf8 t) (all_yes (map is_utf8 ts)) h.0 (utf8_all ts h.1)
 
 named_so : (fs : List Function) (name : List ℕ) (f : Function) → find (λ g. bytes_eq (word g) name) fs ≡ Some f → name ≡ word f
 named_so [] name f e = absurd (cc)

@@ -1,3 +1,4 @@
+pub mod KnownRefused
 mod Asking
 mod Encoded
 mod Made

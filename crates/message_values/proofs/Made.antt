@@ -2,7 +2,7 @@
 use Rattle.std.proofs.Common.{◌≡◌, ◌&&◌, ℕ, true, Bool, inl, inr, List, [], ◌∷◌, map, length, Some, decimal, refl, ap, ◌∙◌}
 use Rattle.std.specs.List.{AllByRecursion}
 use Rattle.std.specs.Str.{encode_utf8_all}
-use Rattle.text_words.proofs.KnownTests.{both-hold}
+use Rattle.std.proofs.lemmas.Bool.{and_from}
 use Rattle.pide_base.specs.Ids.{IsId}
 use Rattle.data_shapes.specs.Bodies.{number_body, edit_body}
 use Rattle.data_shapes.specs.Each.{◌>>=◌}
@@ -35,10 +35,10 @@ pub record IsMade (m : EditorMessage) (arguments : List (List ℕ)) : Type 0 whe
   pub made : message_of (function_of m) arguments ≡ Some m
 
 one_yes : (b : Bool) → b ≡ true → all_yes (b ∷ []) ≡ true
-one_yes b h = both-hold b true h refl
+one_yes b h = and_from b true h refl
 
 two_yes : (b c : Bool) → b ≡ true → c ≡ true → all_yes (b ∷ c ∷ []) ≡ true
-two_yes b c h k = both-hold b (c && true) h (one_yes c k)
+two_yes b c h k = and_from b (c && true) h (one_yes c k)
 
 update_made : OneAnswer → (v : List ℕ) (n : ℕ) (text : List ℕ) (is : List Item) → IsId n → v ≡ decimal n → AllByRecursion FitsItem is → Tells (list_of item_body is) text
     → IsMade (asks.Update n is []) (v ∷ text ∷ [])

@@ -1,8 +1,7 @@
 -- Arguments tell what is read of them.
 use Rattle.std.proofs.Common.{◌≡◌, ◌↔◌, ℕ, ◌&&◌, ◌==◌, nat_le, true, false, Bool, if◌then◌else◌, List, Option, Some, None, Result, Ok, Err, decimal, refl, ap, subst, ◌∙◌, lit<, arith}
 use Rattle.std.specs.List.{AllByRecursion}
-use Rattle.std.proofs.lemmas.Bool.{eqb-true, leb-true, le-leb}
-use Rattle.text_words.proofs.KnownTests.{both-parts, both-hold}
+use Rattle.std.proofs.lemmas.Bool.{eqb-true, leb-true, le-leb, and_parts, and_from}
 use Rattle.xml_tree.specs.declared.tree.Tree.{Tree}
 use Rattle.yxml.specs.declared.fault.YxmlFault.{YxmlFault}
 use Rattle.yxml.specs.Answer.{body_in}
@@ -71,14 +70,14 @@ worker_found text n e =
     let s = stepped (number_of text) worker_of n e in
     let h = number_sound text s.0 s.1 in
     let t = tested (nat_le 1 s.0 && nat_le s.0 most_workers) (Some s.0) n s.2 in
-    let p = both-parts (nat_le 1 s.0) (nat_le s.0 most_workers) t.0 in
+    let p = and_parts (nat_le 1 s.0) (nat_le s.0 most_workers) t.0 in
     let same : s.0 ≡ n = cc in
     (subst IsWorker same (leb-true 1 s.0 p.0, leb-true s.0 most_workers p.1), h.1 ∙ ap decimal same)
 
 pub worker_finds : (n : ℕ) → IsWorker n → (number_of (decimal n) >>= worker_of) ≡ Some n
 worker_finds n is =
     ap (λ o. o >>= worker_of) (number_complete n (omega (arith, is.1)))
-    ∙ passed (nat_le 1 n && nat_le n most_workers) (Some n) None (both-hold (nat_le 1 n) (nat_le n most_workers) (le-leb 1 n is.0) (le-leb n most_workers is.1))
+    ∙ passed (nat_le 1 n && nat_le n most_workers) (Some n) None (and_from (nat_le 1 n) (nat_le n most_workers) (le-leb 1 n is.0) (le-leb n most_workers is.1))
 
 protocol_sound : (n : ℕ) (p : Protocol) → protocol_of n ≡ Some p → n ≡ protocol_number p
 protocol_sound n p e = go (n == 1) (n == 2) refl refl e where

@@ -1,7 +1,7 @@
 -- An induction over formulas, and what a fold gives for each form.
 use Rattle.std.proofs.Common.{◌≡◌, ℕ, List, ap, sym, subst, ◌∙◌}
 use Rattle.nj_formula.specs.declared.argument.Argument.{Argument}
-use Rattle.nj_formula.specs.declared.formula.Formula.{Formula, fold-Formula, fold-roll-Formula, ind-Formula, roll-Formula, map-Formula}
+use Rattle.nj_formula.specs.declared.formula.Formula.{Formula, fold-Formula, fold-roll-Formula, ind-Formula, roll-Formula, map-Formula, out-Formula, out-roll-Formula}
 use Rattle.nj_formula.specs.declared.formula.Formula.TheOpen.{Formula-F}
 use Rattle.nj_formula.specs.declared.formula.Formula.TheVariants.{False, Atom, Not, And, Or, Implies, All, Exists, rolls-False, rolls-Atom, rolls-Not, rolls-And, rolls-Or, rolls-Implies, rolls-All, rolls-Exists}
 
@@ -49,3 +49,6 @@ module _ (P : Formula → Type 0) (false : P False) (atom : (p : List ℕ) (argu
 
   pub formula_by_forms : (a : Formula) → P a
   formula_by_forms = ind-Formula P (λ x y is. subst (λ z. P (roll-Formula z)) is (layer y))
+
+pub out-Implies : (a b : Formula) → out-Formula (Implies a b) ≡ Formula-F.Implies a b
+out-Implies a b = ap out-Formula (sym (rolls-Implies a b)) ∙ out-roll-Formula (Formula-F.Implies a b)

@@ -1,16 +1,9 @@
 -- Lists of arguments that are the same points.
-use Rattle.std.proofs.Common.{◌≡◌, ◌≢◌, ℕ, zero, suc, Bool, true, false, ◌&&◌, ◌||◌, List, [], ◌∷◌, ◌++◌, length, map, get_or, refl, ap, ◌∙◌}
+use Rattle.std.proofs.Common.{◌≡◌, ◌≢◌, ℕ, zero, suc, Bool, true, false, ◌||◌, List, [], ◌∷◌, ◌++◌, length, map, get_or, refl, ap, ◌∙◌}
 use Rattle.std.specs.List.{list_all, list_any}
+use Rattle.std.specs.Cmp.{first_so, second_so}
 use Rattle.nj_formula.specs.declared.argument.Argument.{Argument}
 use Rattle.nj_formula.proofs.KnownArguments.{Each}
-
-pub first : (x y : Bool) → (x && y) ≡ true → x ≡ true
-first true y h = refl
-first false y h = h
-
-pub second : (x y : Bool) → (x && y) ≡ true → y ≡ true
-second true y h = h
-second false y h = cc
 
 pub neither_left : (x y : Bool) → (x || y) ≡ false → x ≡ false
 neither_left true y h = h
@@ -35,8 +28,8 @@ module _ {D : Type 0} (f g : Argument → D) (test : Argument → Bool) where
   pub all_agree : (args : List Argument) → Each (AgreesWhere true) args → list_all (λ c. c) (map test args) ≡ true → map f args ≡ map g args
   all_agree [] tt h = refl
   all_agree (a ∷ args) e h =
-      ap (λ d. d ∷ map f args) (e.0 (first (test a) (list_all (λ c. c) (map test args)) h))
-      ∙ ap (λ ds. g a ∷ ds) (all_agree args e.1 (second (test a) (list_all (λ c. c) (map test args)) h))
+      ap (λ d. d ∷ map f args) (e.0 (first_so (test a) (list_all (λ c. c) (map test args)) h))
+      ∙ ap (λ ds. g a ∷ ds) (all_agree args e.1 (second_so (test a) (list_all (λ c. c) (map test args)) h))
 
   pub none_agree : (args : List Argument) → Each (AgreesWhere false) args → list_any (λ c. c) (map test args) ≡ false → map f args ≡ map g args
   none_agree [] tt h = refl

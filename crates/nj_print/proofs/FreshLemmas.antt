@@ -1,7 +1,8 @@
 -- No printed name hides what a part of the formula shows, so that each name is read as what it was printed for.
 use Rattle.std.proofs.Common.{◌≡◌, ◌≤◌, ◌<◌, ◌+◌, ◌-◌, ℕ, suc, Bool, false, ◌&&◌, nat_le, List, [], ◌∷◌, length, cond, bytes_eq, Option, Some, None, option_map, refl, ap, sym, subst, ◌∙◌, arith, ⊎_elim, add-one, le-leb}
-use Rattle.std.proofs.lemmas.Bool.{both_ways, or_parts, and_cases, cases_eq, false_from_ne_true}
+use Rattle.std.proofs.lemmas.Bool.{both_ways, or_parts, and_cases, cases_eq}
 use Rattle.std.proofs.lemmas.Slice.Eq.{bytes_eq-Decides}
+use Rattle.text_words.proofs.KnownLists.{unlike_turned}
 use Rattle.nj_formula.specs.Statement.{Statement}
 use Rattle.nj_syntax.specs.declared.operator.Operator.{Operator}
 use Rattle.nj_syntax.specs.declared.operator.Quantifier.{Quantifier}
@@ -45,14 +46,11 @@ deeper q s (y ∷ outer) e fresh = (sym (is_shown-bind q y outer (e + 1) s) ∙ 
 pub fresh_body : (q : Quantifier) (names : List (List ℕ)) (y : List ℕ) (s : Statement) → Fresh names (bind q s) → is_shown y names 1 s ≡ false → Fresh (y ∷ names) s
 fresh_body q names y s fresh free = (free, deeper q s names 0 fresh)
 
-bytes_ne : (x y : List ℕ) → bytes_eq x y ≡ false → bytes_eq y x ≡ false
-bytes_ne x y ne = false_from_ne_true (bytes_eq y x) (λ same. both_ways (bytes_eq x y) ne ((bytes_eq-Decides x y).1 (sym ((bytes_eq-Decides y x).0 same))))
-
 -- of a name that is not the first one
 place_of-other : (y x : List ℕ) (names : List (List ℕ)) (place : Option ℕ) → bytes_eq x y ≡ false → place_of names x ≡ place
     → place_of (y ∷ names) x ≡ option_map (λ n. n + 1) place
 place_of-other y x names place ne is =
-    ap (λ b. cond b (Some 0) (option_map (λ n. n + 1) (place_of names x))) (bytes_ne x y ne) ∙ ap (option_map (λ n. n + 1)) is
+    ap (λ b. cond b (Some 0) (option_map (λ n. n + 1) (place_of names x))) (unlike_turned x y ne) ∙ ap (option_map (λ n. n + 1)) is
 
 pub place_of-free : (x : List ℕ) (names : List (List ℕ)) (e : ℕ) → FreshBy (λ y outer d. bytes_eq x y) names e → place_of names x ≡ None
 place_of-free x [] e fresh = refl

@@ -1,8 +1,8 @@
 -- A name that is shown is no longer than all that may show it, so that the search for primes ends.
-use Rattle.std.proofs.Common.{◌≡◌, ◌≤◌, ◌+◌, ◌-◌, ℕ, zero, suc, true, nat_le, List, [], ◌∷◌, length, map, bytes_eq, ap, sym, subst, ◌∙◌, arith, ⊎_elim}
+use Rattle.std.proofs.Common.{◌≡◌, ◌≤◌, ◌+◌, ◌-◌, ℕ, zero, suc, true, nat_le, List, [], ◌∷◌, length, map, bytes_eq, sym, subst, ◌∙◌, arith, ⊎_elim}
 use Rattle.std.proofs.lemmas.Bool.{or_cases, and_parts}
-use Rattle.std.proofs.lemmas.Slice.Eq.{bytes_eq-Decides}
 use Rattle.std.specs.List.{list_any}
+use Rattle.text_words.proofs.KnownLists.{same_length}
 use Rattle.nj_formula.specs.declared.argument.Argument.{Argument, fold-Argument}
 use Rattle.nj_formula.specs.declared.argument.Argument.TheOpen.{Argument-F}
 use Rattle.nj_formula.specs.declared.argument.Argument.TheVariants.{Free, Bound, Apply}
@@ -33,9 +33,6 @@ room names (disj a b) = room names a + room names b
 room names (implies a b) = room names a + room names b
 room names (every a) = room names a
 room names (exists a) = room names a
-
-same_length : (x y : List ℕ) → bytes_eq x y ≡ true → length y ≡ length x
-same_length x y e = ap length (sym ((bytes_eq-Decides x y).0 e))
 
 length-name_at : (names : List (List ℕ)) (k : ℕ) → length (name_at names k) ≤ total (map length names)
 length-name_at [] k = omega arith

@@ -1,11 +1,12 @@
 -- Which tokens a text is cut into, piece by piece, whatever stands after it.
-use Rattle.std.proofs.Common.{◌≡◌, ◌<◌, ◌+◌, ℕ, zero, suc, true, false, List, [], ◌∷◌, ◌++◌, length, take, drop, cond, IsAscii, Some, None, refl, ap, sym, subst, ◌∙◌, arith, add-zero, add-one, append_assoc, length-append}
+use Rattle.std.proofs.Common.{◌≡◌, ◌<◌, ◌+◌, ℕ, suc, true, false, List, [], ◌∷◌, ◌++◌, length, take, drop, cond, IsAscii, Some, None, refl, ap, sym, subst, ◌∙◌, arith, add-zero, add-one, append_assoc, length-append}
 use Rattle.std.proofs.Math.Seq.{take-append_seam, drop-append_seam}
 use Rattle.std.proofs.lemmas.Bool.{and_parts, and_from}
 use Rattle.std.proofs.lemmas.Bool.Decides.{nat_tests}
 use Rattle.std.proofs.lemmas.Str.{IsAscii-append}
 use Rattle.std.specs.List.{list_all, prefix_len}
 use Rattle.std.specs.Char.{is_ascii_alphabetic}
+use Rattle.std.proofs.lemmas.Str.Ascii.{IsAscii-cons}
 use Rattle.nj_tokens.specs.declared.token.Token.{Token}
 use Rattle.nj_tokens.specs.declared.token.Token.TheVariants as Tokens
 use Rattle.nj_tokens.specs.declared.token.Placed.{Placed}
@@ -13,8 +14,7 @@ use Rattle.text_words.specs.Blanks.{is_blank}
 use Rattle.text_words.specs.Identifier.{is_identifier_part, is_identifier}
 use Rattle.nj_tokens.specs.Lexis.{name_or_sign, front_name, first_token}
 use Rattle.nj_tokens.specs.Tokens.{AreTokens, blank, begins}
-use Rattle.nj_tokens.proofs.KnownNames.{part_is_ascii}
-use Rattle.text_words.proofs.KnownIdentifiers.{letter-part}
+use Rattle.text_words.proofs.KnownIdentifiers.{letter-part, parts_ascii, part_ascii}
 use Rattle.nj_syntax.specs.Terms.{Deep}
 use Rattle.nj_syntax.specs.Answers.{AreAt}
 
@@ -23,16 +23,6 @@ pub record Spells (text : List ℕ) (deep : List Deep) : Type 0 where
   pub ascii : IsAscii text
   pub cut : (at : ℕ) (rest : List ℕ) (after : List Placed) (stop : ℕ) → prefix_len is_identifier_part rest ≡ 0 → AreTokens (at + length text) rest after stop true
       → (placed : List Placed) × AreAt placed deep × AreTokens at (text ++ rest) (placed ++ after) stop true
-
-ascii_cons : (c : ℕ) (text : List ℕ) → c < 128 → IsAscii text → IsAscii (c ∷ text)
-ascii_cons c text low all zero = low
-ascii_cons c text low all (suc i) = all i
-
-ascii_name : (text : List ℕ) → list_all is_identifier_part text ≡ true → IsAscii text
-ascii_name [] all = λ i. omega arith
-ascii_name (c ∷ text) all =
-    let parts = and_parts (is_identifier_part c) (list_all is_identifier_part text) all in
-    ascii_cons c text (part_is_ascii c parts.0) (ascii_name text parts.1)
 
 -- no name goes on with the text
 abbrev pub Breaks : List ℕ → Type 0
@@ -49,14 +39,14 @@ nothing = record { ascii = λ i. omega arith; cut = λ at rest after stop b h. (
 
 pub blank_then : {text : List ℕ} {deep : List Deep} → Spells text deep → Spells (32 ∷ text) deep
 blank_then {text} s = record {
-  ascii = ascii_cons 32 text (omega arith) s.ascii;
+  ascii = IsAscii-cons 32 text (omega arith) s.ascii;
   cut = λ at rest after stop b h. let inner = s.cut (at + 1) rest after stop b (moved (one_more at (length text)) h) in (inner.0, inner.1, blank refl inner.2);
 }
 
 pub sign_then : (c : ℕ) (t : Token) (d : ℕ) {text : List ℕ} {deep : List Deep} → c < 128 → is_blank c ≡ false
     → ((rest : List ℕ) → first_token (c ∷ rest) ≡ Some (t, 1)) → Spells text deep → Spells (c ∷ text) ((t, d) ∷ deep)
 sign_then c t d {text} low ink first s = record {
-  ascii = ascii_cons c text low s.ascii;
+  ascii = IsAscii-cons c text low s.ascii;
   cut = λ at rest after stop b h.
       let inner = s.cut (at + 1) rest after stop b (moved (one_more at (length text)) h) in
       (record { token = t; at = at } ∷ inner.0, ap (λ ts. t ∷ ts) inner.1, begins ink (first (text ++ rest)) inner.2);
@@ -64,7 +54,7 @@ sign_then c t d {text} low ink first s = record {
 
 pub arrow_then : (d : ℕ) {text : List ℕ} {deep : List Deep} → Spells text deep → Spells (45 ∷ 45 ∷ 62 ∷ text) ((Tokens.Implies, d) ∷ deep)
 arrow_then d {text} s = record {
-  ascii = ascii_cons 45 (45 ∷ 62 ∷ text) (omega arith) (ascii_cons 45 (62 ∷ text) (omega arith) (ascii_cons 62 text (omega arith) s.ascii));
+  ascii = IsAscii-cons 45 (45 ∷ 62 ∷ text) (omega arith) (IsAscii-cons 45 (62 ∷ text) (omega arith) (IsAscii-cons 62 text (omega arith) s.ascii));
   cut = λ at rest after stop b h.
       let inner = s.cut (at + 3) rest after stop b (moved (three_more at (length text)) h) in
       (record { token = Tokens.Implies; at = at } ∷ inner.0, ap (λ ts. Tokens.Implies ∷ ts) inner.1, begins refl refl inner.2);
@@ -114,7 +104,7 @@ name_then [] d is breaks s = cc
 name_then (c ∷ more) d {text} is breaks s =
     let parts = and_parts (is_ascii_alphabetic c) (list_all is_identifier_part more) is in
     record {
-      ascii = ascii_cons c (more ++ text) (part_is_ascii c (letter-part c parts.0)) (IsAscii-append more text (ascii_name more parts.1) s.ascii);
+      ascii = IsAscii-cons c (more ++ text) (part_ascii c (letter-part c parts.0)) (IsAscii-append more text (parts_ascii more parts.1) s.ascii);
       cut = λ at rest after stop b h.
           let inner = s.cut (at + (length more + 1)) rest after stop b (moved (name_length at (length more) (length text) (length-append more text)) h) in (
             record { token = Tokens.Name (c ∷ more); at = at } ∷ inner.0,

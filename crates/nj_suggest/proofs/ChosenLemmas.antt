@@ -1,6 +1,7 @@
 -- Facts are chosen one after the other, but for those that one further in hides.
 use Rattle.std.proofs.Common.{◌≡◌, ℕ, Bool, true, false, not, ◌||◌, List, [], ◌∷◌, ◌++◌, filter, cond, bytes_eq, refl, ap, sym, ◌∙◌, append_assoc, append-nil}
 use Rattle.std.proofs.lemmas.Slice.Eq.{bytes_eq-Decides}
+use Rattle.std.proofs.Math.Bool.{or-false}
 use Rattle.theory_ctx.specs.declared.local.Local.{Local}
 use Rattle.suggest_rules.specs.Names.{others, unhidden, is_name_of}
 use Rattle.nj_suggest.specs.Chosen.{with_next}
@@ -36,11 +37,7 @@ left_out chosen name (m ∷ facts) hidden = go (left_out chosen name facts hidde
 
 -- one more is chosen
 also : (chosen : List Local) (local : Local) (name : List ℕ) → is_name_of (chosen ++ local ∷ []) name ≡ (is_name_of chosen name || bytes_eq local.name name)
-also [] local name = go (bytes_eq local.name name)
-  where
-    go : (b : Bool) → (b || false) ≡ b
-    go true = refl
-    go false = refl
+also [] local name = or-false (bytes_eq local.name name)
 also (c ∷ chosen) local name = ap (λ b. bytes_eq c.name name || b) (also chosen local name) ∙ go (bytes_eq c.name name)
   where
     go : (b : Bool) → (b || (is_name_of chosen name || bytes_eq local.name name)) ≡ ((b || is_name_of chosen name) || bytes_eq local.name name)

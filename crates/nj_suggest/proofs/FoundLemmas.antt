@@ -2,6 +2,7 @@
 use Rattle.std.proofs.Common.{◌≡◌, Bool, true, false, List, [], ◌∷◌, cond, find, Option, Some, None, option_map, refl, inl, inr, ◌⊎◌, ⊎_elim}
 use Rattle.std.specs.List.{AllByRecursion}
 use Rattle.std.specs.Option.{option_or}
+use Rattle.std.proofs.lemmas.Option.{same_Some}
 use Rattle.theory_ctx.specs.declared.local.Local.{Local}
 use Rattle.proof_terms.specs.declared.term.Term.{Term}
 use Rattle.suggest_rules.specs.Search.{if_so, both, first_of}
@@ -20,12 +21,9 @@ pub record Mapped {A : Type 0} (make : A → Term) (found : Option A) (t : Term)
   pub found_is : found ≡ Some part
   pub made : make part ≡ t
 
-pub some_is : {A : Type 0} (x y : A) → Some x ≡ Some y → x ≡ y
-some_is x y e = cc
-
 pub mapped : (make : Term → Term) (found : Option Term) (t : Term) → option_map make found ≡ Some t → Mapped make found t
 mapped make None t e = cc
-mapped make (Some u) t e = record { part = u; found_is = refl; made = some_is (make u) t e }
+mapped make (Some u) t e = record { part = u; found_is = refl; made = same_Some (make u) t e }
 
 -- what a function makes of two parts
 pub record Paired (make : Term → Term → Term) (one other : Option Term) (t : Term) : Type 0 where
@@ -38,7 +36,7 @@ pub record Paired (make : Term → Term → Term) (one other : Option Term) (t :
 pub paired : (make : Term → Term → Term) (one other : Option Term) (t : Term) → both make one other ≡ Some t → Paired make one other t
 paired make None other t e = cc
 paired make (Some u) None t e = cc
-paired make (Some u) (Some v) t e = record { left = u; right = v; left_is = refl; right_is = refl; made = some_is (make u v) t e }
+paired make (Some u) (Some v) t e = record { left = u; right = v; left_is = refl; right_is = refl; made = same_Some (make u v) t e }
 
 -- the fact of which it was found
 pub record Among (P : Local → Type 0) (try : Local → Option Term) (t : Term) : Type 0 where
@@ -66,5 +64,5 @@ passing P test make [] t all e = cc
 passing P test make (local ∷ facts) t all e = go (λ is. passing P test make facts t all.1 is) (test local) refl e
   where
     go : (option_map make (find test facts) ≡ Some t → Passing P test make t) → (b : Bool) → test local ≡ b → option_map make (cond b (Some local) (find test facts)) ≡ Some t → Passing P test make t
-    go later true passes is = record { local = local; holds = all.0; passes = passes; made = some_is (make local) t is }
+    go later true passes is = record { local = local; holds = all.0; passes = passes; made = same_Some (make local) t is }
     go later false fails is = later is

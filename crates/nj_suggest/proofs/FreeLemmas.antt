@@ -3,8 +3,8 @@ use Rattle.std.proofs.Common.{◌≡◌, ◌≤◌, ◌<◌, ℕ, zero, suc, ◌
 use Rattle.std.specs.Prelude.{sum, if◌then◌else◌}
 use Rattle.std.proofs.lemmas.Bool.{or_cases, and_parts, cases_lt}
 use Rattle.std.proofs.lemmas.List.{length-replicate}
-use Rattle.std.proofs.lemmas.List.Sums.{sum_by-cons}
 use Rattle.std.proofs.lemmas.Slice.Eq.{bytes_eq-Decides}
+use Rattle.text_words.proofs.KnownLists.{sum_cons}
 use Rattle.outer_tokens.specs.Words.{same}
 use Rattle.theory_ctx.specs.declared.local.Local.{Local}
 use Rattle.nj_print.specs.Primed.{with_primes}
@@ -12,14 +12,11 @@ use Rattle.formula_texts.specs.Printed.{least_failing}
 use Rattle.suggest_rules.specs.declared.names.Names.{Names}
 use Rattle.suggest_rules.specs.Names.{is_alias, is_name_of, is_taken, longest_taken, numbered, next_name}
 
-first_more : (n : ℕ) (ns : List ℕ) → sum (n ∷ ns) ≡ n + sum ns
-first_more n ns = sum_by-cons (λ x. x) n ns
-
 -- a name of a fact is no longer than all names of facts
 fact_length : (facts : List Local) (name : List ℕ) → is_name_of facts name ≡ true → length name ≤ sum (map (λ local. length local.name) facts)
 fact_length [] name e = cc
 fact_length (local ∷ facts) name e =
-    let more = first_more (length local.name) (map (λ l. length l.name) facts) in
+    let more = sum_cons (length local.name) (map (λ l. length l.name) facts) in
     ⊎_elim
     (λ is. omega (arith, more, ap length ((bytes_eq-Decides local.name name).0 is)))
     (λ later. omega (arith, more, fact_length facts name later))
@@ -34,7 +31,7 @@ same_length (c ∷ x) (d ∷ y) e = ap suc (same_length x y (and_parts (eqb c d)
 alias_length : (aliases : List (List ℕ)) (name : List ℕ) → is_alias aliases name ≡ true → length name ≤ sum (map length aliases)
 alias_length [] name e = cc
 alias_length (alias ∷ aliases) name e =
-    let more = first_more (length alias) (map length aliases) in
+    let more = sum_cons (length alias) (map length aliases) in
     ⊎_elim
     (λ is. omega (arith, more, same_length name alias is))
     (λ later. omega (arith, more, alias_length aliases name later))

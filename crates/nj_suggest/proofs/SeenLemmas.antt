@@ -1,8 +1,9 @@
 -- What may be cited is what its name means in the scope.
-use Rattle.std.proofs.Common.{◌≡◌, ℕ, suc, zero, Bool, true, false, not, List, [], ◌∷◌, take, find, bytes_eq, cond, Some, refl, ap, sym, ◌∙◌}
+use Rattle.std.proofs.Common.{◌≡◌, ℕ, suc, zero, Bool, true, false, not, List, [], ◌∷◌, take, find, bytes_eq, cond, Some, refl, ap, ◌∙◌}
 use Rattle.std.specs.List.{AllByRecursion}
-use Rattle.std.proofs.lemmas.Bool.{or_parts, both_ways}
+use Rattle.std.proofs.lemmas.Bool.{or_parts}
 use Rattle.std.proofs.lemmas.Slice.Eq.{bytes_eq-Decides}
+use Rattle.text_words.proofs.KnownLists.{unlike_turned}
 use Rattle.nj_formula.specs.declared.formula.Formula.{Formula}
 use Rattle.theory_ctx.specs.declared.local.Local.{Local}
 use Rattle.suggest_rules.specs.declared.names.Names.{Names}
@@ -21,13 +22,6 @@ Sees locals facts = AllByRecursion (Means locals) facts
 
 itself : (x : List ℕ) → bytes_eq x x ≡ true
 itself x = (bytes_eq-Decides x x).1 refl
-
-differs : (x y : List ℕ) → bytes_eq x y ≡ false → bytes_eq y x ≡ false
-differs x y e = go (bytes_eq y x) refl
-  where
-    go : (b : Bool) → bytes_eq y x ≡ b → b ≡ false
-    go true is = absurd (both_ways (bytes_eq x y) e ((bytes_eq-Decides x y).1 (sym ((bytes_eq-Decides y x).0 is))))
-    go false is = refl
 
 -- a fact with another name in front of it
 behind : (new local : Local) (locals : List Local) → bytes_eq new.name local.name ≡ false → Means locals local → Means (new ∷ locals) local
@@ -49,7 +43,7 @@ rest_behind new locals (local ∷ facts) sees = go (rest_behind new locals facts
   where
     go : Sees (new ∷ locals) (others new.name facts) → (b : Bool) → bytes_eq local.name new.name ≡ b → Sees (new ∷ locals) (cond (not b) (local ∷ others new.name facts) (others new.name facts))
     go more true e = more
-    go more false e = (behind new local locals (differs local.name new.name e) sees.0, more)
+    go more false e = (behind new local locals (unlike_turned local.name new.name e) sees.0, more)
 
 unhidden-seen : (locals : List Local) → AllByRecursion IsPlain locals → Sees locals (unhidden locals)
 unhidden-seen [] plain = tt
@@ -68,7 +62,7 @@ all_behind : (new : Local) (locals facts : List Local) → is_name_of facts new.
 all_behind new locals [] e sees = tt
 all_behind new locals (local ∷ facts) e sees =
     let parts = or_parts (bytes_eq local.name new.name) (is_name_of facts new.name) e in
-    (behind new local locals (differs local.name new.name parts.0) sees.0, all_behind new locals facts parts.1 sees.1)
+    (behind new local locals (unlike_turned local.name new.name parts.0) sees.0, all_behind new locals facts parts.1 sees.1)
 
 pub assuming-seen : (aliases : List (List ℕ)) (names : Names) (a : Formula) (locals : List Local) → Sees locals names.facts
     → Sees (record { name = next_name aliases names; formula = a } ∷ locals) (assuming aliases names a).facts

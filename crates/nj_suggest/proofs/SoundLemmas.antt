@@ -1,5 +1,6 @@
 -- A proof that is found proves its goal.
 use Rattle.std.proofs.Common.{◌≡◌, ◌≤◌, ℕ, zero, suc, Bool, true, not, List, [], ◌∷◌, cond, Option, Some, None, option_map, Ok, Err, refl, ap, sym, subst, ◌∙◌, arith, ⊎_elim, le_of_suc-le-suc}
+use Rattle.std.proofs.lemmas.Option.{same_Some}
 use Rattle.nj_formula.specs.declared.formula.Formula.{Formula, out-Formula, roll-Formula, roll-out-Formula}
 use Rattle.nj_formula.specs.declared.formula.Formula.TheOpen.{Formula-F}
 use Rattle.nj_formula.specs.declared.formula.Formula.TheVariants as F
@@ -27,7 +28,7 @@ use Rattle.suggest_rules.specs.declared.names.Names.{Names}
 use Rattle.suggest_rules.specs.Names.{is_alias, next_name, assuming}
 use Rattle.suggest_rules.specs.Search as S
 use Rattle.suggest_rules.specs.Search.{if_so, says_same, is_false, citing, found_by, found_within}
-use Rattle.nj_suggest.proofs.FoundLemmas.{some_is, either, so, mapped, paired, among, passing}
+use Rattle.nj_suggest.proofs.FoundLemmas.{either, so, mapped, paired, among, passing}
 use Rattle.nj_suggest.proofs.ProvenLemmas.{IsRight, by_conj_i, by_disj_i1, by_disj_i2, by_imp_i, by_not_i, by_conj_e1, by_conj_e2, by_imp_e, by_not_e, by_false_e, by_disj_e}
 use Rattle.nj_suggest.proofs.SeenLemmas.{Means, Sees, assuming-seen}
 
@@ -131,12 +132,12 @@ module _ (aliases : List (List ℕ)) (n : ℕ) (sub : Names → Formula → Opti
         ⊎_elim
         (λ left. let first = so (usable aliases R.ConjE1) (if_so (says_same a goal) (Some (ConjE1 b (citing local)))) t left in
         let second = so (says_same a goal) (Some (ConjE1 b (citing local))) t first.1 in
-        subst (λ u. IsRight (checked_within (suc n) u goal scope)) (some_is (ConjE1 b (citing local)) t second.1)
+        subst (λ u. IsRight (checked_within (suc n) u goal scope)) (same_Some (ConjE1 b (citing local)) t second.1)
         (by_conj_e1 n scope goal b (citing local) (fact_right n scope local (F.And goal b) means
         (so_same local.formula (F.And goal b) (says_conj local.formula a b out ∙ (ap (λ s. conj s (meaning b)) (same_so a goal second.0) ∙ sym (meaning-And goal b)))))))
         (λ right. let first = so (usable aliases R.ConjE2) (if_so (says_same b goal) (Some (ConjE2 a (citing local)))) t right in
         let second = so (says_same b goal) (Some (ConjE2 a (citing local))) t first.1 in
-        subst (λ u. IsRight (checked_within (suc n) u goal scope)) (some_is (ConjE2 a (citing local)) t second.1)
+        subst (λ u. IsRight (checked_within (suc n) u goal scope)) (same_Some (ConjE2 a (citing local)) t second.1)
         (by_conj_e2 n scope goal a (citing local) (fact_right n scope local (F.And a goal) means
         (so_same local.formula (F.And a goal) (says_conj local.formula a b out ∙ (ap (conj (meaning a)) (same_so b goal second.0) ∙ sym (meaning-And a goal)))))))
         (either (S.by_rule aliases R.ConjE1 (if_so (says_same a goal) (Some (ConjE1 b (citing local))))) (S.by_rule aliases R.ConjE2 (if_so (says_same b goal) (Some (ConjE2 a (citing local))))) t e)
@@ -162,7 +163,7 @@ module _ (aliases : List (List ℕ)) (n : ℕ) (sub : Names → Formula → Opti
         (so_same local.formula (F.Or a b) (ap meaning (is_rolled local.formula (Formula-F.Or a b) out ∙ rolls-Or a b))))
         (under_own a goal m.left m.left_is) (under_own b goal m.right m.right_is))
     eliminated_right local means Formula-F.False out t e =
-        subst (λ u. IsRight (checked_within (suc n) u goal scope)) (some_is (FalseE (citing local)) t (so (usable aliases R.FalseE) (Some (FalseE (citing local))) t e).1)
+        subst (λ u. IsRight (checked_within (suc n) u goal scope)) (same_Some (FalseE (citing local)) t (so (usable aliases R.FalseE) (Some (FalseE (citing local))) t e).1)
         (by_false_e n scope goal (citing local) (fact_right n scope local F.False means
         (so_same local.formula F.False (ap meaning (is_rolled local.formula Formula-F.False out ∙ rolls-False)))))
     eliminated_right local means (Formula-F.Atom p args) out t e = cc

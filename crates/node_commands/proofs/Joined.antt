@@ -1,8 +1,9 @@
 -- The commands of a front, of what is new and of a back.
-use Rattle.std.proofs.Common.{◌≡◌, ℕ, ◌+◌, ◌-◌, ◌≤◌, List, [], ◌∷◌, ◌++◌, length, map, take, drop, refl, sym, ap, ◌∙◌, arith}
+use Rattle.std.proofs.Common.{◌≡◌, ℕ, ◌+◌, ◌-◌, ◌≤◌, List, ◌++◌, length, map, take, drop, sym, ap, ◌∙◌, arith}
 use Rattle.std.specs.List.{zip, range_with_len}
 use Rattle.std.proofs.lemmas.List.{map-append, length-append, length-take-le, length-drop, drop-drop, take-append-drop, append_assoc, take-map, drop-map, length-map}
 use Rattle.std.proofs.lemmas.List.FromFn.{length-range_with_len}
+use Rattle.text_words.proofs.KnownLists.{zip_append}
 use Rattle.pide_base.specs.declared.range.Range.{Range}
 use Rattle.doc_nodes.specs.declared.node.Entry.{Entry}
 use Rattle.doc_blobs.specs.Needs.{AliasList}
@@ -12,12 +13,6 @@ use Rattle.buffer_rules.specs.Numbers.{Command, Kept, kept, with_kept, ids_of}
 use Rattle.buffer_rules.specs.Nodes.{entry}
 use Rattle.node_commands.specs.Commands.{sources_in, commands_in}
 use Rattle.node_commands.proofs.KnownCommands.{firsts, seconds}
-
-zip-append : {A B : Type 0} (ks ls : List A) (vs ws : List B) → length ks ≡ length vs → zip (ks ++ ls) (vs ++ ws) ≡ zip ks vs ++ zip ls ws
-zip-append [] ls [] ws e = refl
-zip-append [] ls (y ∷ vs) ws e = absurd (omega arith)
-zip-append (x ∷ ks) ls [] ws e = absurd (omega arith)
-zip-append (x ∷ ks) ls (y ∷ vs) ws e = ap (λ ps. (x, y) ∷ ps) (zip-append ks ls vs ws (omega arith))
 
 -- a list cut at two places
 three : {A : Type 0} (xs : List A) (f b : ℕ) → f + b ≤ length xs
@@ -37,7 +32,7 @@ module _ (sheet : Sheet) (aliases : AliasList) where
   entries-append : (ks ls : List ℕ) (vs ws : List Range) → length ks ≡ length vs
       → map (entry sheet aliases) (zip (ks ++ ls) (vs ++ ws)) ≡ map (entry sheet aliases) (zip ks vs) ++ map (entry sheet aliases) (zip ls ws)
   entries-append ks ls vs ws e =
-      ap (map (entry sheet aliases)) (zip-append ks ls vs ws e) ∙ map-append (entry sheet aliases) (zip ks vs) (zip ls ws)
+      ap (map (entry sheet aliases)) (zip_append ks ls vs ws e) ∙ map-append (entry sheet aliases) (zip ks vs) (zip ls ws)
 
   -- at the places of the front, of the middle and of the back
   pub joined : (k : Kept) (ids : List ℕ) (rs : List Range) (next : ℕ) → k.front + k.back ≤ length ids → k.front + k.back ≤ length rs

@@ -2,7 +2,8 @@
 use Rattle.std.proofs.Common.{◌≡◌, ℕ, zero, suc, ◌+◌, ◌-◌, ◌≤◌, List, [], ◌∷◌, length, map, take, drop, sym, ap, ◌∙◌, subst, arith}
 use Rattle.std.specs.Prelude.{reverse}
 use Rattle.std.specs.List.{AllZip}
-use Rattle.std.proofs.lemmas.List.{reverse-append, reverse-reverse, length-reverse, length-drop, drop-drop, take-append-drop, take_at, take-map, drop-map, length-map}
+use Rattle.std.proofs.lemmas.List.{reverse-reverse, length-drop, drop-drop, take-map, drop-map, length-map}
+use Rattle.text_words.proofs.KnownLists.{take_reverse}
 use Rattle.shared_map.specs.Pairs.{Each}
 use Rattle.pide_base.specs.declared.range.Range.{Range}
 use Rattle.doc_nodes.specs.declared.node.Entry.{Entry}
@@ -21,21 +22,12 @@ Each-take P zero xs all = tt
 Each-take P (suc n) [] all = all
 Each-take P (suc n) (x ∷ xs) all = (all.0, Each-take P n xs all.1)
 
--- the front of a list turned round
-take-reverse : {A : Type 0} (xs : List A) (k : ℕ) → k ≤ length xs → take k (reverse xs) ≡ reverse (drop (length xs - k) xs)
-take-reverse xs k le =
-    let m = length xs - k in
-    let len : length (reverse (drop m xs)) ≡ k = length-reverse (drop m xs) ∙ length-drop m xs ∙ omega arith in
-    ap (λ ys. take k (reverse ys)) (sym (take-append-drop m xs))
-    ∙ ap (take k) (reverse-append (take m xs) (drop m xs))
-    ∙ take_at (reverse (drop m xs)) (reverse (take m xs)) k len
-
 -- lists whose turned fronts are the same have the same back
 same_back : {A : Type 0} (xs ys : List A) (k : ℕ) → k ≤ length xs → k ≤ length ys → take k (reverse xs) ≡ take k (reverse ys)
     → drop (length xs - k) xs ≡ drop (length ys - k) ys
 same_back xs ys k in_xs in_ys e =
     sym (reverse-reverse (drop (length xs - k) xs))
-    ∙ ap reverse (sym (take-reverse xs k in_xs) ∙ e ∙ take-reverse ys k in_ys)
+    ∙ ap reverse (sym (take_reverse xs k in_xs) ∙ e ∙ take_reverse ys k in_ys)
     ∙ reverse-reverse (drop (length ys - k) ys)
 
 -- the same behind a front

@@ -5,6 +5,7 @@ use Rattle.std.specs.List.{All}
 use Rattle.std.specs.List.Sorted.{IsNonDecreasingBy}
 use Rattle.std.proofs.lemmas.Bool.Decides.{nat_tests}
 use Rattle.std.proofs.lemmas.List.Elements.{filter_passes}
+use Rattle.std.specs.Cmp.Derive.{one_truth}
 use Rattle.pide_base.specs.declared.range.Range.{Range}
 use Rattle.buffer_rules.specs.Cuts.{share, is_seen}
 use Rattle.node_commands.specs.Spread.{AreSpread, spread, ShowAlike}
@@ -22,11 +23,6 @@ empty_none range r e = grind (arith, nat_tests)
 
 pub early_none : (range r : Range) → r.stop ≤ range.start → share range r ≡ false
 early_none range r e = grind (arith, nat_tests)
-
-same : (b c : Bool) → (b ≡ true → c ≡ true) → (c ≡ true → b ≡ true) → b ≡ c
-same true c to from = sym (to refl)
-same false true to from = from refl
-same false false to from = refl
 
 abbrev pub kept : List Range → List Range
 kept ranges = filter (λ (r : Range). nat_lt r.start r.stop) ranges
@@ -48,7 +44,7 @@ further : (a reach : ℕ) (r range : Range) → a < reach → a ≤ r.start → 
 further a reach r range some behind filled none =
     let one : Range = record { start = a; stop = reach } in
     let two : Range = record { start = r.start; stop = max reach r.stop } in
-    same (share range two) (share range r)
+    one_truth (share range two) (share range r)
     (λ e. let so = share_so range two e in go one so (nat_lt range.start r.stop) refl)
     (λ e. let so = share_so range r e in so_share range two (omega arith) so.0 (omega arith) so.2)
   where

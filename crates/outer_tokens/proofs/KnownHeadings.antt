@@ -10,9 +10,9 @@ use Rattle.outer_tokens.specs.Stages.{after_word, after_token, is_ended, end_fro
 use Rattle.outer_tokens.specs.declared.stage.Stage.{Stage}
 use Rattle.outer_tokens.specs.declared.stage.Stage.TheVariants.{Start, Ended}
 use Rattle.outer_tokens.specs.declared.token.Token.{Token}
-use Rattle.outer_tokens.proofs.StageLemmas.{strict, strict-is, after_words, after-both, past-end, ended-is, run-words}
+use Rattle.outer_tokens.proofs.StageLemmas.{strict, strict-is, after_words, after-both, past-end, run-words}
 use Rattle.outer_tokens.proofs.KnownParts.{Parts, collect, Sofar}
-use Rattle.outer_tokens.proofs.KnownStages.{further}
+use Rattle.outer_tokens.proofs.KnownStages.{further, ended-is}
 use Rattle.outer_tokens.proofs.KnownProper.{proper-some, proper-none}
 
 -- what is known where reading goes on without an end

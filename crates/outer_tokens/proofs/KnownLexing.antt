@@ -10,10 +10,10 @@ use Rattle.outer_tokens.specs.Lexing.{tokens_from, tokens_under, tokens_of, head
 use Rattle.outer_tokens.specs.declared.stage.Stage.{Stage}
 use Rattle.outer_tokens.specs.declared.stage.Stage.TheVariants.{Start, Ended}
 use Rattle.outer_tokens.specs.declared.token.Token.{Token}
-use Rattle.outer_tokens.proofs.StageLemmas.{ended-is}
 use Rattle.outer_tokens.proofs.KnownHeadings.{heading-end, one-end}
 use Rattle.outer_tokens.proofs.TokenLaws.{rises, one-token, one-between, one-tokens}
 use Rattle.outer_tokens.proofs.FitLemmas.{are-from, are-under}
+use Rattle.outer_tokens.proofs.KnownStages.{ended-is}
 
 -- one token more
 pub tokens-push : (names : ℕ → List ℕ → Bool) (text : List ℕ) (from middle : ℕ) (before : List Token) (t : Token) → AreTokensBetween names text from middle before → t.range.start ≡ middle → IsToken (names middle) text t → AreTokensBetween names text from t.range.stop (before ++ t ∷ [])
@@ -42,7 +42,7 @@ pub after-push : (text : List ℕ) (stage : Stage) (before : List Token) (t : To
 after-push text stage [] t = refl
 after-push text stage (x ∷ xs) t = after-push text (after_token text stage x) xs t
 
-given-none : (s : Stage) (aliases : List (List ℕ)) → is_ended s ≡ false → given s aliases ≡ []
+pub given-none : (s : Stage) (aliases : List (List ℕ)) → is_ended s ≡ false → given s aliases ≡ []
 given-none Ended aliases on = absurd (cc (on))
 given-none _ aliases on = refl
 

@@ -23,7 +23,7 @@ kind-keyword : (k : Kind) → is_keyword k ≡ true → k ≡ kind.Keyword
 kind-keyword kind.Keyword e = refl
 kind-keyword _ e = cc
 
-kind-command : (k : Kind) → is_command k ≡ true → k ≡ kind.Command
+pub kind-command : (k : Kind) → is_command k ≡ true → k ≡ kind.Command
 kind-command kind.Command e = refl
 kind-command _ e = cc
 
@@ -143,3 +143,7 @@ further Pair p ws w on (fits, so) =
     tt)
 further Ended p ws w on so = absurd (cc (on))
 further Absent p ws w on so = tt
+
+pub ended-is : (s : Stage) → is_ended s ≡ true → s ≡ Ended
+ended-is Ended e = refl
+ended-is _ e = absurd (cc (e))

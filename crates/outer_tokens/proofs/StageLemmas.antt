@@ -1,5 +1,5 @@
 -- Reading the words of a header one by one comes to its end.
-use Rattle.std.proofs.Common.{◌≡◌, ℕ, ◌<◌, true, false, List, [], ◌∷◌, ◌++◌, length, map, refl, ap, ◌∙◌, arith, append_assoc}
+use Rattle.std.proofs.Common.{◌≡◌, ℕ, ◌<◌, false, List, [], ◌∷◌, ◌++◌, length, map, refl, ap, ◌∙◌, arith, append_assoc}
 use Rattle.std.specs.Prelude.{codes}
 use Rattle.outer_tokens.specs.Headings.{Heading, Word, flat_pairs, import_words, pair_words, words_of}
 use Rattle.outer_tokens.specs.Stages.{after_word, is_ended}
@@ -33,10 +33,6 @@ absent-stays (w ∷ ws) = absent-stays ws
 pub past-end : (ws : List Word) → 0 < length ws → is_ended (after_words Ended ws) ≡ false
 past-end [] some = absurd (omega arith)
 past-end (w ∷ ws) some = ap is_ended (absent-stays ws)
-
-pub ended-is : (s : Stage) → is_ended s ≡ true → s ≡ Ended
-ended-is Ended e = refl
-ended-is _ e = absurd (cc (e))
 
 run-import : (names : List (List ℕ)) (ws : List Word) → after_words Import (map (λ n. (Ident, n)) names ++ ws) ≡ after_words Import ws
 run-import [] ws = refl

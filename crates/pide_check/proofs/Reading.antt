@@ -1,5 +1,5 @@
 -- A text that was read.
-use Rattle.std.proofs.Common.{◌≡◌, ℕ, List, Option, Result, Ok, Err, OnErr, subst}
+use Rattle.std.proofs.Common.{◌≡◌, ℕ, List, Option, subst}
 use Rattle.std.specs.Str.{IsUtf8, chars}
 use Rattle.std.specs.Io.KnownBytes.{Consumes}
 use Rattle.text_input.specs.declared.input.Input.{Input}
@@ -10,8 +10,3 @@ use Rattle.text_input.specs.Reading.{HadJust, IsRead}
 pub whole_read : (answer : Input) (text : List ℕ) (old new : Option (List ℕ)) → answer ≡ input.Whole text → IsRead answer old new
     → (taken : List ℕ) × Consumes old new taken × (HadJust taken new × IsUtf8 taken × (text ≡ chars taken))
 whole_read answer text old new is read = subst (λ (a : Input). IsRead a old new) is read
-
--- what holds in any case holds at an error
-pub on_err : {A E : Type 0} {P : Type 0} (r : Result A E) → P → OnErr r P
-on_err (Ok x) p = tt
-on_err (Err e) p = p

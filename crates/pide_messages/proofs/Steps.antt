@@ -1,16 +1,9 @@
 -- Chunks that are texts, one after the other.
-use Rattle.std.proofs.Common.{◌≡◌, ℕ, ◌<◌, ◌+◌, ◌&&◌, true, false, Bool, List, [], ◌∷◌, ◌++◌, length, drop, get_or, slice_index_or, Bor, Option, Some, None, Ok, refl, sym, ap, ◌∙◌, append_assoc, add-one, drop-cons}
+use Rattle.std.proofs.Common.{◌≡◌, ℕ, ◌<◌, ◌+◌, ◌&&◌, true, false, Bool, List, [], ◌∷◌, ◌++◌, length, drop, get_or, slice_index_or, Bor, refl, sym, ap, ◌∙◌, append_assoc, add-one, drop-cons}
 use Rattle.std.specs.Str.{IsUtf8, is_utf8}
 use Rattle.std.proofs.lemmas.List.{map-append}
 use Rattle.std.proofs.lemmas.Str.{IsUtf8-from_is_utf8, is_utf8-from_IsUtf8}
-use Rattle.message_values.specs.declared.refusal.Refusal.{Refusal}
-use Rattle.message_values.specs.Asked.{or_refused}
 use Rattle.pide_messages.specs.Texts.{texts, all_utf8}
-
--- what isn't refused is there
-pub there : {A : Type 0} (reason : Refusal) (o : Option A) (x : A) → or_refused reason o ≡ Ok x → o ≡ Some x
-there reason None x e = absurd (cc)
-there reason (Some y) x e = let same : y ≡ x = cc in ap (λ z. Some z) same
 
 next : (chunks : List (List ℕ)) (n : ℕ) (chunk : List ℕ) → n < length chunks → chunk ≡ slice_index_or chunks n [] → drop n chunks ≡ chunk ∷ drop (n + 1) chunks
 next chunks n chunk h is =

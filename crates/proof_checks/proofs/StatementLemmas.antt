@@ -1,6 +1,6 @@
 -- Tests on statements and lists of them.
-use Rattle.std.proofs.Common.{◌≡◌, ◌≢◌, ◌⊎◌, ◌↔◌, ℕ, Bool, true, false, not, cond, ◌||◌, IsTrue, List, [], ◌∷◌, refl, sym, ◌∙◌, ap, subst, inl, inr, ⊎_elim}
-use Rattle.std.proofs.lemmas.Bool.{or_parts}
+use Rattle.std.proofs.Common.{◌≡◌, ◌≢◌, ◌⊎◌, ◌↔◌, ℕ, Bool, true, false, not, cond, IsTrue, List, [], ◌∷◌, refl, sym, ◌∙◌, ap, subst, inl, inr, ⊎_elim}
+use Rattle.std.proofs.lemmas.Bool.{or_parts, or_from}
 use Rattle.std.specs.List.{list_any}
 use Rattle.nj_formula.specs.Statement.{Statement}
 use Rattle.nj_formula.specs.Free.{is_free}
@@ -35,10 +35,6 @@ lists_without a (g ∷ s) = by (lists_without a s) (decide g a)
       λ m. ⊎_elim (λ e. inl e) (λ n. inr ((rest f).1 (n, m.1))) m.0,
     )
 
-both_false : (a b : Bool) → a ≡ false → b ≡ false → (a || b) ≡ false
-both_false true b e h = cc
-both_false false b e h = h
-
 pub fresh_among : (x : List ℕ) (s : List Statement) → is_free_among x s ≡ false → IsFreshIn x (members s)
 fresh_among x [] e f m = elim m [ ]
 fresh_among x (g ∷ s) e f m =
@@ -48,11 +44,11 @@ fresh_among x (g ∷ s) e f m =
 pub among_fresh : (x : List ℕ) (s : List Statement) → IsFreshIn x (members s) → is_free_among x s ≡ false
 among_fresh x [] fresh = refl
 among_fresh x (g ∷ s) fresh =
-    both_false (is_free x g) (is_free_among x s) (fresh g (inl refl)) (among_fresh x s (λ f m. fresh f (inr m)))
+    or_from (is_free x g) (is_free_among x s) (fresh g (inl refl)) (among_fresh x s (λ f m. fresh f (inr m)))
 
 -- what is free in none of a list with one more
 pub first_fresh : (x : List ℕ) (g : Statement) (s : List Statement) → is_free_among x (g ∷ s) ≡ false → (is_free x g ≡ false) × (is_free_among x s ≡ false)
 first_fresh x g s e = or_parts (is_free x g) (is_free_among x s) e
 
 pub more_fresh : (x : List ℕ) (g : Statement) (s : List Statement) → is_free x g ≡ false → is_free_among x s ≡ false → is_free_among x (g ∷ s) ≡ false
-more_fresh x g s e h = both_false (is_free x g) (is_free_among x s) e h
+more_fresh x g s e h = or_from (is_free x g) (is_free_among x s) e h

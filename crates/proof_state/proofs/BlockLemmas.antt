@@ -12,7 +12,7 @@ use Rattle.proof_state.specs.declared.frame.Purpose.TheVariants.{Have, Show}
 use Rattle.proof_state.specs.Blocks.{opened, with_fact, achieved}
 use Rattle.proof_state.specs.Follows.{Follows}
 use Rattle.proof_state.specs.Worth.{Assumes, Holds, IsPartOf, IsSound, Serves}
-use Rattle.proof_state.proofs.FollowLemmas.{itself, monotone}
+use Rattle.proof_state.proofs.KnownFollows.{itself, monotone}
 use Rattle.proof_state.proofs.ListLemmas.{each_into, each_left, each_back}
 use Rattle.proof_state.proofs.SubgoalLemmas.{subgoals_enter}
 

@@ -21,7 +21,7 @@ use Rattle.proof_state.specs.Same.{says_same}
 use Rattle.proof_state.specs.Follows.{Follows}
 use Rattle.proof_state.specs.Worth.{Assumes, Holds, IsPartOf, IsSound}
 use Rattle.proof_state.proofs.SameLemmas.{same_is}
-use Rattle.proof_state.proofs.FollowLemmas.{monotone, all_follows}
+use Rattle.proof_state.proofs.KnownFollows.{monotone, all_follows}
 
 one_of : (a : Formula) (bs : List Formula) → list_any (says_same a) bs ≡ true → members (map meaning bs) (meaning a)
 one_of a [] e = cc

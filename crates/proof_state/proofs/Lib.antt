@@ -1,7 +1,7 @@
 pub mod KnownSets
 pub mod KnownFirst
-mod NjLemmas
-mod FollowLemmas
+pub mod KnownAssumptions
+pub mod KnownFollows
 mod SameLemmas
 mod ListLemmas
 mod FreshLemmas

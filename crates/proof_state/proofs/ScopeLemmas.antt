@@ -14,7 +14,7 @@ use Rattle.proof_state.specs.Locals.{named, around_locals}
 use Rattle.proof_state.specs.Follows.{Follows, IsFact}
 use Rattle.proof_state.specs.Worth.{Given, IsWorthInside}
 use Rattle.proof_state.proofs.KnownSets.{in_either}
-use Rattle.proof_state.proofs.FollowLemmas.{itself, monotone, cut}
+use Rattle.proof_state.proofs.KnownFollows.{itself, monotone, cut}
 
 abbrev says : Local → Statement
 says local = meaning local.formula

@@ -14,7 +14,7 @@ use Rattle.proof_state.specs.declared.subgoal.Subgoal.TheVariants.{Show, AssumeS
 use Rattle.proof_state.specs.Subgoals.{introduced, subgoals_of}
 use Rattle.proof_state.specs.Follows.{Follows}
 use Rattle.proof_state.specs.Worth.{Holds, IsPartOf}
-use Rattle.proof_state.proofs.FollowLemmas.{imp_follows, not_follows, and_follows}
+use Rattle.proof_state.proofs.KnownFollows.{imp_follows, not_follows, and_follows}
 
 module _ (P : Statement → Type 0) where
   abbrev Enter : Formula → List Subgoal → Type 0

@@ -40,11 +40,11 @@ module _ (P : Range → Type 0) where
   marks-are source (t ∷ ts) all = (mark-is t.kind (text_of source t) t.range all.0, marks-are source ts all.1)
 
 -- each token's range is that of one of them
-in_more : (t : Token) (ts us : List Token) → AllByRecursion (λ u. IsPlaceOf ts u.range) us → AllByRecursion (λ u. IsPlaceOf (t ∷ ts) u.range) us
+pub in_more : (t : Token) (ts us : List Token) → AllByRecursion (λ u. IsPlaceOf ts u.range) us → AllByRecursion (λ u. IsPlaceOf (t ∷ ts) u.range) us
 in_more t ts [] all = tt
 in_more t ts (u ∷ us) all = (inr all.0, in_more t ts us all.1)
 
-all_in : (ts : List Token) → AllByRecursion (λ t. IsPlaceOf ts t.range) ts
+pub all_in : (ts : List Token) → AllByRecursion (λ t. IsPlaceOf ts t.range) ts
 all_in [] = tt
 all_in (t ∷ ts) = (inl refl, in_more t ts ts (all_in ts))
 

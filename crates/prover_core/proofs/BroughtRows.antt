@@ -1,7 +1,7 @@
 -- What came of a part is what its execution is finished with.
 use Rattle.std.proofs.Common.{◌≡◌, ℕ, Bool, true, false, not, List, ◌∷◌, Option, Some, None, refl, ap, sym, ◌∙◌}
-use Rattle.text_words.proofs.KnownTests.{both-parts}
 use Rattle.std.specs.Option.{option_map, option_map_or, option_and_then}
+use Rattle.std.proofs.lemmas.Bool.{and_parts}
 use Rattle.import_rounds.specs.Rounds.{has}
 use Rattle.pide_base.specs.declared.part.Part.{Part}
 use Rattle.pide_base.specs.declared.part.PartKind.{PartKind}
@@ -61,10 +61,10 @@ module _ {S : Type 0} (l : Lang S) where
     d = doc l h
 
     live : is_assigned d.live p.exec ≡ true
-    live = (both-parts (is_assigned d.live p.exec) (not (has d.cancelled p.exec)) wanted).0
+    live = (and_parts (is_assigned d.live p.exec) (not (has d.cancelled p.exec)) wanted).0
 
     not_cancelled : has d.cancelled p.exec ≡ false
-    not_cancelled = not_true (has d.cancelled p.exec) (both-parts (is_assigned d.live p.exec) (not (has d.cancelled p.exec)) wanted).1
+    not_cancelled = not_true (has d.cancelled p.exec) (and_parts (is_assigned d.live p.exec) (not (has d.cancelled p.exec)) wanted).1
       where
         not_true : (b : Bool) → not b ≡ true → b ≡ false
         not_true true x = absurd (cc)

@@ -2,21 +2,19 @@
 use Rattle.std.proofs.Common.{◌≡◌, ℕ, Bool, true, false, cond, ◌||◌, List, [], ◌∷◌, ◌++◌, Option, Some, None, refl, ap, sym, ◌∙◌}
 use Rattle.std.proofs.lemmas.Bool.{eqb-true}
 use Rattle.std.specs.Prelude.{◌==◌}
+use Rattle.std.proofs.Math.Bool.{or-false}
 use Rattle.import_rounds.specs.Rounds.{has}
 use Rattle.exec_table.specs.declared.execution.Execution.{Execution}
 use Rattle.exec_table.specs.Progress.{is_idle}
 use Rattle.exec_table.specs.Finish.{after_cancelling}
 use Rattle.prover_core.proofs.CancelTold.{turned}
-use Rattle.import_rounds.proofs.KnownRounds.{has_both}
+use Rattle.import_rounds.proofs.KnownHas.{has_both}
 
 -- what is there at a number, once it is changed at these
 abbrev pub changed_in : {A : Type 0} → (ℕ → A → A) → List ℕ → (ℕ → A) → ℕ → A
 changed_in step ds f e = cond (has ds e) (step e (f e)) (f e)
 
 module _ {A : Type 0} (step : ℕ → A → A) (again : (e : ℕ) (a : A) → step e (step e a) ≡ step e a) where
-  or_none : (b : Bool) → (b || false) ≡ b
-  or_none true = refl
-  or_none false = refl
 
   -- one more
   pub changed_more : (ds : List ℕ) (x e : ℕ) (f g k : ℕ → A) → ((n : ℕ) → g n ≡ changed_in step ds f n)
@@ -40,7 +38,7 @@ module _ {A : Type 0} (step : ℕ → A → A) (again : (e : ℕ) (a : A) → st
           let it : x ≡ e = eqb-true x e same in
           ap (λ n. step n (g n)) it ∙ here ∙ same_as (e == x) (ap (λ n. e == n) it ∙ (sym (ap (λ n. n == e) it) ∙ same))
       go false same = was e
-          ∙ ap (λ b. cond b (step e (f e)) (f e)) (sym (or_none (has ds e)))
+          ∙ ap (λ b. cond b (step e (f e)) (f e)) (sym (or-false (has ds e)))
           ∙ ap (λ b. cond (has ds e || (b || false)) (step e (f e)) (f e)) (sym (turned x e same))
 
 -- what was cancelled stays so

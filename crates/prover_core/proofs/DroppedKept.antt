@@ -1,7 +1,6 @@
 -- What is kept once a part is let go that nobody wants any more.
 use Rattle.std.proofs.Common.{◌≡◌, ℕ, ◌≤◌, Bool, true, false, cond, not, ◌&&◌, List, ◌∷◌, Option, Some, None, refl, ap, sym, subst, ◌∙◌, arith}
-use Rattle.std.proofs.lemmas.Bool.{eqb-true, false≢true}
-use Rattle.text_words.proofs.KnownTests.{both-hold}
+use Rattle.std.proofs.lemmas.Bool.{eqb-true, false≢true, and_from}
 use Rattle.std.specs.Prelude.{◌==◌}
 use Rattle.import_rounds.specs.Rounds.{has}
 use Rattle.pide_base.specs.declared.part.Part.{Part}
@@ -40,7 +39,7 @@ module _ {S : Type 0} (l : Lang S) (h : List Event) (t : Tables S) (k : IsKept l
     where
       go : (a b : Bool) → assigns d.tip p.exec ≡ a → has d.cancelled p.exec ≡ b → cond (a && not b) (next_of l h d p.exec) None ≡ None
       go true false x y = absurd (false≢true (sym unwanted
-          ∙ both-hold (is_assigned d.live p.exec) (not (has d.cancelled p.exec)) (tip_live l h t k p.exec x) (ap not y)))
+          ∙ and_from (is_assigned d.live p.exec) (not (has d.cancelled p.exec)) (tip_live l h t k p.exec x) (ap not y)))
       go true true x y = refl
       go false b x y = refl
 

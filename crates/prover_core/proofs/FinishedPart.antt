@@ -1,9 +1,9 @@
 -- What is present, and what its tasks go by, once a part is finished.
 use Rattle.std.proofs.Common.{◌≡◌, ℕ, Bool, true, false, cond, not, ◌&&◌, List, ◌∷◌, Option, Some, None, refl, ap, sym, subst, ◌∙◌}
-use Rattle.text_words.proofs.KnownTests.{both-parts}
 use Rattle.std.specs.Prelude.{◌==◌}
 use Rattle.import_rounds.specs.Rounds.{has}
 use Rattle.std.specs.Option.{option_and_then}
+use Rattle.std.proofs.lemmas.Bool.{and_parts}
 use Rattle.pide_base.specs.declared.part.Part.{Part}
 use Rattle.pide_base.specs.declared.part.PartKind.{PartKind}
 use Rattle.pide_base.specs.declared.part.PartKind.TheVariants as kind
@@ -58,7 +58,7 @@ module _ {S : Type 0} (l : Lang S) (h : List Event) (t : Tables S) (k : IsKept l
   pub present_here : present_kind l more d p.exec ≡ kind_behind p.kind (forks l d.homes p.exec)
   present_here = go (assigns d.tip p.exec) (has d.cancelled p.exec)
       ((in_tip l h t k laws).wanted p.exec wanted (next_opens l h d p.exec p.kind next_p))
-      (not_true (has d.cancelled p.exec) (both-parts (is_assigned d.live p.exec) (not (has d.cancelled p.exec)) wanted).1)
+      (not_true (has d.cancelled p.exec) (and_parts (is_assigned d.live p.exec) (not (has d.cancelled p.exec)) wanted).1)
     where
       not_true : (b : Bool) → not b ≡ true → b ≡ false
       not_true true x = absurd (cc)

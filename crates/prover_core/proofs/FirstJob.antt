@@ -1,8 +1,8 @@
 -- The job of the first ready part.
 use Rattle.std.proofs.Common.{◌≡◌, ◌↔◌, ℕ, Bool, true, false, cond, not, ◌&&◌, List, Option, Some, None, refl, ap, sym, subst, ◌∙◌}
-use Rattle.text_words.proofs.KnownTests.{both-parts}
 use Rattle.std.specs.Prelude.{is_some}
 use Rattle.std.specs.Option.{IsSome, option_map}
+use Rattle.std.proofs.lemmas.Bool.{and_parts}
 use Rattle.doc_nodes.specs.Imports.{NodeList}
 use Rattle.import_rounds.specs.Rounds.{has}
 use Rattle.pide_base.specs.declared.part.Part.{Part}
@@ -43,10 +43,10 @@ module _ {S : Type 0} (l : Lang S) (h : List Event) (t : Tables S) (k : IsKept l
   pub first_job : (p : Part) → first_ready l h ≡ Some p → JobFound l h t k (tip_live l h t k) p
   first_job p is =
       let assigned = present_assigned p.exec p.kind (first_present l h t k laws first none p is) in
-      let a = both-parts (is_part l (doc l h).homes p) (is_wanted (doc l h) p.exec
+      let a = and_parts (is_part l (doc l h).homes p) (is_wanted (doc l h) p.exec
       && (is_free (standing h p) && has_inputs h (doc l h).homes p)) ((first p).0 is).ready in
-      let b = both-parts (is_wanted (doc l h) p.exec) (is_free (standing h p) && has_inputs h (doc l h).homes p) a.1 in
-      let inputs = (both-parts (is_free (standing h p)) (has_inputs h (doc l h).homes p) b.1).1 in
+      let b = and_parts (is_wanted (doc l h) p.exec) (is_free (standing h p) && has_inputs h (doc l h).homes p) a.1 in
+      let inputs = (and_parts (is_free (standing h p)) (has_inputs h (doc l h).homes p) b.1).1 in
       job_found l h t k (tip_live l h t k) begun p (homes p.exec assigned) assigned inputs
 
   same_home : (o : Option Home) (x y : Home) → o ≡ Some x → o ≡ Some y → x ≡ y

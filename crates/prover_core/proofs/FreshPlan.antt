@@ -1,7 +1,6 @@
 -- The new executions of a plan, by their numbers.
 use Rattle.std.proofs.Common.{◌≡◌, ◌⊎◌, inl, inr, ℕ, suc, ◌+◌, ◌<◌, ◌≤◌, true, cond, not, List, [], ◌∷◌, length, map, Some, None, refl, ap, sym, subst, ◌∙◌, arith}
-use Rattle.std.proofs.lemmas.Bool.{eq-eqb, ne_eqb, cases_lt}
-use Rattle.text_words.proofs.KnownTests.{both-parts}
+use Rattle.std.proofs.lemmas.Bool.{eq-eqb, ne_eqb, cases_lt, and_parts}
 use Rattle.import_rounds.specs.Rounds.{has}
 use Rattle.task_queue.specs.declared.task.Task.{Task}
 use Rattle.exec_rules.specs.declared.home.Home.{Home}
@@ -79,7 +78,7 @@ module _ (h : List Event) where
   rise hs [] are older = tt
   rise hs (f ∷ fresh) are older = (
     omega (arith, are.0.exec),
-    λ q is. here q (both-parts (has (sources_of f.known.home.input) q) (not (is_finished h (evaluation q))) (sym (are.0.waits q) ∙ is)).0,
+    λ q is. here q (and_parts (has (sources_of f.known.home.input) q) (not (is_finished h (evaluation q))) (sym (are.0.waits q) ∙ is)).0,
     subst (λ n. RiseFrom (suc n) fresh) (sym are.0.exec)
         (rise (f.known.home ∷ hs) fresh are.1 (λ e x lt at. older e x (omega (arith, lt)) at)),
   )

@@ -18,7 +18,7 @@ use Rattle.exec_rules.specs.Kept.{BlobList}
 use Rattle.exec_rules.specs.Assigning.{Update, head_at}
 use Rattle.exec_rules.specs.Listed.{executions, print_list}
 use Rattle.exec_assign.specs.Numbered.{if_new, new_evaluations, new_print, new_prints, new_of, new_at, with_numbers}
-use Rattle.import_rounds.proofs.KnownRounds.{has_both}
+use Rattle.import_rounds.proofs.KnownHas.{has_both}
 
 -- the numbers of homes
 abbrev pub numbers : List (ℕ × Home) → List ℕ

@@ -1,7 +1,6 @@
 -- What a job of a ready part takes up is there, and is what its execution works on.
 use Rattle.std.proofs.Common.{◌≡◌, ℕ, Bool, true, false, cond, List, [], ◌∷◌, Option, Some, None, refl, ap, sym, ◌∙◌}
-use Rattle.std.proofs.lemmas.Bool.{false≢true}
-use Rattle.text_words.proofs.KnownTests.{both-parts}
+use Rattle.std.proofs.lemmas.Bool.{false≢true, and_parts}
 use Rattle.std.specs.List.{AllByRecursion, list_all}
 use Rattle.std.specs.Option.{option_map, option_map_or, option_and_then}
 use Rattle.pide_base.specs.declared.part.Part.{Part}
@@ -51,7 +50,7 @@ module _ {S : Type 0} (l : Lang S) where
       → AllByRecursion (λ f. P f × (test f ≡ true)) fs
   all_finished test P [] all done = tt
   all_finished test P (f ∷ fs) all done =
-      let parts = both-parts (test f) (list_all test fs) done in
+      let parts = and_parts (test f) (list_all test fs) done in
       ((all.0, parts.0), all_finished test P fs all.1 parts.1)
 
   all_mapped : (P Q : ℕ → Type 0) (fs : List ℕ) → ((f : ℕ) → P f → Q f) → AllByRecursion P fs → AllByRecursion Q fs
@@ -104,7 +103,7 @@ module _ {S : Type 0} (l : Lang S) where
       sources_done e x kind.Eval at all = own_sources e x at all
       sources_done e x kind.Print at all = own_sources e x at all
       sources_done e x kind.Fork at all =
-          let own = (both-parts (is_finished h (evaluation e)) true all).0 in
+          let own = (and_parts (is_finished h (evaluation e)) true all).0 in
           own_sources e x at (begun (evaluation e) (done_not_free (standing h (evaluation e)) own))
 
       pub job_found : (p : Part) → HasHome l d d.tip p.exec → assigns d.tip p.exec ≡ true → has_inputs h d.homes p ≡ true → JobFound p

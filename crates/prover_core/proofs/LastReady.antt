@@ -1,18 +1,11 @@
 -- The last of the ready parts of a queue is the next one.
-use Rattle.std.proofs.Common.{◌≡◌, ℕ, ◌<◌, ◌≤◌, ◌-◌, true, false, List, length, get_or, sym, ◌∙◌, ap, subst, arith, ◌⊎◌, inl, inr}
+use Rattle.std.proofs.Common.{◌≡◌, ◌<◌, ◌≤◌, ◌-◌, true, false, List, length, get_or, sym, ◌∙◌, ap, subst, arith, ◌⊎◌, inl, inr}
 use Rattle.std.specs.List.{Contains}
 use Rattle.std.proofs.lemmas.Bool.{cases_lt}
 use Rattle.std.proofs.lemmas.List.{get_or_default}
 use Rattle.pide_base.specs.declared.part.Part.{Part}
-use Rattle.task_queue.specs.declared.priority.Priority.{Priority}
-use Rattle.task_queue.specs.Order.{goes_before}
 use Rattle.task_queue.specs.Ready.{Standings, priority_of, comes_first, IsReadyPart, AreReady, IsNext}
-
-not_itself : (p : Priority) (e : ℕ) → goes_before p e p e ≡ false
-not_itself p e = grind arith
-
-not_both : (p q : Priority) (e f : ℕ) → goes_before p e q f ≡ true → goes_before q f p e ≡ false
-not_both p q e f one = grind arith
+use Rattle.task_queue.proofs.KnownOrder.{not_itself, not_both}
 
 -- where none is there, none is ready
 pub none_is_ready : (all : Standings) (parts : List Part) (part : Part) → length parts < 1 → AreReady all parts

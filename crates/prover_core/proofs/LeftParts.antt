@@ -1,10 +1,10 @@
 -- What is left of a version is ready or held below its number.
 use Rattle.std.proofs.Common.{◌≡◌, ℕ, ◌<◌, ◌≤◌, Bool, true, false, cond, not, ◌&&◌, ◌||◌, List, Option, Some, None, refl, ap, sym, ◌∙◌, arith}
-use Rattle.std.proofs.lemmas.Bool.{false≢true, true≢false}
+use Rattle.std.proofs.lemmas.Bool.{false≢true, true≢false, and_parts, and_from, not-true}
 use Rattle.std.specs.Prelude.{is_some}
 use Rattle.std.specs.List.{list_any}
+use Rattle.std.proofs.Math.Bool.{and-false}
 use Rattle.import_rounds.specs.Rounds.{has}
-use Rattle.text_words.proofs.KnownTests.{both-parts, both-hold}
 use Rattle.pide_base.specs.declared.part.Part.{Part}
 use Rattle.pide_base.specs.declared.part.PartKind.{PartKind}
 use Rattle.task_queue.specs.Ready.{IsReadyPart}
@@ -29,10 +29,6 @@ use Rattle.prover_core.proofs.HeldTasks.{wanted_held, there_wanted}
 use Rattle.prover_core.proofs.StuckMarks.{marks, none_marked}
 use Rattle.prover_core.proofs.SettledParts.{version_settled}
 
-not_false : (b : Bool) → not b ≡ true → b ≡ false
-not_false true is = absurd (cc)
-not_false false is = refl
-
 module _ {S : Type 0} (l : Lang S) (h : List Event) (t : Tables S) (k : IsKept l h t) (laws : Laws l h)
     (begun : (p : Part) → is_free (standing h p) ≡ false → has_inputs h (doc l h).homes p ≡ true)
     (v : Version) (n : ℕ) (behind : IsBehind (doc l h) v n) where
@@ -50,13 +46,9 @@ module _ {S : Type 0} (l : Lang S) (h : List Event) (t : Tables S) (k : IsKept l
   not_stuck : (p : Part) → is_wanted d p.exec ≡ true → has_inputs h d.homes p ≡ true → is_stuck h d p ≡ false
   not_stuck p wanted inputs =
       ap (λ b. not (is_finished h p) && (b || list_any (is_marked (marks h d.cancelled d.homes)) (waits_for d.homes p)))
-      (not_false (has d.cancelled p.exec) (both-parts (is_assigned d.live p.exec) (not (has d.cancelled p.exec)) wanted).1)
+      (not-true (has d.cancelled p.exec) (and_parts (is_assigned d.live p.exec) (not (has d.cancelled p.exec)) wanted).1)
       ∙ ap (λ b. not (is_finished h p) && b) (none_marked h d.cancelled d.homes (waits_for d.homes p) inputs)
-      ∙ none (not (is_finished h p))
-    where
-      none : (b : Bool) → (b && false) ≡ false
-      none true = refl
-      none false = refl
+      ∙ and-false (not (is_finished h p))
 
   free_undone : (s : Standing) → is_free s ≡ true → is_done s ≡ false
   free_undone Free is = refl
@@ -67,9 +59,9 @@ module _ {S : Type 0} (l : Lang S) (h : List Event) (t : Tables S) (k : IsKept l
   pub ready_left : (p : Part) → p.exec < n → IsReadyPart t.tasks p → IsLeft l h v p
   ready_left p below ready =
       let is = ready_sound l h d t.tasks (in_tip l h t k laws) p ready in
-      let a = both-parts (is_part l d.homes p) (is_wanted d p.exec && (is_free (standing h p) && has_inputs h d.homes p)) is in
-      let b = both-parts (is_wanted d p.exec) (is_free (standing h p) && has_inputs h d.homes p) a.1 in
-      let c = both-parts (is_free (standing h p)) (has_inputs h d.homes p) b.1 in
+      let a = and_parts (is_part l d.homes p) (is_wanted d p.exec && (is_free (standing h p) && has_inputs h d.homes p)) is in
+      let b = and_parts (is_wanted d p.exec) (is_free (standing h p) && has_inputs h d.homes p) a.1 in
+      let c = and_parts (is_free (standing h p)) (has_inputs h d.homes p) b.1 in
       let present = (ready_whole l h d t.tasks (in_tip l h t k laws) p is).0 in record {
         assigned = behind.still p.exec (present_assigned p.exec p.kind present) below;
         made = a.0;
@@ -110,10 +102,10 @@ module _ {S : Type 0} (l : Lang S) (h : List Event) (t : Tables S) (k : IsKept l
       where
         by : is_wanted d p.exec ≡ true → (s : Standing) → standing h p ≡ s → is_done s ≡ false → ⊥
         by wanted Free at un =
-            let ready : is_ready_in l h d p ≡ true = both-hold (is_part l d.homes p)
+            let ready : is_ready_in l h d p ≡ true = and_from (is_part l d.homes p)
             (is_wanted d p.exec && (is_free (standing h p) && has_inputs h d.homes p)) made
-            (both-hold (is_wanted d p.exec) (is_free (standing h p) && has_inputs h d.homes p) wanted
-            (both-hold (is_free (standing h p)) (has_inputs h d.homes p) (ap is_free at) inputs)) in
+            (and_from (is_wanted d p.exec) (is_free (standing h p) && has_inputs h d.homes p) wanted
+            (and_from (is_free (standing h p)) (has_inputs h d.homes p) (ap is_free at) inputs)) in
             omega (arith, no_ready p (ready_whole l h d t.tasks (in_tip l h t k laws) p ready).1, behind.above p.exec is)
         by wanted (Held who) at un =
             let holds = (laws.told who p).1 at in
@@ -124,7 +116,7 @@ module _ {S : Type 0} (l : Lang S) (h : List Event) (t : Tables S) (k : IsKept l
 
         go : (b : Bool) → has d.cancelled p.exec ≡ b → b ≡ true
         go true same = refl
-        go false same = absurd (by (both-hold (is_assigned d.live p.exec) (not (has d.cancelled p.exec)) (live p.exec is) (ap not same))
+        go false same = absurd (by (and_from (is_assigned d.live p.exec) (not (has d.cancelled p.exec)) (live p.exec is) (ap not same))
             (standing h p) refl open_)
 
     pub settled_so : is_settled l h d v ≡ true

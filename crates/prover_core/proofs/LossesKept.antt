@@ -3,6 +3,8 @@ use Rattle.std.proofs.Common.{◌≡◌, ℕ, ◌<◌, ◌≤◌, Bool, true, fa
 use Rattle.std.proofs.lemmas.Bool.{false≢true, lt-ltb, ltb-true}
 use Rattle.std.specs.Prelude.{◌==◌, nat_lt, find}
 use Rattle.std.specs.Option.{option_map}
+use Rattle.std.specs.Cmp.{first_so}
+use Rattle.std.proofs.Math.Bool.{or-true}
 use Rattle.import_rounds.specs.Rounds.{has}
 use Rattle.doc_versions.specs.declared.versions.Live.{Live}
 use Rattle.doc_versions.specs.Live.{version_of}
@@ -14,10 +16,6 @@ use Rattle.version_losses.specs.declared.losses.Loss.{Loss}
 use Rattle.version_losses.specs.Losses.{number_of, is_lost, IsLoss, AreLosses}
 use Rattle.prover_core.specs.Kept.{IsBehind}
 use Rattle.prover_core.proofs.UpdatedDoc.{pushed}
-
-both : (a b : Bool) → (a && b) ≡ true → a ≡ true
-both true b is = refl
-both false b is = absurd (false≢true is)
 
 -- each number is at most the next one
 bounded : (tip : Version) (top n : ℕ) (losses : List Loss) (live : List (Live Version)) → AreLosses tip top n losses live → n ≤ top
@@ -35,14 +33,10 @@ module _ (d : Doc) where
       → IsLoss d.tip n loss later one live → loss.next ≤ next_number d.homes → IsBehind d one.version loss.next
   own_behind n loss later one live is le = record {
     within = le;
-    above = λ e has_it. ltb-true e loss.next (both (nat_lt e loss.next) _ (sym (is.has_so e) ∙ has_it));
+    above = λ e has_it. ltb-true e loss.next (first_so (nat_lt e loss.next) _ (sym (is.has_so e) ∙ has_it));
     still = λ e in_tip lt. is.has_so e ∙ ap (λ b. b && (is_lost later e || assigns d.tip e)) (lt-ltb e loss.next lt)
-        ∙ ap (λ b. is_lost later e || b) in_tip ∙ or_true (is_lost later e);
+        ∙ ap (λ b. is_lost later e || b) in_tip ∙ or-true (is_lost later e);
   }
-    where
-      or_true : (b : Bool) → (b || true) ≡ true
-      or_true true = refl
-      or_true false = refl
 
   pub behind_of : (n : ℕ) (losses : List Loss) (live : List (Live Version)) → AreLosses d.tip (next_number d.homes) n losses live
       → (i : ℕ) (v : Version) → version_of live i ≡ Some v → IsThere losses i v
@@ -86,7 +80,7 @@ module _ (old new : Version) (top now : ℕ) (dropped : List ℕ) (id : ℕ) (le
       go true is = absurd (false≢true (sym off ∙ kept e is lt))
 
   dropped_old : (e : ℕ) → has dropped e ≡ true → assigns old e ≡ true
-  dropped_old e is = both (assigns old e) _ (sym (drops e) ∙ is)
+  dropped_old e is = first_so (assigns old e) _ (sym (drops e) ∙ is)
 
   dropped_off : (e : ℕ) → has dropped e ≡ true → assigns new e ≡ false
   dropped_off e is = go (assigns old e) (assigns new e) (sym (drops e) ∙ is)

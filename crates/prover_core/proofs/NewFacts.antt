@@ -11,6 +11,7 @@ use Rattle.exec_rules.specs.declared.version.Version.{Version}
 use Rattle.exec_rules.specs.Kept.{BlobList}
 use Rattle.exec_rules.specs.Assigning.{Update, rows_in, assignment}
 use Rattle.exec_rules.specs.Listed.{executions, print_list}
+use Rattle.exec_rules.proofs.KnownListed.{in_print}
 use Rattle.exec_assign.specs.Numbered.{new_in, with_numbers, AreBelow, IsHeld, AreHeld}
 use Rattle.language.specs.Lang.{Lang}
 use Rattle.core_rules.specs.declared.event.Event.{Event}
@@ -25,14 +26,6 @@ use Rattle.core_rules.specs.Placed.{RowOf}
 use Rattle.core_rules.proofs.KnownNumbers.{length_grown}
 use Rattle.prover_core.proofs.GivenNumbers.{numbers, has_number, new_there}
 use Rattle.prover_core.proofs.UpdatedDoc.{NewLaws}
-
-in_print : (o : Option ℕ) (e : ℕ) → has (print_list o) e ≡ true → o ≡ Some e
-in_print None e is = absurd (cc)
-in_print (Some q) e is = go (or_cases (e == q) false is)
-  where
-    go : ((e == q) ≡ true) ⊎ (false ≡ true) → Some q ≡ Some e
-    go (inl same) = ap (λ x. Some x) (sym (eqb-true e q same))
-    go (inr bad) = absurd (cc)
 
 in_print_list : (o : Option ℕ) (e : ℕ) → o ≡ Some e → has (print_list o) e ≡ true
 in_print_list o e is = ap (λ x. has (print_list x) e) is ∙ or_left (e == e) false (eq-eqb e e refl)

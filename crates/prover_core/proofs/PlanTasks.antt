@@ -1,6 +1,7 @@
 -- The tasks that a planned update leaves are those of the document with the new version.
 use Rattle.std.proofs.Common.{◌≡◌, ◌⊎◌, inl, inr, ℕ, suc, ◌<◌, ◌≤◌, Bool, true, false, cond, not, ◌&&◌, List, ◌∷◌, length, Option, Some, None, refl, ap, sym, subst, ◌∙◌}
 use Rattle.std.specs.Option.{option_map, option_map_or}
+use Rattle.std.proofs.Math.Bool.{and-false}
 use Rattle.import_rounds.specs.Rounds.{has}
 use Rattle.doc_nodes.specs.Imports.{NodeList}
 use Rattle.task_queue.specs.declared.task.Standing.{Standing as Task}
@@ -105,11 +106,7 @@ module _ {S : Type 0} (l : Lang S) (h : List Event) (t : Tables S) (k : IsKept l
 
     stays : (e : ℕ) → e ≤ length d.homes → assigns new e ≡ true → tasks2 e ≡ t.tasks e
     stays e le is = add e ∙ ap (λ o. put_task o (tasks1 e)) (fresh_none e le) ∙ drop e
-        ∙ ap (λ b. cond b None (t.tasks e)) (drops e ∙ ap (λ b. assigns d.tip e && not b) is ∙ never (assigns d.tip e))
-      where
-        never : (b : Bool) → (b && false) ≡ false
-        never true = refl
-        never false = refl
+        ∙ ap (λ b. cond b None (t.tasks e)) (drops e ∙ ap (λ b. assigns d.tip e && not b) is ∙ and-false (assigns d.tip e))
 
     new_task : (e : ℕ) (x : Home) → length d.homes < e → numbered now.homes e ≡ Some x
         → (s : Task) × (tasks3 e ≡ Some s) × IsTaskOf (standing more) new now.homes e (first_kind x.input) s

@@ -1,7 +1,7 @@
 -- The parts that are ready in the queue are those that are ready in the document.
 use Rattle.std.proofs.Common.{◌≡◌, ℕ, Bool, true, false, cond, not, ◌&&◌, List, length, Option, Some, None, refl, ap, sym, subst, ◌∙◌}
-use Rattle.text_words.proofs.KnownTests.{both-parts, both-hold}
 use Rattle.std.specs.Prelude.{◌==◌}
+use Rattle.std.proofs.lemmas.Bool.{and_parts, and_from, not-true}
 use Rattle.import_rounds.specs.Rounds.{has}
 use Rattle.pide_base.specs.declared.part.Part.{Part}
 use Rattle.pide_base.specs.declared.part.PartKind.{PartKind}
@@ -19,7 +19,7 @@ use Rattle.core_rules.specs.Ready.{is_part, is_wanted, has_inputs, is_ready_in, 
 use Rattle.prover_core.specs.Progress.{part, completed_in, next_of}
 use Rattle.prover_core.specs.Tasks.{present_kind, IsTaskOf, AreTasks, HasTask}
 use Rattle.prover_core.proofs.NextParts.{next_is_part, next_is_open, open_is_next, next_opens}
-use Rattle.prover_core.proofs.WaitedFor.{not_true, free_by, free_so, none_left, all_done, no_inputs, nothing_waits}
+use Rattle.prover_core.proofs.WaitedFor.{free_by, free_so, none_left, all_done, no_inputs, nothing_waits}
 
 module _ {S : Type 0} (l : Lang S) (h : List Event) (d : Doc) (all : ℕ → Option Task) where
   -- the table of tasks is that of the document, all that is wanted and unfinished is in the tip, and
@@ -37,7 +37,7 @@ module _ {S : Type 0} (l : Lang S) (h : List Event) (d : Doc) (all : ℕ → Opt
       where
         go : (a b : Bool) → assigns d.tip e ≡ a → has d.cancelled e ≡ b → cond (a && not b) (next_of l h d e) None ≡ Some k
             → (is_wanted d e ≡ true) × (next_of l h d e ≡ Some k)
-        go true false x y is = (both-hold (is_assigned d.live e) (not (has d.cancelled e)) (so.live e x) (ap not y), is)
+        go true false x y is = (and_from (is_assigned d.live e) (not (has d.cancelled e)) (so.live e x) (ap not y), is)
         go true true x y is = absurd (cc)
         go false b x y is = absurd (cc)
 
@@ -45,7 +45,7 @@ module _ {S : Type 0} (l : Lang S) (h : List Event) (d : Doc) (all : ℕ → Opt
     pub wanted_present : (e : ℕ) (k : PartKind) → is_wanted d e ≡ true → next_of l h d e ≡ Some k
         → present_kind l h d e ≡ Some k
     wanted_present e k want next = go (assigns d.tip e) (has d.cancelled e) (so.wanted e want (next_opens l h d e k next))
-        (not_true (has d.cancelled e) (both-parts (is_assigned d.live e) (not (has d.cancelled e)) want).1)
+        (not-true (has d.cancelled e) (and_parts (is_assigned d.live e) (not (has d.cancelled e)) want).1)
       where
         go : (a b : Bool) → a ≡ true → b ≡ false → cond (a && not b) (next_of l h d e) None ≡ Some k
         go true false x y = next
@@ -74,14 +74,14 @@ module _ {S : Type 0} (l : Lang S) (h : List Event) (d : Doc) (all : ℕ → Opt
         → is_ready_in l h d (part e k) ≡ true
     ready_by e k t present task ready =
         let want = present_wanted e k present in
-        let tests = both-parts (not t.held) (length t.inputs == 0) ready in
-        let free = free_by (standing h (part e k)) (sym task.held ∙ not_true t.held tests.0) (next_is_open l h d e k want.1) in
+        let tests = and_parts (not t.held) (length t.inputs == 0) ready in
+        let free = free_by (standing h (part e k)) (sym task.held ∙ not-true t.held tests.0) (next_is_open l h d e k want.1) in
         let inputs = none_left (λ f. is_finished h (evaluation f)) (waits_for d.homes (part e k))
         (λ f. sym (task.waits f) ∙ nothing_waits t.inputs tests.1 f) in
-        both-hold (is_part l d.homes (part e k)) (is_wanted d e && (is_free (standing h (part e k)) && has_inputs h d.homes (part e k)))
+        and_from (is_part l d.homes (part e k)) (is_wanted d e && (is_free (standing h (part e k)) && has_inputs h d.homes (part e k)))
         (next_is_part l h d e k want.1)
-        (both-hold (is_wanted d e) (is_free (standing h (part e k)) && has_inputs h d.homes (part e k)) want.0
-        (both-hold (is_free (standing h (part e k))) (has_inputs h d.homes (part e k)) free inputs))
+        (and_from (is_wanted d e) (is_free (standing h (part e k)) && has_inputs h d.homes (part e k)) want.0
+        (and_from (is_free (standing h (part e k))) (has_inputs h d.homes (part e k)) free inputs))
 
     -- what is ready in the queue
     pub ready_sound : (p : Part) → IsReadyPart all p → is_ready_in l h d p ≡ true
@@ -94,9 +94,9 @@ module _ {S : Type 0} (l : Lang S) (h : List Event) (d : Doc) (all : ℕ → Opt
     pub ready_whole : (p : Part) → is_ready_in l h d p ≡ true
         → (present_kind l h d p.exec ≡ Some p.kind) × IsReadyPart all p
     ready_whole p ready =
-        let a = both-parts (is_part l d.homes p) (is_wanted d p.exec && (is_free (standing h p) && has_inputs h d.homes p)) ready in
-        let b = both-parts (is_wanted d p.exec) (is_free (standing h p) && has_inputs h d.homes p) a.1 in
-        let c = both-parts (is_free (standing h p)) (has_inputs h d.homes p) b.1 in
+        let a = and_parts (is_part l d.homes p) (is_wanted d p.exec && (is_free (standing h p) && has_inputs h d.homes p)) ready in
+        let b = and_parts (is_wanted d p.exec) (is_free (standing h p) && has_inputs h d.homes p) a.1 in
+        let c = and_parts (is_free (standing h p)) (has_inputs h d.homes p) b.1 in
         let free = free_so (standing h p) c.0 in
         let next = open_is_next l h d p.exec p.kind a.0 free.1 (behind p.kind p.exec c.1) in
         let present = wanted_present p.exec p.kind b.0 next in
@@ -108,13 +108,13 @@ module _ {S : Type 0} (l : Lang S) (h : List Event) (d : Doc) (all : ℕ → Opt
             found.0,
             found.1,
             found.2.same_kind,
-            both-hold (not found.0.held) (length found.0.inputs == 0)
+            and_from (not found.0.held) (length found.0.inputs == 0)
                 (ap not (found.2.held ∙ free.0)) (no_inputs found.0.inputs none),
           ),
         )
       where
         behind : (k : PartKind) (e : ℕ) → has_inputs h d.homes (part e k) ≡ true → k ≡ kind.Fork → (completed_in h e).eval ≡ true
-        behind kind.Fork e inputs same = (both-parts (is_finished h (evaluation e)) true inputs).0
+        behind kind.Fork e inputs same = (and_parts (is_finished h (evaluation e)) true inputs).0
         behind kind.Eval e inputs same = absurd (cc)
         behind kind.Print e inputs same = absurd (cc)
 

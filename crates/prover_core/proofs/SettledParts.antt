@@ -1,10 +1,11 @@
 -- A version is settled where each of its unfinished parts that waits for nothing is cancelled.
 use Rattle.std.proofs.Common.{◌≡◌, ℕ, zero, suc, ◌<◌, Bool, true, false, not, ◌&&◌, ◌||◌, List, [], ◌∷◌, map, Some, refl, ap, sym, subst, ◌∙◌, arith}
-use Rattle.std.proofs.lemmas.Bool.{and_from, eq-eqb, or_left, or_right, true≢false}
+use Rattle.std.proofs.lemmas.Bool.{or_left, or_right, true≢false}
 use Rattle.std.specs.Prelude.{◌==◌}
 use Rattle.std.specs.Option.{option_map_or}
 use Rattle.std.specs.List.{list_any, list_all, AllByRecursion}
 use Rattle.import_rounds.specs.Rounds.{has}
+use Rattle.import_rounds.proofs.KnownHas.{all_passed}
 use Rattle.pide_base.specs.declared.part.Part.{Part}
 use Rattle.pide_base.specs.declared.part.PartKind.{PartKind}
 use Rattle.pide_base.specs.declared.part.PartKind.TheVariants as kind
@@ -24,12 +25,6 @@ use Rattle.prover_core.specs.Progress.{part}
 use Rattle.prover_core.proofs.KindsNext.{among_kinds}
 use Rattle.prover_core.proofs.PartKinds.{all_kinds, fork_evaluates, evaluation_among}
 use Rattle.prover_core.proofs.StuckMarks.{AllBelow, marks, marked_at}
-
-all_passed : (test : ℕ → Bool) (xs : List ℕ) → ((e : ℕ) → has xs e ≡ true → test e ≡ true) → list_all test xs ≡ true
-all_passed test [] all = refl
-all_passed test (x ∷ xs) all = and_from (test x) (list_all test xs)
-    (all x (or_left (x == x) (has xs x) (eq-eqb x x refl)))
-    (all_passed test xs (λ e is. all e (or_right (e == x) (has xs e) is)))
 
 module _ {S : Type 0} (l : Lang S) (h : List Event) (v : Version) (homes : (e : ℕ) → assigns v e ≡ true → HasHome l (doc l h) v e)
     (lost : (p : Part) → assigns v p.exec ≡ true → is_part l (doc l h).homes p ≡ true → is_finished h p ≡ false

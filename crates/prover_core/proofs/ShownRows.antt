@@ -1,29 +1,28 @@
 -- What is told of a node's results is what is shown of it, and what is pending in it.
-use Rattle.std.proofs.Common.{◌≡◌, ℕ, zero, suc, ◌≤◌, Bool, true, false, cond, not, ◌&&◌, List, [], ◌∷◌, ◌++◌, map, filter, length, Some, refl, ap, sym, ◌∙◌, arith}
-use Rattle.std.proofs.lemmas.Bool.{or_left, or_right, eq-eqb, ne_eqb}
+use Rattle.std.proofs.Common.{◌≡◌, ℕ, zero, suc, ◌≤◌, Bool, true, false, not, ◌&&◌, List, [], ◌∷◌, ◌++◌, map, filter, length, Some, refl, ap, sym, ◌∙◌}
+use Rattle.std.proofs.lemmas.Bool.{or_left, or_right, eq-eqb, and_parts}
 use Rattle.std.proofs.lemmas.List.Elements.{filter-append}
 use Rattle.std.specs.Prelude.{◌==◌, slice_get, flat_map}
 use Rattle.std.specs.List.{range_with_len}
 use Rattle.std.specs.List.Sorted.{IsStrictlyIncreasing}
+use Rattle.std.proofs.Math.Bool.{and-false, and-true}
 use Rattle.import_rounds.specs.Rounds.{has}
-use Rattle.text_words.proofs.KnownTests.{both-parts}
+use Rattle.import_rounds.proofs.KnownHas.{has_passing}
 use Rattle.doc_nodes.specs.declared.node.Entry.{Entry}
 use Rattle.exec_rules.specs.declared.row.Row.{Row}
 use Rattle.exec_rules.specs.Listed.{executions}
 use Rattle.language.specs.Lang.{Lang}
 use Rattle.core_rules.specs.declared.event.Event.{Event}
-use Rattle.core_rules.specs.Numbered.{numbered}
 use Rattle.core_rules.specs.Assigned.{is_assigned}
 use Rattle.core_rules.specs.Parts.{parts_of, reports_of}
 use Rattle.core_rules.specs.Standing.{is_open}
 use Rattle.core_rules.specs.Doc.{Doc, doc}
 use Rattle.core_rules.specs.Shown.{PartShown, shown_with, commands_parts}
-use Rattle.core_rules.proofs.KnownNumbers.{numbered_within}
+use Rattle.core_rules.proofs.KnownNumbers.{numbered_within, numbered_positive}
 use Rattle.prover_core.specs.Kept.{Tables, IsKept}
 use Rattle.exec_lists.specs.Parts.{parts_known, rows_known, is_unfinished}
 use Rattle.prover_core.specs.Results.{is_reported}
 use Rattle.prover_core.proofs.OpenRows.{row_known, done_closed}
-use Rattle.prover_core.proofs.UpdatedDoc.{has_filter}
 use Rattle.prover_core.proofs.RisenRange.{risen_range}
 use Rattle.prover_core.proofs.ShownParts.{execution_shown}
 
@@ -36,15 +35,6 @@ flat_alike f g [] same = refl
 flat_alike f g (x ∷ xs) same =
     ap (λ ys. ys ++ flat_map f xs) (same x (or_left (x == x) (has xs x) (eq-eqb x x refl)))
     ∙ ap (λ ys. g x ++ ys) (flat_alike f g xs (λ y is. same y (or_right (y == x) (has xs y) is)))
-
-from_one : {A : Type 0} (xs : List A) (n : ℕ) (x : A) → numbered xs n ≡ Some x → 1 ≤ n
-from_one xs zero x at = absurd (by xs at)
-  where
-    by : (ys : List _) → numbered ys zero ≡ Some x → ⊥
-    by [] is = absurd (cc)
-    by (y ∷ ys) is = by ys (sym (ap (λ b. cond b (Some y) (numbered ys zero))
-        (ne_eqb zero (suc (length ys)) (λ same. absurd (omega (arith, same))))) ∙ is)
-from_one xs (suc n) x at = omega arith
 
 module _ {S : Type 0} (l : Lang S) (h : List Event) (t : Tables S) (k : IsKept l h t) where
   abbrev d : Doc
@@ -90,23 +80,15 @@ module _ {S : Type 0} (l : Lang S) (h : List Event) (t : Tables S) (k : IsKept l
       → ((e : ℕ) → has kept e ≡ has (filter (λ n. is_unfinished (t.rows n)) xs) e)
       → kept ≡ filter (λ e. has xs e && is_open l h d.homes e) (range_with_len 1 (length d.homes))
   open_risen xs kept live rises same = risen_range (λ e. has xs e && is_open l h d.homes e) (length d.homes) kept rises
-      (λ e. same e ∙ has_filter (λ n. is_unfinished (t.rows n)) xs e ∙ by e (has xs e) refl) within
+      (λ e. same e ∙ has_passing (λ n. is_unfinished (t.rows n)) xs e ∙ by e (has xs e) refl) within
     where
       by : (e : ℕ) (b : Bool) → has xs e ≡ b → (is_unfinished (t.rows e) && has xs e) ≡ (has xs e && is_open l h d.homes e)
-      by e true is = ap (λ b. is_unfinished (t.rows e) && b) is ∙ swapped (is_unfinished (t.rows e))
+      by e true is = ap (λ b. is_unfinished (t.rows e) && b) is ∙ and-true (is_unfinished (t.rows e))
           ∙ unfinished_open e (live e is) ∙ sym (ap (λ b. b && is_open l h d.homes e) is)
-        where
-          swapped : (a : Bool) → (a && true) ≡ a
-          swapped true = refl
-          swapped false = refl
-      by e false is = ap (λ b. is_unfinished (t.rows e) && b) is ∙ none (is_unfinished (t.rows e))
+      by e false is = ap (λ b. is_unfinished (t.rows e) && b) is ∙ and-false (is_unfinished (t.rows e))
           ∙ sym (ap (λ b. b && is_open l h d.homes e) is)
-        where
-          none : (a : Bool) → (a && false) ≡ false
-          none true = refl
-          none false = refl
 
       within : (e : ℕ) → (has xs e && is_open l h d.homes e) ≡ true → (1 ≤ e) × (e ≤ length d.homes)
       within e is =
-          let x = k.known e (live e (both-parts (has xs e) (is_open l h d.homes e) is).0) in
-          (from_one d.homes e x.home x.homed, numbered_within d.homes e x.home x.homed)
+          let x = k.known e (live e (and_parts (has xs e) (is_open l h d.homes e) is).0) in
+          (numbered_positive d.homes e x.home x.homed, numbered_within d.homes e x.home x.homed)

@@ -1,11 +1,10 @@
 -- What is stuck in a settled version.
 use Rattle.std.proofs.Common.{◌≡◌, ℕ, Bool, true, false, cond, not, ◌&&◌, ◌||◌, List, filter, refl, ap, sym, ◌∙◌, [], ◌∷◌, length}
-use Rattle.std.proofs.lemmas.Bool.{eqb-true}
+use Rattle.std.proofs.lemmas.Bool.{eqb-true, and_parts}
 use Rattle.std.specs.Prelude.{◌==◌}
 use Rattle.std.specs.List.{list_any, list_all, range_with_len}
 use Rattle.std.specs.List.Sorted.{IsStrictlyIncreasing}
 use Rattle.import_rounds.specs.Rounds.{has}
-use Rattle.text_words.proofs.KnownTests.{both-parts}
 use Rattle.pide_base.specs.declared.part.Part.{Part}
 use Rattle.exec_rules.specs.declared.version.Version.{Version}
 use Rattle.language.specs.Lang.{Lang}
@@ -25,10 +24,10 @@ module _ {S : Type 0} (l : Lang S) (h : List Event) (t : Tables S) (k : IsKept l
     (settled : is_settled l h (doc l h) v ≡ true) where
   passed : (test : ℕ → Bool) (xs : List ℕ) (e : ℕ) → list_all test xs ≡ true → has xs e ≡ true → test e ≡ true
   passed test [] e all is = absurd (cc)
-  passed test (x ∷ xs) e all is = go (e == x) refl is (passed test xs e (both-parts (test x) (list_all test xs) all).1)
+  passed test (x ∷ xs) e all is = go (e == x) refl is (passed test xs e (and_parts (test x) (list_all test xs) all).1)
     where
       go : (b : Bool) → (e == x) ≡ b → (b || has xs e) ≡ true → (has xs e ≡ true → test e ≡ true) → test e ≡ true
-      go true same is rest = ap test (eqb-true e x same) ∙ (both-parts (test x) (list_all test xs) all).0
+      go true same is rest = ap test (eqb-true e x same) ∙ (and_parts (test x) (list_all test xs) all).0
       go false same is rest = rest is
 
   one_stuck : (a x : Bool) → (a || (not a && x)) ≡ true → not a ≡ (not a && x)
@@ -39,7 +38,7 @@ module _ {S : Type 0} (l : Lang S) (h : List Event) (t : Tables S) (k : IsKept l
       → list_any (λ p. not (is_finished h p)) ps ≡ list_any (is_stuck h (doc l h)) ps
   open_stuck [] all = refl
   open_stuck (p ∷ ps) all =
-      let parts = both-parts (is_finished h p || is_stuck h (doc l h) p)
+      let parts = and_parts (is_finished h p || is_stuck h (doc l h) p)
       (list_all (λ q. is_finished h q || is_stuck h (doc l h) q) ps) all in
       ap (λ b. b || list_any (λ q. not (is_finished h q)) ps) (one_stuck (is_finished h p) _ parts.0)
       ∙ ap (λ b. is_stuck h (doc l h) p || b) (open_stuck ps parts.1)

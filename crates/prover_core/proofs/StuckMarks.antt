@@ -1,11 +1,10 @@
 -- What is stuck, by what it takes up.
 use Rattle.std.proofs.Common.{◌≡◌, ℕ, suc, ◌<◌, ◌≤◌, Bool, true, false, not, cond, ◌&&◌, ◌||◌, List, [], ◌∷◌, length, Some, refl, ap, sym, subst, ◌∙◌, arith}
-use Rattle.std.proofs.lemmas.Bool.{eqb-true}
+use Rattle.std.proofs.lemmas.Bool.{eqb-true, and_parts, not-true}
 use Rattle.std.specs.Prelude.{◌==◌}
 use Rattle.std.specs.Option.{option_map_or}
 use Rattle.std.specs.List.{list_any, list_all, AllByRecursion}
 use Rattle.import_rounds.specs.Rounds.{has}
-use Rattle.text_words.proofs.KnownTests.{both-parts}
 use Rattle.exec_rules.specs.declared.home.Home.{Home}
 use Rattle.core_rules.specs.declared.event.Event.{Event}
 use Rattle.core_rules.specs.Numbered.{numbered}
@@ -79,10 +78,7 @@ module _ (h : List Event) (cancelled : List ℕ) where
   pub marked_unfinished : (hs : List Home) (e : ℕ) → is_marked (marks hs) e ≡ true → is_finished h (evaluation e) ≡ false
   marked_unfinished [] e is = absurd (cc)
   marked_unfinished (x ∷ hs) e is = go (e == suc (length (marks hs))) refl is (marked_unfinished hs e)
-    where
-      not_true : (b : Bool) → not b ≡ true → b ≡ false
-      not_true true is = absurd (cc)
-      not_true false is = refl
+   
 
       go : (b : Bool) → (e == suc (length (marks hs))) ≡ b
           → option_map_or (λ x. x) (cond b (Some (stuck_by (marks hs) (suc (length (marks hs))) x)) (numbered (marks hs) e)) false ≡ true
@@ -90,7 +86,7 @@ module _ (h : List Event) (cancelled : List ℕ) where
       go true same is rest =
           let number = eqb-true e (suc (length (marks hs))) same in
           ap (λ n. is_finished h (evaluation n)) number
-          ∙ not_true (is_finished h (evaluation (suc (length (marks hs))))) (both-parts (not (is_finished h (evaluation (suc (length (marks hs))))))
+          ∙ not-true (is_finished h (evaluation (suc (length (marks hs))))) (and_parts (not (is_finished h (evaluation (suc (length (marks hs))))))
           (has cancelled (suc (length (marks hs))) || list_any (is_marked (marks hs)) (sources_of x.input)) is).0
       go false same is rest = rest is
 
@@ -101,7 +97,7 @@ module _ (h : List Event) (cancelled : List ℕ) where
   none_marked hs (e ∷ es) all = go (is_marked (marks hs) e) refl (none_marked hs es parts.1)
     where
       parts : (is_finished h (evaluation e) ≡ true) × (list_all (λ x. is_finished h (evaluation x)) es ≡ true)
-      parts = both-parts (is_finished h (evaluation e)) (list_all (λ x. is_finished h (evaluation x)) es) all
+      parts = and_parts (is_finished h (evaluation e)) (list_all (λ x. is_finished h (evaluation x)) es) all
 
       go : (b : Bool) → is_marked (marks hs) e ≡ b → list_any (is_marked (marks hs)) es ≡ false
           → (b || list_any (is_marked (marks hs)) es) ≡ false

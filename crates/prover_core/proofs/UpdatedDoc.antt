@@ -1,8 +1,8 @@
 -- What an update leaves of executions, and what it makes of them.
-use Rattle.std.proofs.Common.{◌≡◌, ℕ, ◌<◌, ◌≤◌, Bool, true, false, cond, not, ◌&&◌, ◌||◌, List, [], ◌∷◌, ◌++◌, length, filter, refl, ap, sym, ◌∙◌, arith}
+use Rattle.std.proofs.Common.{◌≡◌, ℕ, ◌<◌, ◌≤◌, Bool, true, false, not, ◌&&◌, ◌||◌, List, [], ◌∷◌, ◌++◌, length, filter, refl, ap, sym, ◌∙◌, arith}
 use mathlib.Core.Bool.{or_assoc}
-use Rattle.std.proofs.lemmas.Bool.{eqb-true, false≢true}
-use Rattle.std.specs.Prelude.{◌==◌}
+use Rattle.std.proofs.lemmas.Bool.{false≢true}
+use Rattle.std.proofs.Math.Bool.{or-false}
 use Rattle.import_rounds.specs.Rounds.{has}
 use Rattle.pide_base.specs.declared.part.Part.{Part}
 use Rattle.doc_nodes.specs.Imports.{NodeList}
@@ -21,41 +21,12 @@ use Rattle.core_rules.specs.Doc.{Doc, doc, assignment_of, version_of}
 use Rattle.core_rules.specs.Sources.{HasHome}
 use Rattle.pide_base.specs.declared.part.PartKind.TheVariants as kind
 use Rattle.prover_core.specs.Progress.{Completed, part, completed_in}
-use Rattle.import_rounds.proofs.KnownRounds.{has_both}
+use Rattle.import_rounds.proofs.KnownHas.{has_both, has_passing}
 use Rattle.core_rules.proofs.KnownStays.{number_grown, setting_grown}
-
--- what passes a test is there and passes it
-pub has_filter : (test : ℕ → Bool) (xs : List ℕ) (e : ℕ) → has (filter test xs) e ≡ (test e && has xs e)
-has_filter test [] e = no_more (test e)
-  where
-    no_more : (b : Bool) → false ≡ (b && false)
-    no_more true = refl
-    no_more false = refl
-has_filter test (x ∷ xs) e = go (test x) refl (e == x) refl (has_filter test xs e)
-  where
-    both : (a : Bool) → a ≡ true → true ≡ (a && true)
-    both true is = refl
-    both false is = absurd (cc)
-
-    none : (a b c : Bool) → a ≡ false → c ≡ (a && b) → c ≡ (a && true)
-    none false b c is so = so
-    none true b c is so = absurd (cc)
-
-    go : (a : Bool) → test x ≡ a → (b : Bool) → (e == x) ≡ b → has (filter test xs) e ≡ (test e && has xs e)
-        → has (cond a (x ∷ filter test xs) (filter test xs)) e ≡ (test e && (b || has xs e))
-    go true is true same rest = ap (λ b. b || has (filter test xs) e) same
-        ∙ both (test e) (ap test (eqb-true e x same) ∙ is)
-    go true is false same rest = ap (λ b. b || has (filter test xs) e) same ∙ rest
-    go false is true same rest = none (test e) (has xs e) (has (filter test xs) e) (ap test (eqb-true e x same) ∙ is) rest
-    go false is false same rest = rest
 
 pub pushed : (live : List (Live Version)) (one : Live Version) (e : ℕ)
     → is_assigned (live ++ one ∷ []) e ≡ (is_assigned live e || assigns one.version e)
-pushed [] one e = or_none (assigns one.version e)
-  where
-    or_none : (b : Bool) → (b || false) ≡ b
-    or_none true = refl
-    or_none false = refl
+pushed [] one e = or-false (assigns one.version e)
 pushed (x ∷ live) one e = ap (λ b. assigns x.version e || b) (pushed live one e)
     ∙ sym (or_assoc (assigns x.version e) (is_assigned live e) (assigns one.version e))
 
@@ -115,7 +86,7 @@ module _ {S : Type 0} (l : Lang S) (h : List Event) (id : ℕ) (nodes : NodeList
     pub cancelled_now : (e : ℕ) → has now.cancelled e
         ≡ (((is_open l h d.homes e && not (assigns new e)) && assigns d.tip e) || has d.cancelled e)
     cancelled_now e = has_both (filter (λ x. is_open l h d.homes x && not (assigns new x)) (executions_of d.tip)) d.cancelled e
-        ∙ ap (λ b. b || has d.cancelled e) (has_filter (λ x. is_open l h d.homes x && not (assigns new x)) (executions_of d.tip) e)
+        ∙ ap (λ b. b || has d.cancelled e) (has_passing (λ x. is_open l h d.homes x && not (assigns new x)) (executions_of d.tip) e)
 
     pub not_cancelled : (e : ℕ) → assigns new e ≡ true → has now.cancelled e ≡ false
     not_cancelled e is = cancelled_now e

@@ -1,7 +1,6 @@
 -- How far executions are after an update, and what they go by.
 use Rattle.std.proofs.Common.{◌≡◌, ◌⊎◌, inl, inr, ℕ, ◌<◌, ◌≤◌, Bool, true, false, cond, not, ◌&&◌, ◌||◌, List, ◌∷◌, length, Option, Some, None, refl, ap, sym, ◌∙◌, arith}
-use Rattle.std.proofs.lemmas.Bool.{cases_lt}
-use Rattle.text_words.proofs.KnownTests.{both-parts}
+use Rattle.std.proofs.lemmas.Bool.{cases_lt, and_parts}
 use Rattle.import_rounds.specs.Rounds.{has}
 use Rattle.doc_nodes.specs.Imports.{NodeList}
 use Rattle.exec_table.specs.declared.execution.Execution.{Execution}
@@ -96,7 +95,7 @@ module _ {S : Type 0} (l : Lang S) (h : List Event) (t : Tables S) (k : IsKept l
       ∙ sym (row_moved e le)
     where
       parts : (assigns d.tip e ≡ true) × (not (assigns new e) ≡ true)
-      parts = both-parts (assigns d.tip e) (not (assigns new e)) drops
+      parts = and_parts (assigns d.tip e) (not (assigns new e)) drops
 
       live : is_assigned d.live e ≡ true
       live = tip_live e parts.0

@@ -1,17 +1,12 @@
 -- What is free, and what waits for nothing.
 use Rattle.std.proofs.Common.{◌≡◌, ℕ, Bool, true, false, not, ◌&&◌, ◌||◌, List, [], ◌∷◌, length, refl, ap, sym, ◌∙◌, arith}
-use Rattle.std.proofs.lemmas.Bool.{false≢true, eqb-true, eq-eqb, or_left}
-use Rattle.text_words.proofs.KnownTests.{both-parts, both-hold}
+use Rattle.std.proofs.lemmas.Bool.{false≢true, eqb-true, eq-eqb, or_left, and_parts, and_from}
 use Rattle.std.specs.Prelude.{◌==◌}
 use Rattle.std.specs.List.{list_all}
 use Rattle.import_rounds.specs.Rounds.{has}
 use Rattle.task_queue.specs.Tasks.{has as has_input}
 use Rattle.core_rules.specs.Standing.{Standing, Free, Held, Done, is_done, is_free}
 use Rattle.prover_core.specs.Tasks.{is_held}
-
-pub not_true : (b : Bool) → not b ≡ true → b ≡ false
-not_true true x = absurd (cc)
-not_true false x = refl
 
 -- a part that nobody holds and that is unfinished is free
 pub free_by : (s : Standing) → is_held s ≡ false → is_done s ≡ false → is_free s ≡ true
@@ -27,7 +22,7 @@ free_so Done x = absurd (cc)
 -- all that is waited for is finished, where nothing of it is left
 pub none_left : (done : ℕ → Bool) (es : List ℕ) → ((f : ℕ) → (has es f && not (done f)) ≡ false) → list_all done es ≡ true
 none_left done [] left = refl
-none_left done (e ∷ es) left = both-hold (done e) (list_all done es) (here (e == e) (eq-eqb e e refl) (has es e) (done e) (left e))
+none_left done (e ∷ es) left = and_from (done e) (list_all done es) (here (e == e) (eq-eqb e e refl) (has es e) (done e) (left e))
     (none_left done es (λ f. there (f == e) (has es f) (done f) (left f)))
   where
     here : (a : Bool) → a ≡ true → (b c : Bool) → ((a || b) && not c) ≡ false → c ≡ true
@@ -43,7 +38,7 @@ none_left done (e ∷ es) left = both-hold (done e) (list_all done es) (here (e 
 -- nothing of it is left, where all is finished
 pub all_done : (done : ℕ → Bool) (es : List ℕ) → list_all done es ≡ true → (f : ℕ) → (has es f && not (done f)) ≡ false
 all_done done [] all f = refl
-all_done done (e ∷ es) all f = go (f == e) refl (both-parts (done e) (list_all done es) all)
+all_done done (e ∷ es) all f = go (f == e) refl (and_parts (done e) (list_all done es) all)
     (λ rest. all_done done es rest f)
   where
     no_left : (a b : Bool) → b ≡ true → ((true || a) && not b) ≡ false

@@ -1,5 +1,6 @@
 -- Each reply is of one kind, and its word tells which.
-use Rattle.std.proofs.Common.{◌≡◌, ◌≢◌, ℕ, Bool, true, false, if◌then◌else◌, bytes_eq, find, List, [], ◌∷◌, Option, Some, None, refl, sym, ap, subst, ◌∙◌}
+use Rattle.std.proofs.Common.{◌≡◌, ◌≢◌, ℕ, bytes_eq, List, [], ◌∷◌, Option, Some, None, refl, sym, ap, subst, ◌∙◌}
+use Rattle.text_words.proofs.KnownLists.{found_passes}
 use Rattle.data_shapes.proofs.KnownTrees.{same_bytes}
 use Rattle.reply_writing.specs.declared.told.Told.{Told}
 use Rattle.reply_writing.specs.declared.told.Told.TheVariants as tells
@@ -90,14 +91,6 @@ named Reported = refl
 named Dropped = refl
 named Built = refl
 named Total = refl
-
--- what is found passes the test
-pub found_passes : {A : Type 0} (test : A → Bool) (xs : List A) (x : A) → find test xs ≡ Some x → test x ≡ true
-found_passes test [] x e = absurd (cc)
-found_passes {A = A} test (y ∷ ys) x e = go (test y) refl e (found_passes test ys x) where
-  go : (b : Bool) → test y ≡ b → (if b then Some y else find test ys) ≡ Some x → (find test ys ≡ Some x → test x ≡ true) → test x ≡ true
-  go true t h later = let same : y ≡ x = cc in ap test (sym same) ∙ t
-  go false t h later = later h
 
 pub word_of : (name : List ℕ) (kind : ReplyKind) → kind_named name ≡ Some kind → word kind ≡ name
 word_of name kind e = same_bytes (word kind) name (found_passes (λ k. bytes_eq (word k) name) kinds kind e)

@@ -2,9 +2,8 @@
 use Rattle.std.proofs.Common.{◌≡◌, ℕ, ◌+◌, ◌<◌, ◌%◌, Bool, true, false, List, [], ◌∷◌, decimal, ap, ◌∙◌, arith}
 use Rattle.std.specs.List.{list_all}
 use Rattle.std.proofs.ByRecursion.{All-append}
-use Rattle.std.proofs.lemmas.Bool.{ne_eqb, both_ways}
+use Rattle.std.proofs.lemmas.Bool.{ne_eqb, both_ways, and_parts}
 use Rattle.std.proofs.lemmas.Fmt.{decimal_by_steps, decimal_injective}
-use Rattle.text_words.proofs.KnownTests.{both-parts}
 use Rattle.xml_tree.specs.Normal.{Lacks}
 use Rattle.pide_base.specs.Ids.{IsId}
 use Rattle.reply_reading.specs.Fits.{IsWide}
@@ -31,5 +30,5 @@ ids_are_words = record {
 pub passing_lacks : (p : ℕ → Bool) (c : ℕ) → p c ≡ false → (bs : List ℕ) → list_all p bs ≡ true → Lacks c bs
 passing_lacks p c none [] h = tt
 passing_lacks p c none (b ∷ bs) h =
-    let parts = both-parts (p b) (list_all p bs) h in
+    let parts = and_parts (p b) (list_all p bs) h in
     (ne_eqb b c (λ e. both_ways (p b) (ap p e ∙ none) parts.0), passing_lacks p c none bs parts.1)

@@ -1,6 +1,7 @@
 -- What is left of a tag, step by step.
 use Rattle.std.proofs.Common.{◌≡◌, ◌≢◌, ℕ, bytes_eq, List, [], ◌∷◌, ◌++◌, codes, decimal, Some, refl, ap, ◌∙◌, append_assoc}
 use Rattle.std.specs.List.{AllByRecursion}
+use Rattle.text_words.proofs.KnownLists.{found_passes}
 use Rattle.xml_tree.specs.Normal.{Lacks}
 use Rattle.data_shapes.proofs.KnownTrees.{same_bytes}
 use Rattle.report_markup.specs.declared.kind.ReportKind.{ReportKind}
@@ -10,7 +11,6 @@ use Rattle.reply_reading.specs.declared.tag.Tag.{Tag}
 use Rattle.reply_reading.specs.Fits.{IsWide, FitsProperty}
 use Rattle.reply_reading.specs.Marks.{Begins}
 use Rattle.reply_reading.specs.Tags.{report_kinds, report_kind_named, property_bytes, properties_bytes, tag_bytes, FitsTag}
-use Rattle.reply_reading.proofs.Contents.{found_passes}
 use Rattle.reply_reading.proofs.Cuts.{one_cut}
 use Rattle.reply_reading.proofs.KindWords.{kind_is_plain}
 use Rattle.reply_reading.proofs.Tags.{property_is_plain, properties_begin, first_property, one_offset}

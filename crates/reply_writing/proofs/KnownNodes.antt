@@ -1,5 +1,5 @@
 -- Nodes, pairs and lists in YXML.
-use Rattle.std.proofs.Common.{◌≡◌, ℕ, List, [], ◌∷◌, ◌++◌, decimal, Result, Ok, Err, OnOk, is_ok, if◌then◌else◌, refl, sym, ap, ◌∙◌, append_assoc}
+use Rattle.std.proofs.Common.{◌≡◌, ℕ, List, [], ◌∷◌, ◌++◌, decimal, refl, sym, ap, ◌∙◌, append_assoc}
 use Rattle.std.specs.Prelude.{pos}
 use Rattle.std.specs.Fmt.{signed_decimal}
 use Rattle.std.proofs.lemmas.Grind.{flat_map-append}
@@ -71,9 +71,3 @@ named_pieces old name second =
     regroup_named old begin name end (yxml second)
     ∙ ap (λ n. old ++ (begin ++ ((begin ++ (n ++ (end ++ (begin ++ (yxml second ++ end))))) ++ end))) (sym (string_yxml name))
     ∙ ap (λ bs. old ++ bs) (sym (pair_node (string_body name) second))
-
--- what a last piece leaves, where it was added
-pub ends_with : {T E : Type 0} (r : Result T E) (new old piece all : List ℕ)
-    → new ≡ (if is_ok r then old ++ piece else old) → old ++ piece ≡ all → OnOk r (new ≡ all)
-ends_with (Ok x) new old piece all e f = e ∙ f
-ends_with (Err x) new old piece all e f = tt

@@ -1,6 +1,7 @@
+pub mod KnownPieces
 pub mod KnownOrders
 mod Exact
-mod Numbers
+pub mod KnownNumbers
 mod Ordered
 mod Sorts
 mod Words

@@ -1,5 +1,5 @@
 -- What is written of a report is its element's YXML, and the element is a normal body.
-use Rattle.std.proofs.Common.{◌≡◌, ℕ, ◌+◌, List, [], ◌∷◌, ◌++◌, map, refl, sym, subst, ap, ◌∙◌, append_assoc, arith, codes, decimal, Result, Ok, Err, OnOk, is_ok, if◌then◌else◌}
+use Rattle.std.proofs.Common.{◌≡◌, ℕ, ◌+◌, List, [], ◌∷◌, ◌++◌, map, refl, sym, subst, ap, ◌∙◌, append_assoc, arith, codes, decimal, Result, Ok, Err, OnOk}
 use Rattle.std.specs.List.{flat_map, AllByRecursion}
 use Rattle.std.proofs.lemmas.List.{append-nil}
 use Rattle.xml_tree.specs.declared.tree.Tree.TheVariants.{Text, rolls-Elem, rolls-Text}
@@ -95,9 +95,3 @@ normal r plain fit =
 pub on_ok : {T E P : Type 0} (r : Result T E) → P → OnOk r P
 on_ok (Ok x) p = p
 on_ok (Err e) p = tt
-
--- what a last piece leaves, where it was added
-pub last_piece : {T E : Type 0} (r : Result T E) (new old piece all : List ℕ)
-    → new ≡ (if is_ok r then old ++ piece else old) → old ++ piece ≡ all → OnOk r (new ≡ all)
-last_piece (Ok x) new old piece all e f = e ∙ f
-last_piece (Err x) new old piece all e f = tt

@@ -2,6 +2,7 @@
 use Rattle.std.proofs.Common.{◌≡◌, ◌∷◌, [], ◌++◌, ◌+◌, ◌<◌, ◌==◌, false, true, Bool, List, ℕ, Option, None, Some, is_some, sym, ap, ◌∙◌, subst, arith, reverse, refl, append-nil}
 use Rattle.std.specs.Prelude.{find}
 use Rattle.std.specs.Io.KnownBytes.{Appends}
+use Rattle.std.proofs.KnownBytes.{Keeps-refl}
 use Rattle.pide_base.specs.Moves.{AppendsFront}
 use Rattle.pide_base.specs.declared.part.Part.{Part}
 use Rattle.session_core.specs.declared.entry.Entry.{Entry}
@@ -21,7 +22,7 @@ use Rattle.byte_message.specs.Stream.{plain_spelling}
 use Rattle.session_core.specs.Work.{unfinished, worked}
 use Rattle.session_core.proofs.Answered.{live-is}
 use Rattle.session_core.proofs.FirstVersions.{settled-of}
-use Rattle.session_core.proofs.Taking.{keeps, recorded}
+use Rattle.session_core.proofs.Taking.{recorded}
 use Rattle.session_core.proofs.Working.{fewer-left, kept-worked, next-ready, nothing-ready}
 
 -- the live version is settled when all five parts are finished
@@ -39,7 +40,7 @@ settled-all h (Some w) k ended kept all id v found =
 -- nothing is ready
 pub nothing-so : (h : List Entry) (live : Option Version) (k : ℕ) (ended : Bool) (held : Option (List ℕ)) → IsKept h live k ended → (is_some live ≡ true → k ≡ 5)
     → WorkedSo h h held held done.Nothing
-nothing-so h live k ended held kept all = (refl, keeps held, nothing-ready h live k ended kept all, settled-all h live k ended kept all)
+nothing-so h live k ended held kept all = (refl, Keeps-refl held, nothing-ready h live k ended kept all, settled-all h live k ended kept all)
 
 abbrev pub found_in : List Assigned → ℕ → Option Assigned
 found_in commands execution = find (λ a. a.execution == execution) commands

@@ -3,6 +3,7 @@ use Rattle.std.proofs.Common.{◌≡◌, ◌≤◌, ◌&&◌, ℕ, Bool, true, f
 use Rattle.std.proofs.lemmas.Grind.{common_steps}
 use Rattle.std.specs.Prelude.{nat_le, bytes_eq}
 use Rattle.std.specs.Cmp.Lexicographic.{pointwise}
+use Rattle.std.specs.Cmp.{first_so, second_so}
 use Rattle.pide_base.specs.NodeName.{is_node_name}
 use Rattle.text_words.specs.Identifier.{is_identifier}
 use Rattle.session_core.specs.declared.editor_message.EditorMessage.{EditorMessage}
@@ -12,34 +13,26 @@ use Rattle.session_core.specs.Answers.{BringsShort}
 use Rattle.session_core.specs.FirstText.{IsShort, is_name, is_atom, is_first_text}
 use Rattle.session_core.specs.Reading.{asked, candidate, chunks_of, fitting, is_fit, is_id, written_as}
 
-left : (a b : Bool) → (a && b) ≡ true → a ≡ true
-left true b h = refl
-left false b h = h
-
-right : (a b : Bool) → (a && b) ≡ true → b ≡ true
-right true b h = h
-right false b h = absurd (let none : ⊥ = cc in none)
-
 short-name : (name : List ℕ) → is_node_name name ≡ true → length name ≤ 64
-short-name name h = let small : nat_le (length name) 64 ≡ true = right (is_identifier name) _ h in grind (arith, common_steps)
+short-name name h = let small : nat_le (length name) 64 ≡ true = second_so (is_identifier name) _ h in grind (arith, common_steps)
 
 short-text : (t : FirstText) → is_first_text t ≡ true → IsShort t
 short-text t h =
-    let named = left (is_name t.node && is_name t.lemma && is_name t.hypothesis) (is_atom t.atom) h in
-    let atom = right (is_name t.node && is_name t.lemma && is_name t.hypothesis) (is_atom t.atom) h in
-    let stated = left (is_name t.node && is_name t.lemma) (is_name t.hypothesis) named in
-    let hypothesis = right (is_name t.node && is_name t.lemma) (is_name t.hypothesis) named in
-    let node = left (is_name t.node) (is_name t.lemma) stated in
-    let goal = right (is_name t.node) (is_name t.lemma) stated in
+    let named = first_so (is_name t.node && is_name t.lemma && is_name t.hypothesis) (is_atom t.atom) h in
+    let atom = second_so (is_name t.node && is_name t.lemma && is_name t.hypothesis) (is_atom t.atom) h in
+    let stated = first_so (is_name t.node && is_name t.lemma) (is_name t.hypothesis) named in
+    let hypothesis = second_so (is_name t.node && is_name t.lemma) (is_name t.hypothesis) named in
+    let node = first_so (is_name t.node) (is_name t.lemma) stated in
+    let goal = second_so (is_name t.node) (is_name t.lemma) stated in
     record {
-      node = short-name t.node (left (is_node_name t.node) _ node);
-      lemma = short-name t.lemma (left (is_node_name t.lemma) _ goal);
-      atom = short-name t.atom (left (is_node_name t.atom) _ atom);
-      hypothesis = short-name t.hypothesis (left (is_node_name t.hypothesis) _ hypothesis);
+      node = short-name t.node (first_so (is_node_name t.node) _ node);
+      lemma = short-name t.lemma (first_so (is_node_name t.lemma) _ goal);
+      atom = short-name t.atom (first_so (is_node_name t.atom) _ atom);
+      hypothesis = short-name t.hypothesis (first_so (is_node_name t.hypothesis) _ hypothesis);
     }
 
 fit-short : (m : EditorMessage) → is_fit m ≡ true → BringsShort (Some m)
-fit-short (asks.Update id text) h = short-text text (right (is_id id) _ h)
+fit-short (asks.Update id text) h = short-text text (second_so (is_id id) _ h)
 fit-short (asks.Settle id) h = tt
 fit-short (asks.Snapshot id name) h = tt
 

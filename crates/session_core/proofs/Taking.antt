@@ -1,8 +1,8 @@
 -- A message that a session takes.
-use Rattle.std.proofs.Common.{◌≡◌, ◌∷◌, [], ◌++◌, false, Bool, List, ℕ, Option, None, Some, IfSome, sym, ap, ◌∙◌, subst, reverse, refl}
+use Rattle.std.proofs.Common.{◌≡◌, ◌∷◌, [], ◌++◌, false, Bool, List, ℕ, Option, Some, IfSome, sym, ap, ◌∙◌, subst, reverse, refl}
 use Rattle.std.proofs.lemmas.List.{reverse-append}
 use Rattle.std.specs.Option.{option_to_list}
-use Rattle.std.specs.Io.KnownBytes.{Keeps}
+use Rattle.std.proofs.KnownBytes.{Keeps-refl}
 use Rattle.pide_base.specs.declared.part.Part.{Part}
 use Rattle.session_core.specs.declared.answer.Answer.TheVariants as answer
 use Rattle.session_core.specs.declared.editor_message.EditorMessage.{EditorMessage}
@@ -53,10 +53,6 @@ taken-so taken.Replied h h' held held' message bytes grown made written = (grown
 taken-so (taken.Waits back) h h' held held' message bytes grown made written = absurd written
 taken-so taken.WriteFault h h' held held' message bytes grown made written = (grown, subst (λ (b : List ℕ). WrittenSo taken.WriteFault held held' b) made written)
 
-pub keeps : (held : Option (List ℕ)) → Keeps held held
-keeps None = tt
-keeps (Some xs) = refl
-
 -- the message waits
 pub waits-so : (h : List Entry) (live : Option Version) (k : ℕ) (ended : Bool) (held : Option (List ℕ)) (message : List (List ℕ)) (m : Option EditorMessage)
     → IsKept h live k ended → m ≡ asked message → AnswersSo (option_to_list live) (is_done k) m answer.Waits → TakenSo h h held held message (taken.Waits message)
@@ -65,4 +61,4 @@ waits-so h live k ended held message m kept read waits =
     let found : awaited h message ≡ Some waits.0 =
     ap (λ (vs : List Version). awaited_among vs (asked message)) kept.versions_are ∙ ap (awaited_among (option_to_list live)) (sym read) ∙ waits.1 in
     let open_yet : is_settled h waits.0 ≡ false = ap (λ (f : Part → Bool). are_all_finished f waits.0) finished ∙ waits.2 in
-    (refl, refl, keeps held, (waits.0, found, open_yet))
+    (refl, refl, Keeps-refl held, (waits.0, found, open_yet))

@@ -1,7 +1,6 @@
 mod RisingNumbers
 mod AgedVersions
 mod RemovedVersions
-mod OnceEach
 mod LiveTexts
 mod ScratchRuns
 mod LyingReports
@@ -11,4 +10,3 @@ mod ShownParts
 mod SourcesTold
 mod ToldLists
 mod ToldMessages
-mod EditSteps

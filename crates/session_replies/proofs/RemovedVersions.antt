@@ -5,6 +5,7 @@ use Rattle.std.proofs.lemmas.Bool.Decides.{nat_tests}
 use Rattle.std.specs.Prelude.{◌==◌, is_some}
 use Rattle.std.specs.Option.{option_map}
 use Rattle.import_rounds.specs.Rounds.{has}
+use Rattle.import_rounds.proofs.KnownHas.{has_passing}
 use Rattle.doc_versions.specs.declared.versions.Live.{Live}
 use Rattle.doc_versions.specs.declared.versions.Removing.TheVariants as answer
 use Rattle.doc_versions.specs.Live.{is_live}
@@ -52,31 +53,6 @@ live_has (one ∷ more) id is = go (one.id == id) refl is (live_has more id)
         or_true true is = refl
         or_true false is = is
 
--- what is there and passes a test
-has_filter : (test : ℕ → Bool) (xs : List ℕ) (e : ℕ) → has (filter test xs) e ≡ (test e && has xs e)
-has_filter test [] e = no_more (test e)
-  where
-    no_more : (b : Bool) → false ≡ (b && false)
-    no_more true = refl
-    no_more false = refl
-has_filter test (x ∷ xs) e = go (test x) refl (e == x) refl (has_filter test xs e)
-  where
-    both : (a : Bool) → a ≡ true → true ≡ (a && true)
-    both true is = refl
-    both false is = absurd (cc)
-
-    none : (a b c : Bool) → a ≡ false → c ≡ (a && b) → c ≡ (a && true)
-    none false b c is so = so
-    none true b c is so = absurd (cc)
-
-    go : (a : Bool) → test x ≡ a → (b : Bool) → (e == x) ≡ b → has (filter test xs) e ≡ (test e && has xs e)
-        → has (cond a (x ∷ filter test xs) (filter test xs)) e ≡ (test e && (b || has xs e))
-    go true is true same rest = ap (λ b. b || has (filter test xs) e) same
-        ∙ both (test e) (ap test (eqb-true e x same) ∙ is)
-    go true is false same rest = ap (λ b. b || has (filter test xs) e) same ∙ rest
-    go false is true same rest = none (test e) (has xs e) (has (filter test xs) e) (ap test (eqb-true e x same) ∙ is) rest
-    go false is false same rest = rest
-
 both_are : (ids live : List ℕ) (id : ℕ) → (has ids id ≡ true → has live id ≡ true) → (has ids id && has live id) ≡ has ids id
 both_are ids live id is = go (has ids id) refl
   where
@@ -92,5 +68,5 @@ module _ {S : Type 0} (l : Lang S) where
       let known = all_pass (is_live (doc l h).live) ids (none_unknown _ _ removed) in
       record {
         rises = rising 0 (filter (has ids) live) (filtered (has ids) 0 live (live_rise l h legal));
-        same = λ id. has_filter (has ids) live id ∙ both_are ids live id (λ is. live_has (doc l h).live id (known id is));
+        same = λ id. has_passing (has ids) live id ∙ both_are ids live id (λ is. live_has (doc l h).live id (known id is));
       }

@@ -1,17 +1,14 @@
 -- Numbers that rise.
-use Rattle.std.proofs.Common.{◌≡◌, ℕ, zero, suc, ◌+◌, ◌<◌, ◌≤◌, eqb, eq-eqb, Bool, true, false, cond, ◌||◌, List, [], ◌∷◌, length, get_or, refl, sym, ap, ◌∙◌, arith}
+use Rattle.std.proofs.Common.{◌≡◌, ℕ, zero, suc, ◌+◌, ◌<◌, ◌≤◌, eqb, Bool, true, false, cond, ◌||◌, List, [], ◌∷◌, length, get_or, refl, sym, ap, ◌∙◌, arith}
 use Rattle.std.proofs.lemmas.Bool.{false≢true}
 use Rattle.std.proofs.lemmas.Bool.Decides.{nat_tests}
 use Rattle.std.proofs.lemmas.List.Kept.{AllPairs-from_increasing}
-use Rattle.std.specs.List.{AllPairs, filter, range_with_len}
+use Rattle.std.specs.List.{filter, range_with_len}
 use Rattle.std.specs.List.Sorted.{IsStrictlyIncreasing}
 use Rattle.import_rounds.specs.Rounds.{has}
+use Rattle.import_rounds.proofs.KnownRising.{RisesFrom, rises_from_pairs, has_above}
+use Rattle.import_rounds.proofs.KnownHas.{has_itself}
 use Rattle.reply_writing.specs.Forms.{IsRising}
-
--- each number is at least a and above the one before it
-abbrev pub RisesFrom : ℕ → List ℕ → Type 0
-RisesFrom a [] = Unit {0}
-RisesFrom a (x ∷ xs) = (a ≤ x) × RisesFrom (x + 1) xs
 
 pub rising : (a : ℕ) (xs : List ℕ) → RisesFrom a xs → IsRising xs
 rising a [] r = tt
@@ -38,17 +35,8 @@ range_rises a (suc n) = (omega arith, range_rises (a + 1) n)
 pub range_filtered : (p : ℕ → Bool) (a n : ℕ) → IsRising (filter p (range_with_len a n))
 range_filtered p a n = rising a (filter p (range_with_len a n)) (filtered p a (range_with_len a n) (range_rises a n))
 
-from_pairs : (xs : List ℕ) (a : ℕ) → (0 < length xs → a ≤ get_or xs 0 0) → AllPairs (λ x y. x < y) xs → RisesFrom a xs
-from_pairs [] a first pairs = tt
-from_pairs (x ∷ xs) a first pairs = (
-  first (omega arith),
-  from_pairs xs (x + 1)
-      (λ lt. omega (arith, pairs 0 1 0 (omega arith) (omega arith)))
-      (λ i j d h lt. pairs (suc i) (suc j) d (omega arith) (omega arith)),
-)
-
 pub increasing : (xs : List ℕ) → IsStrictlyIncreasing xs → RisesFrom 0 xs
-increasing xs rises = from_pairs xs 0 (λ lt. omega arith) (AllPairs-from_increasing xs rises)
+increasing xs rises = rises_from_pairs xs 0 (λ lt. omega arith) (AllPairs-from_increasing xs rises)
 
 rises_by : (xs : List ℕ) → IsRising xs → (a : ℕ) → (0 < length xs → a ≤ get_or xs 0 0) → RisesFrom a xs
 rises_by [] r a first = tt
@@ -57,17 +45,6 @@ rises_by (x ∷ y ∷ more) r a first = (first (omega arith), rises_by (y ∷ mo
 
 pub from_rising : (xs : List ℕ) → IsRising xs → RisesFrom 0 xs
 from_rising xs r = rises_by xs r 0 (λ lt. omega arith)
-
-has_first : (x : ℕ) (xs : List ℕ) → has (x ∷ xs) x ≡ true
-has_first x xs = rw (eq-eqb x x refl)
-
-has_above : (xs : List ℕ) (b y : ℕ) → RisesFrom b xs → has xs y ≡ true → b ≤ y
-has_above [] b y r h = absurd (false≢true h)
-has_above (x ∷ xs) b y r h = go (eqb y x) refl (has_above xs (x + 1) y r.1)
-  where
-    go : (t : Bool) → eqb y x ≡ t → (has xs y ≡ true → x + 1 ≤ y) → b ≤ y
-    go true e rest = let same : y ≡ x = grind (arith, nat_tests) in omega (arith, r.0)
-    go false e rest = let more : has xs y ≡ true = rw e at h in omega (arith, r.0, rest more)
 
 none_below : (xs : List ℕ) (b y : ℕ) → RisesFrom b xs → y < b → has xs y ≡ false
 none_below xs b y r lt = go (has xs y) refl
@@ -82,11 +59,11 @@ has_rest x y xs e = ap (λ b. b || has xs y) e
 -- rising numbers are told by which they are
 pub same_numbers : (a : ℕ) (xs ys : List ℕ) → RisesFrom a xs → RisesFrom a ys → ((n : ℕ) → has xs n ≡ has ys n) → xs ≡ ys
 same_numbers a [] [] r s same = refl
-same_numbers a [] (y ∷ ys) r s same = absurd (false≢true (same y ∙ has_first y ys))
-same_numbers a (x ∷ xs) [] r s same = absurd (false≢true (sym (same x) ∙ has_first x xs))
+same_numbers a [] (y ∷ ys) r s same = absurd (false≢true (same y ∙ has_itself ys y))
+same_numbers a (x ∷ xs) [] r s same = absurd (false≢true (sym (same x) ∙ has_itself xs x))
 same_numbers a (x ∷ xs) (y ∷ ys) r s same =
-    let above : y ≤ x = has_above (y ∷ ys) y x (omega arith, s.1) (sym (same x) ∙ has_first x xs) in
-    let below : x ≤ y = has_above (x ∷ xs) x y (omega arith, r.1) (same y ∙ has_first y ys) in
+    let above : y ≤ x = has_above (y ∷ ys) y x (omega arith, s.1) (sym (same x) ∙ has_itself xs x) in
+    let below : x ≤ y = has_above (x ∷ xs) x y (omega arith, r.1) (same y ∙ has_itself ys y) in
     let first : x ≡ y = omega (arith, above, below) in
     let rest : xs ≡ ys = same_numbers (x + 1) xs ys r.1 (ap_from first s.1) (tails first) in
     cc

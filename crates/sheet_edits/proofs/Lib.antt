@@ -1,4 +1,5 @@
-mod EditSteps
+pub mod KnownTelling
+pub mod KnownEditSteps
 mod MovedRanges
 mod SheetLemmas
 mod HeaderNodes

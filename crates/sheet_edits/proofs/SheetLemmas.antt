@@ -1,5 +1,5 @@
 -- What edits and a perspective make of a sheet.
-use Rattle.std.proofs.Common.{◌≡◌, ℕ, ◌≤◌, Bool, true, false, ◌||◌, cond, List, [], ◌∷◌, length, filter, not, map, Some, None, Result, Ok, Err, refl, sym, ap, subst, ◌∙◌, arith, drop, get_or}
+use Rattle.std.proofs.Common.{◌≡◌, ℕ, ◌≤◌, Bool, true, false, ◌||◌, cond, List, [], ◌∷◌, length, filter, not, map, Some, None, Result, Ok, Err, refl, sym, ap, subst, ◌∙◌, arith}
 use Rattle.std.specs.Prelude.{nat_lt}
 use Rattle.std.specs.List.{list_any}
 use Rattle.std.proofs.lemmas.Bool.{false≢true, cond-true, cond-false}
@@ -19,11 +19,7 @@ use Rattle.sheet_edits.specs.declared.fault.PrepareError.TheVariants.{Refused, N
 use Rattle.sheet_edits.specs.Telling.{TellsError}
 use Rattle.sheet_edits.specs.OpenSheet.{OpenSheet}
 use Rattle.sheet_edits.specs.Within.{IsWithin, AreWithin, IsWhole}
-
--- a refusal of the first step is that of both
-pub told_then : {A B : Type 0} (e : PrepareError) (r : Result A Refusal) (f : A → Result B Refusal) → TellsError e r → TellsError e (r >>= f)
-told_then (Refused refusal) r f told = ap (λ s. s >>= f) told
-told_then NoMemory r f told = tt
+use Rattle.sheet_edits.proofs.KnownTelling.{told_then}
 
 pub told_along : {B : Type 0} (e : PrepareError) (r s : Result B Refusal) → r ≡ s → TellsError e r → TellsError e s
 told_along (Refused refusal) r s same told = sym same ∙ told
@@ -119,8 +115,3 @@ whole_so sheet text cuts ranges same are own all = record {
   are_cuts = subst (λ t. AreCutsOf t cuts) (sym same) own;
   ranges_are = subst (λ t. AreWithin (length t) sheet.ranges) (sym same) (subst (AreWithin (length text)) (sym are) all);
 }
-
--- a list that has an item, taken apart at its first
-pub head_tail : {X : Type 0} (xs : List X) (x : X) → 1 ≤ length xs → x ≡ get_or xs 0 x → xs ≡ x ∷ drop 1 xs
-head_tail [] x some is = absurd (omega arith)
-head_tail (y ∷ xs) x some is = ap (λ z. z ∷ xs) (sym is)

@@ -69,7 +69,7 @@ fn reparsed(alloc: Global, old: &Spans, text: Held<'_>, edit: &Edit) -> Result<R
 }
 
 /// The same, or why the edit is refused.
-#[tactic(auto, using(crate::proofs::EditSteps::makes, crate::proofs::EditSteps::out_of_range, crate::proofs::EditSteps::another))]
+#[tactic(auto, using(crate::proofs::KnownEditSteps::makes, crate::proofs::KnownEditSteps::out_of_range, crate::proofs::KnownEditSteps::another))]
 fn edited_once(
     alloc: Global,
     old: &Spans,

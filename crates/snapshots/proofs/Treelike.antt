@@ -2,6 +2,7 @@
 use Rattle.std.proofs.Common.{◌≡◌, ℕ, ◌+◌, ◌≤◌, Bool, true, false, List, [], ◌∷◌, ◌++◌, map, inl, inr, ap, arith, nat_lt, if◌then◌else◌, Some, None}
 use Rattle.std.specs.List.{AllByRecursion, flat_map}
 use Rattle.std.proofs.ByRecursion.{All-append}
+use Rattle.text_words.proofs.KnownLists.{each-so}
 use Rattle.pide_base.specs.declared.range.Range.{Range}
 use Rattle.text_edits.specs.declared.edit.Edit.{Edit}
 use Rattle.text_edits.specs.Offsets.{convert_list}
@@ -13,10 +14,6 @@ use Rattle.snapshots.specs.declared.part.AssignedPart.{AssignedPart}
 use Rattle.snapshots.specs.Converted.{converted, left_range, at_range, left_by}
 use Rattle.snapshots.specs.Gathered.{reported, gathered, shown}
 use Rattle.snapshots.specs.Nested.{LieInside, Agree, StandSo, AreNested}
-
-weaker : {X : Type 0} (P Q : X → Type 0) → ((x : X) → P x → Q x) → (xs : List X) → AllByRecursion P xs → AllByRecursion Q xs
-weaker P Q f [] all = tt
-weaker P Q f (x ∷ xs) all = (f x all.0, weaker P Q f xs all.1)
 
 All-flat_map : {X Y : Type 0} (P : Y → Type 0) (f : X → List Y) (xs : List X)
     → AllByRecursion (λ x. AllByRecursion P (f x)) xs → AllByRecursion P (flat_map f xs)
@@ -48,7 +45,7 @@ All-left : (P : Report → Type 0) (edits : List Edit) (xs : List Report)
     → AllByRecursion (λ r. P (record r { range = converted edits r.range })) xs → AllByRecursion P (left_by edits xs)
 All-left P edits xs all =
     All-flat_map P (λ r. at_range r (left_range edits r.range)) xs
-    (weaker _ _ (λ r h. All-piece P edits r h) xs all)
+    (each-so _ _ (λ r h. All-piece P edits r h) xs all)
 
 -- two reports of two parts, at their places
 shifted : (p q : AssignedPart) (a b : Report) → StandSo p q
@@ -87,11 +84,11 @@ placed p = map (moved p.span.start) (reported p.reports)
 between_parts : (p q : AssignedPart) → StandSo p q → LieInside p → LieInside q → Between (placed p) (placed q)
 between_parts p q so inp inq =
     All-mapped (λ a. AllByRecursion (λ b. AreTreelike a.range b.range) (placed q)) (moved p.span.start) (reported p.reports)
-    (weaker
+    (each-so
     (λ a. (p.span.start + a.range.stop ≤ p.span.stop) × (Agree p q → AllByRecursion (λ b. AreTreelike a.range b.range) (reported q.reports)))
     (λ a. AllByRecursion (λ b. AreTreelike (moved_range p.span.start a.range) b.range) (placed q))
     (λ a ha. All-mapped (λ b. AreTreelike (moved_range p.span.start a.range) b.range) (moved q.span.start) (reported q.reports)
-    (weaker
+    (each-so
     (λ b. (q.span.start + b.range.stop ≤ q.span.stop) × (Agree p q → AreTreelike a.range b.range))
     (λ b. AreTreelike (moved_range p.span.start a.range) (moved_range q.span.start b.range))
     (λ b hb. shifted p q a b so ha.0 hb.0 hb.1)
@@ -118,9 +115,9 @@ between_all xs (q ∷ qs) all = between_append xs (placed q) (flat_map placed qs
 gathered_so : (parts : List AssignedPart) → AreNested parts → Between (gathered parts) (gathered parts)
 gathered_so parts n =
     All-flat_map (λ a. AllByRecursion (λ b. AreTreelike a.range b.range) (gathered parts)) placed parts
-    (weaker (λ p. LieInside p × AllByRecursion (StandSo p) parts) (λ p. Between (placed p) (gathered parts))
+    (each-so (λ p. LieInside p × AllByRecursion (StandSo p) parts) (λ p. Between (placed p) (gathered parts))
     (λ p hp. between_all (placed p) parts
-    (weaker (λ q. LieInside q × StandSo p q) (λ q. Between (placed p) (placed q))
+    (each-so (λ q. LieInside q × StandSo p q) (λ q. Between (placed p) (placed q))
     (λ q hq. between_parts p q hq.1 hp.0 hq.0)
     parts (both LieInside (StandSo p) parts n.inside hp.1)))
     parts (both LieInside (λ p. AllByRecursion (StandSo p) parts) parts n.inside n.so))
@@ -128,17 +125,17 @@ gathered_so parts n =
 ordered_so : (xs : List Report) → Between xs xs → Between (in_order xs) (in_order xs)
 ordered_so xs h =
     All-order (λ a. AllByRecursion (λ b. AreTreelike a.range b.range) (in_order xs)) xs
-    (weaker (λ a. AllByRecursion (λ b. AreTreelike a.range b.range) xs) (λ a. AllByRecursion (λ b. AreTreelike a.range b.range) (in_order xs))
+    (each-so (λ a. AllByRecursion (λ b. AreTreelike a.range b.range) xs) (λ a. AllByRecursion (λ b. AreTreelike a.range b.range) (in_order xs))
     (λ a row. All-order (λ b. AreTreelike a.range b.range) xs row) xs h)
 
 module _ (mono : (edits : List Edit) (i j : ℕ) → i ≤ j → convert_list edits i ≤ convert_list edits j) where
   left_so : (edits : List Edit) (xs : List Report) → Between xs xs → Between (left_by edits xs) (left_by edits xs)
   left_so edits xs h =
       All-left (λ a. AllByRecursion (λ b. AreTreelike a.range b.range) (left_by edits xs)) edits xs
-      (weaker (λ a. AllByRecursion (λ b. AreTreelike a.range b.range) xs)
+      (each-so (λ a. AllByRecursion (λ b. AreTreelike a.range b.range) xs)
       (λ a. AllByRecursion (λ b. AreTreelike (converted edits a.range) b.range) (left_by edits xs))
       (λ a row. All-left (λ b. AreTreelike (converted edits a.range) b.range) edits xs
-      (weaker (λ b. AreTreelike a.range b.range) (λ b. AreTreelike (converted edits a.range) (converted edits b.range))
+      (each-so (λ b. AreTreelike a.range b.range) (λ b. AreTreelike (converted edits a.range) (converted edits b.range))
       (λ b k. stays mono edits a.range b.range k) xs row))
       xs h)
 

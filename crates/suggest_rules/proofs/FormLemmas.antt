@@ -3,8 +3,8 @@ use Rattle.std.proofs.Common.{◌≡◌, ℕ, List, ap, sym, ◌∙◌}
 use Rattle.nj_formula.specs.declared.argument.Argument.{Argument}
 use Rattle.nj_formula.specs.declared.formula.Formula.{Formula, out-Formula, out-roll-Formula}
 use Rattle.nj_formula.specs.declared.formula.Formula.TheOpen.{Formula-F}
-use Rattle.nj_formula.specs.declared.formula.Formula.TheVariants.{False, Atom, Not, And, Or, Implies}
-use Rattle.nj_formula.specs.declared.formula.Formula.TheVariants.{rolls-False, rolls-Atom, rolls-Not, rolls-And, rolls-Or, rolls-Implies}
+use Rattle.nj_formula.specs.declared.formula.Formula.TheVariants.{False, Atom, Not, And, Or}
+use Rattle.nj_formula.specs.declared.formula.Formula.TheVariants.{rolls-False, rolls-Atom, rolls-Not, rolls-And, rolls-Or}
 
 pub out-False : out-Formula False ≡ Formula-F.False
 out-False = ap out-Formula (sym rolls-False) ∙ out-roll-Formula Formula-F.False
@@ -14,6 +14,3 @@ out-Atom p arguments = ap out-Formula (sym (rolls-Atom p arguments)) ∙ out-rol
 
 pub out-And : (a b : Formula) → out-Formula (And a b) ≡ Formula-F.And a b
 out-And a b = ap out-Formula (sym (rolls-And a b)) ∙ out-roll-Formula (Formula-F.And a b)
-
-pub out-Implies : (a b : Formula) → out-Formula (Implies a b) ≡ Formula-F.Implies a b
-out-Implies a b = ap out-Formula (sym (rolls-Implies a b)) ∙ out-roll-Formula (Formula-F.Implies a b)

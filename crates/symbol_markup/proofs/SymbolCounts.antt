@@ -4,6 +4,7 @@ use Rattle.std.specs.Prelude.{count_by, nat_le}
 use Rattle.std.proofs.lemmas.Bool.{cases_lt, cond-true, cond-false, le-leb, lt-leb}
 use Rattle.std.proofs.lemmas.List.Sums.{sum_by-cons}
 use Rattle.symbols.specs.Symbols.{IsSymbolAt, AreSymbols, AreSymbolsBetween, symbols_of}
+use Rattle.symbols.proofs.KnownStops.{same-stop}
 use Rattle.symbol_markup.specs.Places.{IsSymbolPlace, symbol_place}
 
 abbrev pub ended : ℕ → List (ℕ × ℕ) → ℕ
@@ -19,11 +20,6 @@ ended-one place s ss upto =
 ended-none : (place : ℕ) (s : ℕ × ℕ) (ss : List (ℕ × ℕ)) → place < s.1 → ended place (s ∷ ss) ≡ ended place ss
 ended-none place s ss above =
     omega (arith, ended-cons place s ss, cond-false {A = ℕ} (nat_le s.1 place) 1 0 (lt-leb s.1 place above))
-
--- at one place the longest symbol ends at one place
-same-stop : (text : List ℕ) (start a b : ℕ) → IsSymbolAt text start a → IsSymbolAt text start b → a ≡ b
-same-stop text start a b one other =
-    omega (arith, one.0, other.0, other.1.longest _ one.1.within one.1.fits, one.1.longest _ other.1.within other.1.fits)
 
 -- each symbol has a scalar at least
 pub count-within : (text : List ℕ) (from to : ℕ) (ss : List (ℕ × ℕ)) → AreSymbolsBetween text from to ss → from + length ss ≤ to

@@ -4,9 +4,10 @@ use Rattle.std.proofs.lemmas.List.{length-map}
 use Rattle.std.specs.Prelude.{slice_get}
 use Rattle.symbols.specs.Symbols.{IsSymbolAt, AreSymbolsBetween, IsBoundary, IsInside, symbols_of}
 use Rattle.symbols.specs.Boundaries.{boundaries_of, boundaries, last_place, LiesBetween, Rises}
-use Rattle.symbols.proofs.Laws.{same-stop, rises}
+use Rattle.symbols.proofs.Laws.{rises}
 use Rattle.symbols.proofs.SymbolLemmas.{boundary-more}
 use Rattle.symbols.proofs.FunctionLemmas.{are-symbols}
+use Rattle.symbols.proofs.KnownStops.{same-stop}
 
 pub got : (xs : List ℕ) (k : ℕ) → k < length xs → slice_get xs k ≡ Some (get_or xs k 0)
 got [] k below = absurd (omega arith)

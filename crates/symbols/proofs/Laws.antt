@@ -3,13 +3,7 @@ use Rattle.std.proofs.Common.{◌≡◌, ℕ, ◌-◌, ◌<◌, ◌≤◌, List,
 use Rattle.text_words.specs.Pieces.{joined, Tiles}
 use Rattle.text_words.proofs.KnownPieces.{tiles-whole}
 use Rattle.symbols.specs.Symbols.{IsSymbolAt, AreSymbols, AreSymbolsBetween, IsBoundary, IsInside}
-
--- at one place the longest symbol ends at one place
-pub same-stop : (text : List ℕ) (start a b : ℕ) → IsSymbolAt text start a → IsSymbolAt text start b → a ≡ b
-same-stop text start a b one other =
-    let below : a - start ≤ b - start = other.1.longest (a - start) one.1.within one.1.fits in
-    let above : b - start ≤ a - start = one.1.longest (b - start) other.1.within other.1.fits in
-    omega (arith, one.0, other.0)
+use Rattle.symbols.proofs.KnownStops.{same-stop}
 
 -- places only rise
 pub rises : (text : List ℕ) (from to : ℕ) (ss : List (ℕ × ℕ)) → AreSymbolsBetween text from to ss → from ≤ to

@@ -1,3 +1,4 @@
+pub mod KnownStops
 pub mod KnownSplits
 pub mod KnownFinds
 pub mod KnownTests

@@ -9,13 +9,6 @@ use Rattle.task_queue.specs.Ready.{Standings, priority_of, comes_first, with_sta
 pub either_first : (p q : Priority) (e f : ℕ) → e ≢ f → goes_before p e q f ≡ false → goes_before q f p e ≡ true
 either_first p q e f differ not = grind arith
 
--- none is taken before itself, and not both before each other
-pub not_itself : (p : Priority) (e : ℕ) → goes_before p e p e ≡ false
-not_itself p e = grind arith
-
-pub not_both : (p q : Priority) (e f : ℕ) → goes_before p e q f ≡ true → goes_before q f p e ≡ false
-not_both p q e f one = grind arith
-
 -- the execution has what is put there, and every other what it had
 pub here : (all : Standings) (e : ℕ) (s : Option Standing) → with_standing all e s e ≡ s
 here all e s = grind arith

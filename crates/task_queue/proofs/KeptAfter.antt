@@ -11,9 +11,10 @@ use Rattle.task_queue.specs.Tasks.{standing, has}
 use Rattle.task_queue.specs.Waiters.{Waits, HasAll}
 use Rattle.task_queue.specs.Ready.{Standings, AreReady, with_standing, priority_of, comes_first}
 use Rattle.task_queue.specs.Kept.{seen, IsKept}
-use Rattle.task_queue.proofs.Changed.{here, elsewhere, not_itself}
+use Rattle.task_queue.proofs.Changed.{here, elsewhere}
 use Rattle.task_queue.proofs.KeptAlike.{ready_alike}
 use Rattle.task_queue.proofs.Links.{few_parts}
+use Rattle.task_queue.proofs.KnownOrder.{not_itself}
 
 -- no more parts are ready than there are tasks
 pub few_ready : (q : Inside) → IsKept q → length q.ready.parts ≤ hash_map_len q.tasks

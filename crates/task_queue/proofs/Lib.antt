@@ -1,3 +1,4 @@
+pub mod KnownOrder
 mod Pieces
 mod Sets
 mod Links

@@ -10,12 +10,13 @@ use Rattle.task_queue.specs.declared.task.Standing.{Standing}
 use Rattle.task_queue.specs.Tasks.{has, is_ready}
 use Rattle.task_queue.specs.Ready.{Standings, AreReady, IsPlaceFor, with_standing, priority_of, comes_first}
 use Rattle.task_queue.specs.Changes.{without, kind_if_ready, released}
-use Rattle.task_queue.proofs.Changed.{here, elsewhere, not_itself}
+use Rattle.task_queue.proofs.Changed.{here, elsewhere}
 use Rattle.task_queue.proofs.KeptAlike.{ready_alike}
 use Rattle.task_queue.proofs.Links.{few_parts}
 use Rattle.task_queue.proofs.Places.{put_in}
 use Rattle.task_queue.proofs.ReadyLemmas.{IsUnready, unready_changed, ready_put_in, other_exec}
 use Rattle.task_queue.proofs.Sets.{removed_none}
+use Rattle.task_queue.proofs.KnownOrder.{not_itself}
 
 -- a task that waits for something is not ready
 pub waits_unready : (s : Standing) (x : ℕ) → has s.inputs x ≡ true → is_ready s ≡ false

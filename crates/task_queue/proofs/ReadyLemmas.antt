@@ -10,8 +10,9 @@ use Rattle.task_queue.specs.declared.task.Standing.{Standing}
 use Rattle.task_queue.specs.Order.{goes_before}
 use Rattle.task_queue.specs.Tasks.{is_ready}
 use Rattle.task_queue.specs.Ready.{Standings, priority_of, comes_first, IsReadyPart, AreReady, IsNext, IsPlaceFor, with_standing}
-use Rattle.task_queue.proofs.Changed.{either_first, not_itself, not_both, here, elsewhere}
+use Rattle.task_queue.proofs.Changed.{either_first, here, elsewhere}
 use Rattle.task_queue.proofs.Places.{put_in, taken_out, All-put_in, Contains-put_in, Contains-new, AllPairs-put_in, All-taken_out, AllPairs-taken_out, Contains-taken_out}
+use Rattle.task_queue.proofs.KnownOrder.{not_itself, not_both}
 
 -- what stands there is not ready
 abbrev pub IsUnready : Option Standing → Type 0

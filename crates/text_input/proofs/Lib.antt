@@ -1,1 +1,2 @@
+pub mod KnownErrors
 mod Pulling

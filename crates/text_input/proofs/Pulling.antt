@@ -1,5 +1,5 @@
 -- A piece that is pulled, after what was taken before.
-use Rattle.std.proofs.Common.{◌+◌, ◌<◌, ◌≤◌, ◌++◌, List, ℕ, Option, arith, length, take, Result, Ok, Err, OnErr}
+use Rattle.std.proofs.Common.{◌+◌, ◌<◌, ◌≤◌, ◌++◌, List, ℕ, Option, arith, length, take}
 use Rattle.std.proofs.lemmas.List.{length-append, length-take-le}
 use Rattle.std.specs.Io.KnownBytes.{Consumes}
 use Rattle.std.proofs.KnownBytes.{Consumes-trans}
@@ -18,8 +18,3 @@ pulled_more first left left' taken buffer n took moved =
     let within = moved.1 in
     let some = moved.0 in
     (Consumes-trans first left left' taken (take n buffer) took moved.2, omega arith, omega arith)
-
--- what holds in any case holds at an error
-pub on_err : {A E : Type 0} {P : Type 0} (r : Result A E) → P → OnErr r P
-on_err (Ok x) p = tt
-on_err (Err e) p = p

@@ -1,12 +1,12 @@
 -- What a run of identifier parts tells of the longest identifier, and that the test of identifiers is right.
-use Rattle.std.proofs.Common.{◌≡◌, ℕ, suc, zero, ◌||◌, ◌&&◌, ◌==◌, ◌+◌, ◌<◌, ◌≤◌, Bool, true, false, List, [], ◌∷◌, length, get_or, take, sym, refl, ap, ◌∙◌, subst, ⊎_elim, arith, length-take-le, get_or-take}
+use Rattle.std.proofs.Common.{◌≡◌, ℕ, suc, zero, ◌||◌, ◌&&◌, ◌==◌, ◌+◌, ◌<◌, ◌≤◌, Bool, true, false, List, [], ◌∷◌, length, get_or, take, sym, refl, ap, ◌∙◌, subst, ⊎_elim, arith, length-take-le, get_or-take, rules}
 use Rattle.std.specs.List.{prefix_len, AllPass, list_all}
 use Rattle.std.specs.Char.{is_ascii_alphabetic}
 use Rattle.std.specs.Int.{is_in_range}
-use Rattle.std.proofs.lemmas.Bool.{both_ways, cases_lt, cond-true}
+use Rattle.std.proofs.lemmas.Bool.{both_ways, cases_lt, cond-true, and_parts, and_from}
 use Rattle.std.proofs.lemmas.List.Sums.{prefix_len_passes, prefix_len_stops, prefix_len-le-length, AllPass-from_list_all, list_all-from_AllPass}
 use Rattle.std.proofs.lemmas.List.Elements.{All-cons}
-use Rattle.text_words.proofs.KnownTests.{both-parts, both-hold}
+use Rattle.std.specs.Str.{IsAscii}
 use Rattle.text_words.specs.Longest.{IsLongest, HasNoFront}
 use Rattle.text_words.specs.Identifier.{is_identifier_part, IsIdentifier, is_identifier}
 
@@ -78,11 +78,29 @@ letter-none-at (c ∷ cs) x within same other = letter-none c cs (ap is_ascii_al
 pub identifier-tested : (s : List ℕ) → is_identifier s ≡ true → IsIdentifier s
 identifier-tested [] tested = both_ways false refl tested
 identifier-tested (c ∷ cs) tested =
-    let parts = both-parts (is_ascii_alphabetic c) (list_all is_identifier_part cs) tested in
+    let parts = and_parts (is_ascii_alphabetic c) (list_all is_identifier_part cs) tested in
     (parts.0, AllPass-from_list_all is_identifier_part cs parts.1)
 
 -- the test says yes of each identifier
 pub tested-identifier : (s : List ℕ) → IsIdentifier s → is_identifier s ≡ true
 tested-identifier [] none = absurd none
 tested-identifier (c ∷ cs) (letter, parts) =
-    both-hold (is_ascii_alphabetic c) (list_all is_identifier_part cs) letter (list_all-from_AllPass is_identifier_part cs parts)
+    and_from (is_ascii_alphabetic c) (list_all is_identifier_part cs) letter (list_all-from_AllPass is_identifier_part cs parts)
+
+-- what an identifier goes on with is in ASCII
+pub part_ascii : (c : ℕ) → is_identifier_part c ≡ true → c < 128
+part_ascii c part = search rules
+
+-- so is a list of them
+pub parts_ascii : (s : List ℕ) → list_all is_identifier_part s ≡ true → IsAscii s
+parts_ascii [] parts i = omega arith
+parts_ascii (c ∷ cs) parts zero = part_ascii c (and_parts _ _ parts).0
+parts_ascii (c ∷ cs) parts (suc i) = parts_ascii cs (and_parts _ _ parts).1 i
+
+-- so is an identifier
+pub identifier_ascii : (s : List ℕ) → is_identifier s ≡ true → IsAscii s
+identifier_ascii [] tested i = absurd (both_ways false refl tested)
+identifier_ascii (c ∷ cs) tested zero =
+    part_ascii c (letter-part c (and_parts (is_ascii_alphabetic c) (list_all is_identifier_part cs) tested).0)
+identifier_ascii (c ∷ cs) tested (suc i) =
+    parts_ascii cs (and_parts (is_ascii_alphabetic c) (list_all is_identifier_part cs) tested).1 i

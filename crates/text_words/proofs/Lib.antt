@@ -1,4 +1,3 @@
-pub mod KnownTests
 pub mod KnownIdentifiers
 pub mod KnownFronts
 pub mod KnownPieces

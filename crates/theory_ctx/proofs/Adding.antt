@@ -5,6 +5,7 @@ use Rattle.std.proofs.lemmas.List.Elements.{filter-append}
 use Rattle.std.proofs.lemmas.Slice.Eq.{bytes_eq-Decides}
 use Rattle.std.specs.Ordering.{is_lt, is_gt}
 use Rattle.std.specs.Str.{bytes_eq}
+use Rattle.std.proofs.lemmas.Bool.{and_parts}
 use Rattle.shared_map.specs.Pairs.{IsSorted}
 use Rattle.shared_map.specs.Cuts.{before, behind, at_key}
 use Rattle.shared_map.proofs.KnownFound.{without_none}
@@ -12,7 +13,7 @@ use Rattle.theory_ctx.specs.Facts.{Fact, is_called, fact_of, is_import, imported
 use Rattle.theory_ctx.specs.Order.{by_name, by_name_total}
 use Rattle.theory_ctx.specs.Looked.{first_of, looked_by}
 use Rattle.theory_ctx.specs.Merged.{added}
-use Rattle.theory_ctx.proofs.NamedSo.{both_true, called_itself, called_other, import_other}
+use Rattle.theory_ctx.proofs.NamedSo.{called_itself, called_other, import_other}
 use Rattle.theory_ctx.proofs.Named.{fact_of_first}
 use Rattle.theory_ctx.proofs.Merges.{fact_of-united}
 
@@ -74,7 +75,7 @@ module _ (x : Fact) (facts : List Fact) (own : List ℕ) where
       go : (b : Bool) → is_called t m x ≡ b → b ≡ false
       go false e = refl
       go true e =
-          let same = both_true (bytes_eq x.0.theory t) (bytes_eq x.0.name m) e in
+          let same = and_parts (bytes_eq x.0.theory t) (bytes_eq x.0.name m) e in
           absurd
           (long
           (ap (λ a. a ∷ m ∷ []) (sym ((bytes_eq-Decides x.0.theory t).0 same.0))

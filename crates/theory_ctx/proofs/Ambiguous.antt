@@ -8,6 +8,7 @@ use Rattle.std.specs.Prelude.{not}
 use Rattle.std.proofs.lemmas.Cmp.{nat_list_cmp_total, tied_itself}
 use Rattle.std.proofs.lemmas.List.Elements.{filter_passes}
 use Rattle.std.proofs.lemmas.Slice.Eq.{bytes_eq-Decides}
+use Rattle.std.proofs.lemmas.Bool.{and_parts}
 use Rattle.shared_map.specs.Pairs.{IsSorted}
 use Rattle.shared_map.proofs.KnownSorted.{IsSorted-filter}
 use Rattle.theory_ctx.specs.Facts.{Fact, fact_of, is_import, imported}
@@ -16,7 +17,6 @@ use Rattle.theory_ctx.specs.Spelled.{long_name}
 use Rattle.theory_ctx.specs.Answers.{Answer, unknown, ambiguous}
 use Rattle.theory_ctx.specs.Looked.{among, first_of, looked_by}
 use Rattle.theory_ctx.specs.Ambiguity.{HasTwo}
-use Rattle.theory_ctx.proofs.NamedSo.{both_true}
 
 abbrev is_ambiguous : Answer → Type 0
 is_ambiguous (ambiguous a b) = Unit {0}
@@ -75,7 +75,7 @@ theories_rise facts own n first second sorted two =
     passed = subst (All (λ x. is_import own n x ≡ true)) two.others.1 (filter_passes (is_import own n) facts)
 
     named : (x : Fact) → is_import own n x ≡ true → x.0.name ≡ n
-    named x e = (bytes_eq-Decides x.0.name n).0 (both_true (not (bytes_eq x.0.theory own)) (bytes_eq x.0.name n) e).1
+    named x e = (bytes_eq-Decides x.0.name n).0 (and_parts (not (bytes_eq x.0.theory own)) (bytes_eq x.0.name n) e).1
 
     alike : by_bytes first.0.name second.0.name ≡ Equal
     alike =

@@ -1,9 +1,9 @@
 -- Whether a fact is called so.
 use Rattle.std.proofs.Common.{◌≡◌, ◌≢◌, ℕ, Bool, true, false, not, ◌&&◌, List, refl, ◌∙◌, ap}
 use Rattle.std.specs.Str.{bytes_eq}
-use Rattle.std.proofs.lemmas.Bool.{false≢true}
 use Rattle.std.proofs.lemmas.Cmp.{nat_list_eq_equiv}
 use Rattle.std.proofs.lemmas.Slice.Eq.{bytes_eq-Decides}
+use Rattle.std.proofs.Math.Bool.{and-false}
 use Rattle.theory_ctx.specs.Facts.{Fact, is_called, is_import}
 
 pub differ : (a b : List ℕ) → a ≢ b → bytes_eq a b ≡ false
@@ -13,15 +13,6 @@ differ a b other = go (bytes_eq a b) refl
     go true e = absurd (other ((bytes_eq-Decides a b).0 e))
     go false e = refl
 
-and_false : (b : Bool) → (b && false) ≡ false
-and_false true = refl
-and_false false = refl
-
-pub both_true : (a b : Bool) → (a && b) ≡ true → (a ≡ true) × (b ≡ true)
-both_true true true e = (refl, refl)
-both_true true false e = absurd (false≢true e)
-both_true false b e = absurd (false≢true e)
-
 -- a fact is called as it is
 pub called_itself : (x : Fact) → is_called x.0.theory x.0.name x ≡ true
 called_itself x =
@@ -29,11 +20,11 @@ called_itself x =
 
 -- by another name it is neither an own nor an imported fact
 pub called_other : (x : Fact) (t n : List ℕ) → x.0.name ≢ n → is_called t n x ≡ false
-called_other x t n other = ap (λ b. bytes_eq x.0.theory t && b) (differ x.0.name n other) ∙ and_false (bytes_eq x.0.theory t)
+called_other x t n other = ap (λ b. bytes_eq x.0.theory t && b) (differ x.0.name n other) ∙ and-false (bytes_eq x.0.theory t)
 
 pub import_other : (x : Fact) (own n : List ℕ) → x.0.name ≢ n → is_import own n x ≡ false
 import_other x own n other =
-    ap (λ b. not (bytes_eq x.0.theory own) && b) (differ x.0.name n other) ∙ and_false (not (bytes_eq x.0.theory own))
+    ap (λ b. not (bytes_eq x.0.theory own) && b) (differ x.0.name n other) ∙ and-false (not (bytes_eq x.0.theory own))
 
 -- in another theory it is an imported one
 pub called_elsewhere : (x : Fact) (own n : List ℕ) → x.0.theory ≢ own → is_called own n x ≡ false

@@ -1,8 +1,9 @@
 -- The only node of a document: it has no import that is ordered, so it rests on its own axioms.
 use Rattle.std.proofs.Common.{◌≡◌, ℕ, ◌<◌, zero, suc, Bool, true, false, List, [], ◌∷◌, ◌++◌, length, Option, Some, None, refl, sym, ◌∙◌, ap, subst, arith}
 use Rattle.std.proofs.lemmas.Bool.{eqb-true, false≢true}
-use Rattle.std.specs.Prelude.{◌==◌, ◌||◌, ◌&&◌, not, cond, find, map}
+use Rattle.std.specs.Prelude.{◌==◌, ◌||◌, not, cond, find, map}
 use Rattle.std.specs.List.{AllByRecursion, list_all}
+use Rattle.std.specs.Cmp.{first_so}
 use Rattle.nj_formula.specs.Statement.{Statement}
 use Rattle.import_rounds.specs.Rounds.{has, is_known, in_rounds}
 use Rattle.import_rounds.specs.Looks.{aims_at}
@@ -49,10 +50,6 @@ first (q ∷ all) p e = go (first all p) (p == q) refl e
     go later true d e = record { front = []; rest = all; is = ap (λ r. r ∷ all) (sym (eqb-true p q d)); absent = refl }
     go later false d e = more d (later e)
 
-left : (a b : Bool) → (a && b) ≡ true → a ≡ true
-left true b e = refl
-left false b e = e
-
 module _ (laws : Laws) (rounds : Rounds) (name : List ℕ) (node : Node) (blobs : BlobList) where
   abbrev nodes : NodeList
   nodes = (name, node) ∷ []
@@ -67,7 +64,7 @@ module _ (laws : Laws) (rounds : Rounds) (name : List ℕ) (node : Node) (blobs 
       subst (λ k. list_all (is_known f.front) (aims_at (aims nodes) k) ≡ true) none (rounds.behind (aims nodes) f.front f.rest q f.is) in
       let here : list_all (is_known f.front) (map (place_of nodes) (n ∷ more)) ≡ true =
       subst (λ l. list_all (is_known f.front) (map (place_of nodes) l) ≡ true) is all in
-      let known : is_known f.front (Some q) ≡ true = subst (λ o. is_known f.front o ≡ true) at (left (is_known f.front (place_of nodes n)) _ here) in
+      let known : is_known f.front (Some q) ≡ true = subst (λ o. is_known f.front o ≡ true) at (first_so (is_known f.front (place_of nodes n)) _ here) in
       false≢true (sym f.absent ∙ known)
 
   bad : (n : List ℕ) (more : List (List ℕ)) → node.imports ≡ n ∷ more → is_bad nodes n ≡ true

@@ -1,47 +1,12 @@
 -- What follows from what follows.
-use Rattle.std.proofs.Common.{◌≡◌, ◌≢◌, ◌⊎◌, List, [], ◌∷◌, ◌++◌, refl, sym, ◌∙◌, subst, inl, inr, ⊎_elim}
+use Rattle.std.proofs.Common.{◌⊎◌, List, [], ◌∷◌, ◌++◌, refl, sym, inl, inr, ⊎_elim}
 use Rattle.std.proofs.Math.Logic.{∥∥₁_elim, ∥∥₁_prop}
 use Rattle.nj_formula.specs.Statement.{Statement}
-use Rattle.nj_kernel.specs.Nj.{Nj, assume, same_set, conj_i, conj_e2, imp_i, imp_e}
-use Rattle.nj_kernel.specs.Sets.{members, ◌∖◌, Lists}
-use Rattle.proof_state.specs.Same.{decide}
+use Rattle.nj_kernel.specs.Nj.{Nj, imp_i, imp_e}
+use Rattle.nj_kernel.specs.Sets.{members, ◌∖◌}
 use Rattle.proof_state.specs.Follows.{Follows}
 use Rattle.proof_state.proofs.KnownSets.{in_left, in_right, in_either, lists_both}
-
-pub itself : (P : Statement → Type 0) (f : Statement) → P f → Follows P f
-itself P f p = (f ∷ [], λ g m. ⊎_elim (λ e. subst P e p) (λ n. elim n [ ]) m, assume)
-
-more : (s t : List Statement) (f : Statement) → Nj t f → Nj (s ++ t) f
-more [] t f d = d
-more (a ∷ s) t f d = conj_e2 (conj_i (lists_both (a ∷ []) (s ++ t)) (assume {a = a}) (more s t f d))
-
-weaken : (s t : List Statement) (f : Statement) → ((g : Statement) → members t g → members s g) → Nj t f → Nj s f
-weaken s t f within d =
-    same_set (λ g. (λ m. in_left s t g m, λ m. ⊎_elim (λ n. n) (within g) (in_either s t g m))) (more s t f d)
-
-abbrev Without : Statement → List Statement → Type 0
-Without a s = (t : List Statement) × Lists t (members s ∖ a)
-
--- the others than a
-without : (a : Statement) (s : List Statement) → Without a s
-without a [] = ([], λ f. (λ m. elim m [ ], λ m. m.0))
-without a (g ∷ s) = by (decide g a) (without a s)
-  where
-    dropped : g ≡ a → (t : List Statement) → Lists t (members s ∖ a) → Lists t (members (g ∷ s) ∖ a)
-    dropped same t lists f = (
-      λ m. let kept = (lists f).0 m in (inr kept.0, kept.1),
-      λ m. ⊎_elim (λ e. absurd (m.1 (sym e ∙ same))) (λ n. (lists f).1 (n, m.1)) m.0,
-    )
-
-    kept : g ≢ a → (t : List Statement) → Lists t (members s ∖ a) → Lists (g ∷ t) (members (g ∷ s) ∖ a)
-    kept other t lists f = (
-      λ m. ⊎_elim (λ e. (inl e, λ h. other (e ∙ h))) (λ n. let rest = (lists f).0 n in (inr rest.0, rest.1)) m,
-      λ m. ⊎_elim (λ e. inl e) (λ n. inr ((lists f).1 (n, m.1))) m.0,
-    )
-
-    by : (g ≡ a) ⊎ (g ≢ a) → Without a s → Without a (g ∷ s)
-    by (inl same) rest = (rest.0, dropped same rest.0 rest.1)
-    by (inr other) rest = (g ∷ rest.0, kept other rest.0 rest.1)
+use Rattle.proof_state.proofs.KnownAssumptions.{weaken, without}
 
 -- one assumption is replaced by what it follows from
 cut_one : (a f : Statement) (s t : List Statement) → Nj (a ∷ s) f → Nj t a → Nj (s ++ t) f

@@ -26,15 +26,11 @@ use Rattle.isar_rules.specs.Forks.{forked_at}
 use Rattle.isar_rules.specs.Kept.{errors_in}
 use Rattle.isar_rules.specs.Proofs.{Ordered, ordered, levels_or, effect_of, stands, proof_made}
 use Rattle.isar_rules.specs.Theories.{with_fact}
+use Rattle.isar_rules.proofs.KnownTried.{IfTried}
 use Rattle.theory_laws.specs.Facts.{AllFollow}
 use Rattle.theory_laws.proofs.Cutting.{cut}
 use Rattle.theory_laws.proofs.Places.{IsSound, each_added}
 use Rattle.theory_laws.proofs.Judged.{Laws, goal_follows}
-
--- what comes of it has this
-abbrev pub IfTried : {A : Type 0} → (A → Type 0) → Tried A → Type 0
-IfTried P (Ok a) = P a
-IfTried P (Err text) = Unit {0}
 
 pub chained : {A B : Type 0} (Q : B → Type 0) (t : Tried A) (behind : A → Tried B) → ((a : A) → t ≡ Ok a → IfTried Q (behind a)) → IfTried Q (and_then t behind)
 chained Q (Ok a) behind each = each a refl

@@ -8,6 +8,7 @@ use Rattle.nj_kernel.specs.Sets.{members}
 use Rattle.theory_ctx.specs.Facts.{Fact}
 use Rattle.outer_tokens.specs.declared.token.Token.{Token}
 use Rattle.proof_state.specs.declared.levels.Levels.TheVariants.{Prove}
+use Rattle.proof_state.proofs.KnownFollows.{itself}
 use Rattle.doc_nodes.specs.Names.{equal}
 use Rattle.isar_rules.specs.declared.shape.Shape.{Shape}
 use Rattle.isar_rules.specs.declared.shape.Shape.TheVariants as shape
@@ -27,12 +28,12 @@ use Rattle.isar_rules.specs.Loads.{load_made, with_all, facts_or as listed_or, l
 use Rattle.isar_rules.specs.Reports.{def_report, formula_report}
 use Rattle.isar_rules.specs.Steps.{acted, tried, made_by, after_error}
 use Rattle.isar_rules.specs.Theories.{facts_or, begins, begun, has_fact, stated, with_fact}
+use Rattle.isar_rules.proofs.KnownTried.{IfTried}
 use Rattle.theory_laws.specs.Axioms.{stated_by, if_formula, if_listed}
 use Rattle.theory_laws.specs.Facts.{AllFollow}
-use Rattle.theory_laws.proofs.Cutting.{itself}
 use Rattle.theory_laws.proofs.Places.{GivenFollow, IsSound}
 use Rattle.theory_laws.proofs.Judged.{Laws}
-use Rattle.theory_laws.proofs.Proving.{IfTried, chained, one_more, proof_sound}
+use Rattle.theory_laws.proofs.Proving.{chained, one_more, proof_sound}
 
 -- all of these formulas are said by what P says
 abbrev Says : (Statement → Type 0) → List Formula → Type 0

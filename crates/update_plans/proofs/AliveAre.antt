@@ -1,9 +1,8 @@
 -- Nodes that are marked, and of which nothing is cancelled, are untouched.
 use Rattle.std.proofs.Common.{◌≡◌, ◌⊎◌, inl, inr, ℕ, zero, suc, ◌+◌, ◌<◌, ◌≤◌, Bool, true, false, cond, not, List, [], ◌∷◌, ◌++◌, length, get_or, Option, Some, None, refl, ap, sym, ◌∙◌, arith}
-use Rattle.std.proofs.lemmas.Bool.{false≢true, cases_lt}
+use Rattle.std.proofs.lemmas.Bool.{cases_lt, and_parts, not-true, and_from}
 use Rattle.std.proofs.lemmas.List.{get_or_append_left, get_or_push}
 use Rattle.std.proofs.lemmas.Option.{slice_get_within}
-use Rattle.text_words.proofs.KnownTests.{both-parts}
 use Rattle.std.specs.Prelude.{◌&&◌, slice_get}
 use Rattle.std.specs.List.{list_all}
 use Rattle.import_rounds.specs.Looks.{marked}
@@ -18,41 +17,34 @@ use Rattle.exec_rules.specs.Assigning.{rows_in}
 use Rattle.exec_assign.specs.Untouched.{IsAlive, AreUntouched}
 use Rattle.exec_rules.specs.Listed.{executions}
 use Rattle.core_rules.specs.Assigned.{assigns}
+use Rattle.core_rules.proofs.KnownNamedRows.{there_row}
 use Rattle.import_rounds.specs.Rounds.{has}
 use Rattle.update_plans.specs.Cancelled.{is_cancelled, cancelled_in, IsQuiet}
 use Rattle.update_plans.specs.Alive.{is_alive, lives, HaveCommands}
 use Rattle.update_plans.proofs.KnownCancelled.{has_cancelled}
-use Rattle.update_plans.proofs.Named.{there_row, of_row}
+use Rattle.update_plans.proofs.Named.{of_row}
 
 all_at : {X : Type 0} (test : X → Bool) (xs : List X) (i : ℕ) (x : X) → list_all test xs ≡ true → slice_get xs i ≡ Some x → test x ≡ true
 all_at test [] i x all at = absurd (cc)
-all_at test (y ∷ xs) zero x all at = let same : y ≡ x = cc in ap test (sym same) ∙ (both-parts (test y) (list_all test xs) all).0
-all_at test (y ∷ xs) (suc i) x all at = all_at test xs i x (both-parts (test y) (list_all test xs) all).1 at
+all_at test (y ∷ xs) zero x all at = let same : y ≡ x = cc in ap test (sym same) ∙ (and_parts (test y) (list_all test xs) all).0
+all_at test (y ∷ xs) (suc i) x all at = all_at test xs i x (and_parts (test y) (list_all test xs) all).1 at
 
 all_so : {X : Type 0} (test : X → Bool) (xs : List X) → ((i : ℕ) (x : X) → slice_get xs i ≡ Some x → test x ≡ true) → list_all test xs ≡ true
 all_so test [] each = refl
-all_so test (x ∷ xs) each = both (test x) (list_all test xs) (each 0 x refl) (all_so test xs (λ i y at. each (suc i) y at))
-  where
-    both : (a b : Bool) → a ≡ true → b ≡ true → (a && b) ≡ true
-    both true b is all = all
-    both false b is all = is
-
-unless : (b : Bool) → not b ≡ true → b ≡ false
-unless true is = absurd (false≢true is)
-unless false is = refl
+all_so test (x ∷ xs) each = and_from (test x) (list_all test xs) (each 0 x refl) (all_so test xs (λ i y at. each (suc i) y at))
 
 module _ {R : Type 0} (rows : List (TableRow R)) where
   living : (row : Row) → is_alive rows row ≡ true → IsAlive (cancelled_in rows) row
   living row alive =
-      let both = both-parts (not (is_cancelled rows row.evaluation)) (lives rows row.print) alive in
+      let both = and_parts (not (is_cancelled rows row.evaluation)) (lives rows row.print) alive in
       record {
-        evaluation = has_cancelled rows row.evaluation ∙ unless (is_cancelled rows row.evaluation) both.0;
+        evaluation = has_cancelled rows row.evaluation ∙ not-true (is_cancelled rows row.evaluation) both.0;
         print = printed row.print both.1;
       }
     where
       printed : (o : Option ℕ) → lives rows o ≡ true → live_print (cancelled_in rows) o ≡ o
       printed None is = refl
-      printed (Some q) is = ap (λ b. cond b None (Some q)) (has_cancelled rows q ∙ unless (is_cancelled rows q) is)
+      printed (Some q) is = ap (λ b. cond b None (Some q)) (has_cancelled rows q ∙ not-true (is_cancelled rows q) is)
 
   -- what a list of marks tells of the nodes up to a place
   abbrev pub TellsTo : Version → NodeList → List Bool → ℕ → List Bool → Type 0
@@ -88,7 +80,7 @@ module _ {R : Type 0} (rows : List (TableRow R)) where
       → marked all p ≡ (marked marks p && list_all (is_alive rows) (rows_in before pair.0)))
       → AreUntouched (record { tip = before; nodes = nodes; blobs = blobs; cancelled = cancelled_in rows }) all
   untouched_are before nodes blobs marks all commands told p pair is at =
-      let both = both-parts (marked marks p) (list_all (is_alive rows) (rows_in before pair.0)) (sym (told p pair at) ∙ is) in
+      let both = and_parts (marked marks p) (list_all (is_alive rows) (rows_in before pair.0)) (sym (told p pair at) ∙ is) in
       record {
         commands = commands p pair both.0 at;
         alive = λ i row on. living row (all_at (is_alive rows) (rows_in before pair.0) i row both.1 on);
@@ -102,14 +94,10 @@ module _ {R : Type 0} (rows : List (TableRow R)) where
       never e is = ap not is
 
       alive : (i : ℕ) (row : Row) → slice_get (rows_in v name) i ≡ Some row → is_alive rows row ≡ true
-      alive i row at = both (not (is_cancelled rows row.evaluation)) (lives rows row.print)
+      alive i row at = and_from (not (is_cancelled rows row.evaluation)) (lives rows row.print)
           (never row.evaluation (quiet row.evaluation (there_row v name i row.evaluation row at (of_row row row.evaluation (inl refl)))))
           (printed row.print refl)
         where
-          both : (a b : Bool) → a ≡ true → b ≡ true → (a && b) ≡ true
-          both true b is all = all
-          both false b is all = is
-
           printed : (o : Option ℕ) → row.print ≡ o → lives rows o ≡ true
           printed None is = refl
           printed (Some q) is = never q (quiet q (there_row v name i q row at (of_row row q (inr is))))

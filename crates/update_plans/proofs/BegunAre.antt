@@ -4,6 +4,7 @@ use mathlib.Core.Bool.{or_assoc}
 use Rattle.std.proofs.lemmas.List.{reverse-append, length-append, take_more}
 use Rattle.std.specs.Prelude.{◌&&◌, ◌||◌, filter_map}
 use Rattle.std.specs.List.{cons_option}
+use Rattle.std.proofs.Math.Bool.{or-false}
 use Rattle.exec_table.specs.Rows.{Row}
 use Rattle.task_queue.specs.Tasks.{has}
 use Rattle.exec_rules.specs.declared.key.Last.{Last}
@@ -11,7 +12,7 @@ use Rattle.exec_rules.specs.declared.home.Home.{Home}
 use Rattle.core_rules.specs.Parts.{made_by}
 use Rattle.update_plans.specs.declared.beginning.Fresh.{Fresh}
 use Rattle.update_plans.specs.Begun.{is_evaluated, AddsUnfinished, IsBegun, AreBegun}
-use Rattle.import_rounds.proofs.KnownRounds.{has_both}
+use Rattle.import_rounds.proofs.KnownHas.{has_both}
 
 made_both : (xs ys : List Last) → filter_map made_by (xs ++ ys) ≡ filter_map made_by xs ++ filter_map made_by ys
 made_both [] ys = refl
@@ -28,11 +29,7 @@ pop_length old new home is = omega (arith, ap (λ (xs : List Home). length xs) i
 module _ {R : Type 0} (rows : List (Row R)) where
   -- no source is added
   pub adds_none : (old : List ℕ) → AddsUnfinished rows [] old old
-  adds_none old f = sym (go (has old f))
-    where
-      go : (b : Bool) → (b || false) ≡ b
-      go true = refl
-      go false = refl
+  adds_none old f = sym (or-false (has old f))
 
   -- more sources are added behind others
   pub adds_both : (xs ys old mid new : List ℕ) → AddsUnfinished rows xs old mid → AddsUnfinished rows ys mid new → AddsUnfinished rows (xs ++ ys) old new

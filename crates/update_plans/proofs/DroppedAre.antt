@@ -1,6 +1,6 @@
 -- What stands in no row at its place now is assigned no more, and the other way.
 use Rattle.std.proofs.Common.{◌≡◌, inl, inr, ℕ, Bool, true, false, not, List, Option, Some, None, refl, ap, sym, subst, ◌∙◌}
-use Rattle.std.proofs.lemmas.Bool.{false≢true}
+use Rattle.std.proofs.lemmas.Bool.{false≢true, false_from_ne_true, not_from_false}
 use Rattle.std.specs.Prelude.{◌&&◌, slice_get, flat_map}
 use Rattle.std.specs.Option.{option_map, option_and_then}
 use Rattle.import_rounds.specs.Rounds.{has}
@@ -12,19 +12,12 @@ use Rattle.exec_rules.specs.Listed.{executions}
 use Rattle.exec_assign.specs.Told.{told_row}
 use Rattle.core_rules.specs.Assigned.{assigns}
 use Rattle.core_rules.specs.Placed.{RowOf}
+use Rattle.core_rules.proofs.KnownNamedRows.{there_row}
 use Rattle.update_plans.specs.Beside.{HasKept, Follows}
 use Rattle.update_plans.specs.Rows.{lost_of, lost}
 use Rattle.update_plans.proofs.Members.{In, has_in, in_has, in_flat, flat_in, at_in, in_filter, filter_in}
-use Rattle.update_plans.proofs.Named.{IsOf, RowsOf, rows_of, there_row, in_row, of_row}
+use Rattle.update_plans.proofs.Named.{IsOf, RowsOf, rows_of, in_row, of_row}
 use Rattle.update_plans.proofs.BesideRows.{OfRow, in_beside, beside_in}
-
-is_true : (b : Bool) → (b ≡ false → ⊥) → b ≡ true
-is_true true never = refl
-is_true false never = absurd (never refl)
-
-is_false : (b : Bool) → (b ≡ true → ⊥) → b ≡ false
-is_false true never = absurd (never refl)
-is_false false never = refl
 
 -- the row before that has what the version before assigns
 pub record OldRow (old : Option Row) (e : ℕ) : Type 0 where
@@ -103,10 +96,6 @@ module _ (before now : Version) (marks : List Bool) (f : Follows before now mark
   not_both true a b = absurd (false≢true b)
   not_both false a b = absurd (false≢true a)
 
-  negated : (b : Bool) → b ≡ false → not b ≡ true
-  negated true e = absurd (false≢true (sym e))
-  negated false e = refl
-
   -- the lost executions are those that are assigned no more
   pub dropped_are : (all : List ℕ) → all ≡ flat_map lost_at before.nodes → (e : ℕ) → has all e ≡ (assigns before e && not (assigns now e))
   dropped_are all are e = go (assigns before e) refl (assigns now e) refl
@@ -115,23 +104,23 @@ module _ (before now : Version) (marks : List Bool) (f : Follows before now mark
       lost_e is = is_lost e (subst (In e) are (has_in all e is))
 
       go : (a : Bool) → assigns before e ≡ a → (b : Bool) → assigns now e ≡ b → has all e ≡ (a && not b)
-      go true was true is = is_false (has all e) (λ there.
+      go true was true is = false_from_ne_true (has all e) (λ there.
           let x = lost_e there in not_both _ (stays x.name x.place e x.row x.at x.has_it is) x.gone)
       go true was false is =
           let r : RowOf before e = f.had_places e was in
           let gone : has (told_row (slice_get (rows_in now r.name) r.place)) e ≡ false =
-          is_false _ (λ there. false≢true (sym is ∙ still r (slice_get (rows_in now r.name) r.place) refl there)) in
+          false_from_ne_true _ (λ there. false≢true (sym is ∙ still r (slice_get (rows_in now r.name) r.place) refl there)) in
           in_has all e (subst (In e) (sym are) (lost_is e (record {
             name = r.name;
             place = r.place;
             row = r.row;
             at = r.stands;
             has_it = r.has_it;
-            gone = negated _ gone;
+            gone = not_from_false _ gone;
           })))
         where
           still : (r : RowOf before e) (o : Option Row) → slice_get (rows_in now r.name) r.place ≡ o → has (told_row o) e ≡ true → assigns now e ≡ true
           still r None at there = absurd (false≢true there)
           still r (Some row) at there = there_row now r.name r.place e row at there
-      go false was b is = is_false (has all e) (λ there.
+      go false was b is = false_from_ne_true (has all e) (λ there.
           let x = lost_e there in false≢true (sym was ∙ there_row before x.name x.place e x.row x.at x.has_it))

@@ -1,6 +1,6 @@
 -- What is cancelled by a table.
 use Rattle.std.proofs.Common.{◌≡◌, inl, inr, ℕ, Bool, true, false, cond, List, [], ◌∷◌, map, Option, Some, None, refl, sym, ◌∙◌}
-use Rattle.std.proofs.lemmas.Bool.{eqb-true, false≢true}
+use Rattle.std.proofs.lemmas.Bool.{eqb-true, false≢true, false_from_ne_true}
 use Rattle.std.specs.Prelude.{◌==◌}
 use Rattle.std.specs.Option.{option_map_or}
 use Rattle.import_rounds.specs.Rounds.{has}
@@ -29,12 +29,8 @@ module _ {R : Type 0} where
       found None at is = absurd (false≢true is)
       found (Some one) at is = found_in rows e one at
 
-      never : (b : Bool) → (b ≡ true → ⊥) → b ≡ false
-      never true bad = absurd (bad refl)
-      never false bad = refl
-
       go : (b : Bool) → is_cancelled rows e ≡ b → has (cancelled_in rows) e ≡ b
       go true is = in_has (cancelled_in rows) e
           (filter_in (is_cancelled rows) (map (λ (row : Row R). row.0) rows) e (found (execution_of rows e) refl is) is)
-      go false is = never (has (cancelled_in rows) e) (λ there.
+      go false is = false_from_ne_true (has (cancelled_in rows) e) (λ there.
           false≢true (sym is ∙ (in_filter (is_cancelled rows) (map (λ (row : Row R). row.0) rows) e (has_in (cancelled_in rows) e there)).1))

@@ -1,7 +1,6 @@
 -- What is visible is assigned.
 use Rattle.std.proofs.Common.{◌≡◌, ℕ, inl, true, zip}
-use Rattle.std.proofs.lemmas.Bool.{eqb-true}
-use Rattle.text_words.proofs.KnownTests.{both-parts}
+use Rattle.std.proofs.lemmas.Bool.{eqb-true, and_parts}
 use Rattle.std.specs.Prelude.{◌==◌, flat_map}
 use Rattle.exec_rules.specs.declared.row.Assigned.{Assigned}
 use Rattle.exec_rules.specs.declared.version.Version.{Version}
@@ -17,7 +16,7 @@ visible_assigned v e is =
     let node = in_flat commands (zip v.nodes v.assigned) found.0 found.1 in
     let at = in_zip v.nodes v.assigned node.0 node.1 in
     let here = in_zip node.0.0.1.entries node.0.1.rows found.0 node.2 in
-    let same = eqb-true found.0.1.evaluation e (both-parts (found.0.1.evaluation == e) found.0.0.visible found.2).0 in
+    let same = eqb-true found.0.1.evaluation e (and_parts (found.0.1.evaluation == e) found.0.0.visible found.2).0 in
     in_has (flat_map executions (flat_map (λ (a : Assigned). a.rows) v.assigned)) e
     (flat_in executions (flat_map (λ (a : Assigned). a.rows) v.assigned) found.0.1 e
     (flat_in (λ (a : Assigned). a.rows) v.assigned node.0.1 found.0.1 (at_in v.assigned at.0 node.0.1 at.2)

@@ -3,6 +3,7 @@ use Rattle.std.proofs.Common.{◌≡◌, inl, ℕ, Bool, true, false, cond, List
 use Rattle.std.proofs.lemmas.Bool.{eqb-true, false≢true}
 use Rattle.std.specs.Prelude.{◌==◌, slice_get, flat_map}
 use Rattle.std.specs.Option.{option_map_or}
+use Rattle.std.specs.Cmp.Derive.{one_truth}
 use Rattle.import_rounds.specs.Rounds.{has}
 use Rattle.shared_map.specs.Pairs.{IsSorted}
 use Rattle.doc_nodes.specs.declared.node.Entry.{Entry}
@@ -19,7 +20,6 @@ use Rattle.update_plans.proofs.Members.{In, at_in, in_has, in_front, in_back, fl
 use Rattle.update_plans.proofs.Named.{RowsOf, rows_of}
 use Rattle.update_plans.proofs.Visible.{SeenAt, seen_at, at_seen}
 use Rattle.update_plans.proofs.BesideRows.{beside_in}
-use Rattle.update_plans.proofs.SightsSee.{both_ways}
 
 module _ (before now : Version) (marks : List Bool) (f : Follows before now marks)
     (sorted_before : IsSorted in_order before.nodes) (sorted_now : IsSorted in_order now.nodes) where
@@ -67,7 +67,7 @@ module _ (before now : Version) (marks : List Bool) (f : Follows before now mark
 
   -- what is not told is seen as before
   pub others_seen : (e : ℕ) → has (map (λ (s : Sight). s.exec) all_sights) e ≡ false → is_visible now e ≡ is_visible before e
-  others_seen e untold = both_ways (is_visible now e) (is_visible before e) there back
+  others_seen e untold = one_truth (is_visible now e) (is_visible before e) there back
     where
       never : {A : Type 0} → Told e → A
       never told = absurd (false≢true (sym untold ∙ told))

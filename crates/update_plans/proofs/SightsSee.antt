@@ -1,9 +1,10 @@
 -- What is told of evaluations is so.
 use Rattle.std.proofs.Common.{◌≡◌, ◌⊎◌, inl, inr, ℕ, Bool, true, false, cond, List, [], ◌∷◌, ◌++◌, map, Option, Some, None, refl, ap, sym, subst, ◌∙◌}
-use Rattle.std.proofs.lemmas.Bool.{eq-eqb, false≢true}
+use Rattle.std.proofs.lemmas.Bool.{eq-eqb, false≢true, false_from_ne_true}
 use Rattle.std.specs.Prelude.{◌==◌, slice_get, flat_map, is_some}
 use Rattle.std.specs.List.{AllByRecursion}
 use Rattle.std.specs.Option.{option_map, option_map_or}
+use Rattle.std.specs.Cmp.Derive.{one_truth}
 use Rattle.import_rounds.specs.Rounds.{has}
 use Rattle.shared_map.specs.Pairs.{IsSorted}
 use Rattle.doc_nodes.specs.declared.node.Entry.{Entry}
@@ -14,23 +15,14 @@ use Rattle.exec_rules.specs.declared.version.Version.{Version}
 use Rattle.exec_rules.specs.Assigning.{entries_in, rows_in}
 use Rattle.exec_rules.specs.Listed.{executions}
 use Rattle.core_rules.specs.Assigned.{assigns, is_visible}
+use Rattle.core_rules.proofs.KnownNamedRows.{there_row}
 use Rattle.update_plans.specs.declared.seeing.Sight.{Sight}
 use Rattle.update_plans.specs.Beside.{is_marked, Follows}
 use Rattle.update_plans.specs.Sights.{seen_of, seen_in, unseen, hidden_of, hidden}
 use Rattle.update_plans.proofs.Members.{In, in_at, in_either, in_flat, in_map, each_in}
-use Rattle.update_plans.proofs.Named.{there_row, of_row}
+use Rattle.update_plans.proofs.Named.{of_row}
 use Rattle.update_plans.proofs.Visible.{SeenAt, seen_at, at_seen}
 use Rattle.update_plans.proofs.BesideRows.{OfRow, in_beside}
-
-is_false : (b : Bool) → (b ≡ true → ⊥) → b ≡ false
-is_false true never = absurd (never refl)
-is_false false never = refl
-
-pub both_ways : (a b : Bool) → (a ≡ true → b ≡ true) → (b ≡ true → a ≡ true) → a ≡ b
-both_ways true true f g = refl
-both_ways true false f g = sym (f refl)
-both_ways false true f g = g refl
-both_ways false false f g = refl
 
 one_of : {X : Type 0} (o : Option X) (x y : X) → o ≡ Some x → o ≡ Some y → x ≡ y
 one_of o x y p q = cc
@@ -64,7 +56,7 @@ module _ (before now : Version) (marks : List Bool) (f : Follows before now mark
 
   -- an evaluation is visible as its own row tells
   row_sees : (name : List ℕ) (i : ℕ) (row : Row) → slice_get (rows_in now name) i ≡ Some row → is_visible now row.evaluation ≡ is_some row.print
-  row_sees name i row at = both_ways (is_visible now row.evaluation) (is_some row.print) there back
+  row_sees name i row at = one_truth (is_visible now row.evaluation) (is_some row.print) there back
     where
       here : (entry : Entry) × (slice_get (entries_in now name) i ≡ Some entry) × (entry.visible ≡ is_some row.print)
       here = beside_row name i row at
@@ -106,7 +98,7 @@ module _ (before now : Version) (marks : List Bool) (f : Follows before now mark
   -- what a row before had, and the row at its place has not, is visible nowhere
   gone_hidden : (name : List ℕ) (i : ℕ) (row : Row) → slice_get (rows_in before name) i ≡ Some row
       → option_map_or (λ (r : Row). r.evaluation == row.evaluation) (slice_get (rows_in now name) i) false ≡ false → is_visible now row.evaluation ≡ false
-  gone_hidden name i row at gone = is_false (is_visible now row.evaluation) (λ is.
+  gone_hidden name i row at gone = false_from_ne_true (is_visible now row.evaluation) (λ is.
       let s : SeenAt now row.evaluation = seen_at now row.evaluation sorted_now is in
       let assigned = there_row before name i row.evaluation row at (evaluates row row.evaluation refl) in
       let kept : option_map (λ (r : Row). r.evaluation) (slice_get (rows_in before s.name) s.place) ≡ Some s.row.evaluation =

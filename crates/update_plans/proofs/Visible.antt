@@ -1,7 +1,6 @@
 -- An evaluation is visible where it stands beside a command that is.
 use Rattle.std.proofs.Common.{◌≡◌, ℕ, Bool, true, List, [], zip, Option, Some, ap, sym, ◌∙◌}
-use Rattle.std.proofs.lemmas.Bool.{eqb-true, eq-eqb}
-use Rattle.text_words.proofs.KnownTests.{both-parts, both-hold}
+use Rattle.std.proofs.lemmas.Bool.{eqb-true, eq-eqb, and_parts, and_from}
 use Rattle.std.specs.Prelude.{◌==◌, ◌&&◌, slice_get}
 use Rattle.std.specs.Option.{option_map_or, option_and_then}
 use Rattle.shared_map.specs.Pairs.{IsSorted}
@@ -9,13 +8,14 @@ use Rattle.doc_nodes.specs.declared.node.Entry.{Entry}
 use Rattle.doc_nodes.specs.declared.node.Node.{Node}
 use Rattle.doc_nodes.specs.Names.{in_order}
 use Rattle.doc_nodes.specs.Imports.{place_of}
+use Rattle.doc_nodes.proofs.KnownPlaces.{place_named}
 use Rattle.exec_rules.specs.declared.row.Row.{Row}
 use Rattle.exec_rules.specs.declared.row.Assigned.{Assigned}
 use Rattle.exec_rules.specs.declared.version.Version.{Version}
 use Rattle.exec_rules.specs.Assigning.{entries_at, entries_in, rows_in}
 use Rattle.core_rules.specs.Assigned.{assigned_commands, is_visible}
 use Rattle.update_plans.proofs.Members.{In, any_in, in_any, in_flat, flat_in, in_zip, zip_in}
-use Rattle.update_plans.proofs.Named.{RowsOf, rows_of, place_named}
+use Rattle.update_plans.proofs.Named.{RowsOf, rows_of}
 
 -- a visible command with its evaluation
 pub record SeenAt (v : Version) (e : ℕ) : Type 0 where
@@ -73,7 +73,7 @@ seen_at v e sorted is = record {
         ∙ ap (λ o. option_map_or (λ (a : Assigned). a.rows) o []) at.2
 
     parts : ((found.0.1.evaluation == e) ≡ true) × (found.0.0.visible ≡ true)
-    parts = both-parts (found.0.1.evaluation == e) found.0.0.visible found.2
+    parts = and_parts (found.0.1.evaluation == e) found.0.0.visible found.2
 
 pub at_seen : (v : Version) (e : ℕ) → SeenAt v e → is_visible v e ≡ true
 at_seen v e s =
@@ -84,4 +84,4 @@ at_seen v e s =
     (flat_in commands (zip v.nodes v.assigned) (r.node.pair, r.assigned) (s.entry, s.row)
     (zip_in v.nodes v.assigned r.place r.node.pair r.assigned r.node.stands r.at)
     (zip_in r.node.pair.1.entries r.assigned.rows s.place s.entry s.row entry row))
-    (both-hold (s.row.evaluation == e) s.entry.visible (eq-eqb s.row.evaluation e s.is) s.visible)
+    (and_from (s.row.evaluation == e) s.entry.visible (eq-eqb s.row.evaluation e s.is) s.visible)

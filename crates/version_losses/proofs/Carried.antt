@@ -1,15 +1,15 @@
 -- What is carried to the next version that stays.
 use Rattle.std.proofs.Common.{◌≡◌, ◌⊎◌, inl, inr, ℕ, ◌<◌, ◌≤◌, Bool, true, false, ◌||◌, List, [], ◌∷◌, ◌++◌, sym, ◌∙◌, arith}
-use Rattle.std.proofs.lemmas.Bool.{false≢true}
+use Rattle.std.proofs.lemmas.Bool.{false≢true, or_cases}
 use Rattle.import_rounds.specs.Rounds.{has}
-use Rattle.import_rounds.proofs.KnownRounds.{has_both}
+use Rattle.import_rounds.proofs.KnownHas.{has_both}
 use Rattle.doc_versions.specs.declared.versions.Live.{Live}
 use Rattle.exec_rules.specs.declared.version.Version.{Version}
 use Rattle.core_rules.specs.Assigned.{assigns, is_assigned}
 use Rattle.version_losses.specs.declared.losses.Loss.{Loss}
 use Rattle.version_losses.specs.Losses.{IsLoss}
 use Rattle.version_losses.specs.Leaving.{below}
-use Rattle.version_losses.proofs.Filtered.{either, below_is}
+use Rattle.version_losses.proofs.Filtered.{below_is}
 
 module _ (tip : Version) where
   -- what is carried: the last one that stays has it, and none behind
@@ -43,7 +43,7 @@ module _ (tip : Version) where
         Parts e = (has carried e ≡ true) ⊎ (has (below n loss.lost) e ≡ true)
 
         parts : (e : ℕ) → has (carried ++ below n loss.lost) e ≡ true → Parts e
-        parts e there = either (has carried e) (has (below n loss.lost) e) (sym (has_both carried (below n loss.lost) e) ∙ there)
+        parts e there = or_cases (has carried e) (has (below n loss.lost) e) (sym (has_both carried (below n loss.lost) e) ∙ there)
 
         older : (e : ℕ) → Parts e → e < n
         older e (inl here) = was.older e here

@@ -1,15 +1,15 @@
 -- None that stays has what goes with versions.
 use Rattle.std.proofs.Common.{◌≡◌, ◌⊎◌, inl, inr, ℕ, ◌<◌, ◌≤◌, Bool, true, false, cond, ◌&&◌, ◌||◌, List, [], ◌∷◌, ◌++◌, refl, ap, sym, ◌∙◌, arith}
-use Rattle.std.proofs.lemmas.Bool.{false≢true, le-ltb, cases_lt}
+use Rattle.std.proofs.lemmas.Bool.{false≢true, le-ltb, cases_lt, or_cases}
 use Rattle.import_rounds.specs.Rounds.{has}
-use Rattle.import_rounds.proofs.KnownRounds.{has_both}
+use Rattle.import_rounds.proofs.KnownHas.{has_both}
 use Rattle.doc_versions.specs.declared.versions.Live.{Live}
 use Rattle.exec_rules.specs.declared.version.Version.{Version}
 use Rattle.core_rules.specs.Assigned.{assigns, is_assigned}
 use Rattle.version_losses.specs.declared.losses.Loss.{Loss}
 use Rattle.version_losses.specs.Losses.{is_lost, AreLosses}
 use Rattle.version_losses.specs.Leaving.{is_named, from, gone_from}
-use Rattle.version_losses.proofs.Filtered.{either, none_from, from_is, rest, none_stays, rest_gone, rest_kept}
+use Rattle.version_losses.proofs.Filtered.{none_from, from_is, rest, none_stays, rest_gone, rest_kept}
 
 module _ (tip : Version) (top : ℕ) (e : ℕ) (ids : List ℕ) where
   -- what stays does not have it
@@ -74,7 +74,7 @@ module _ (tip : Version) (top : ℕ) (e : ℕ) (ids : List ℕ) where
               ∙ more ge there
 
       parts : (more : List ℕ) → (has more e ≡ true → Off (one ∷ live)) → has (from n loss.lost ++ more) e ≡ true → Off (one ∷ live)
-      parts more then there = by (either (has (from n loss.lost) e) (has more e) (sym (has_both (from n loss.lost) more e) ∙ there))
+      parts more then there = by (or_cases (has (from n loss.lost) e) (has more e) (sym (has_both (from n loss.lost) more e) ∙ there))
         where
           by : (has (from n loss.lost) e ≡ true) ⊎ (has more e ≡ true) → Off (one ∷ live)
           by (inl here) = lost here

@@ -1,16 +1,17 @@
 -- What live versions had stays or goes.
 use Rattle.std.proofs.Common.{◌≡◌, ◌⊎◌, inl, inr, ℕ, ◌<◌, ◌≤◌, Bool, true, false, cond, not, ◌&&◌, ◌||◌, List, [], ◌∷◌, ◌++◌, refl, ap, sym, subst, ◌∙◌, arith}
-use Rattle.std.proofs.lemmas.Bool.{false≢true, or_left, or_right, lt-ltb, cases_lt}
+use Rattle.std.proofs.lemmas.Bool.{false≢true, or_left, or_right, lt-ltb, cases_lt, or_cases}
 use Rattle.std.specs.Prelude.{nat_lt}
+use Rattle.std.specs.Cmp.{second_so}
 use Rattle.import_rounds.specs.Rounds.{has}
-use Rattle.import_rounds.proofs.KnownRounds.{has_both}
+use Rattle.import_rounds.proofs.KnownHas.{has_both}
 use Rattle.doc_versions.specs.declared.versions.Live.{Live}
 use Rattle.exec_rules.specs.declared.version.Version.{Version}
 use Rattle.core_rules.specs.Assigned.{assigns, is_assigned}
 use Rattle.version_losses.specs.declared.losses.Loss.{Loss}
 use Rattle.version_losses.specs.Losses.{is_lost, AreLosses}
 use Rattle.version_losses.specs.Leaving.{is_named, from, gone_from}
-use Rattle.version_losses.proofs.Filtered.{either, also_from, rest, rest_gone, rest_kept, Ends}
+use Rattle.version_losses.proofs.Filtered.{also_from, rest, rest_gone, rest_kept, Ends}
 
 module _ (tip : Version) (top : ℕ) (e : ℕ) where
   -- what one of them has, is lost later or the tip has
@@ -19,19 +20,15 @@ module _ (tip : Version) (top : ℕ) (e : ℕ) where
   had m [] [] are is = absurd (false≢true is)
   had m [] (one ∷ live) are is = absurd are
   had m (loss ∷ later) [] are is = absurd are
-  had m (loss ∷ later) (one ∷ live) are is = go (either (assigns one.version e) (is_assigned live e) is) (had loss.next later live are.1)
+  had m (loss ∷ later) (one ∷ live) are is = go (or_cases (assigns one.version e) (is_assigned live e) is) (had loss.next later live are.1)
     where
       more : (a b t : Bool) → (b || t) ≡ true → ((a || b) || t) ≡ true
       more true b t is = refl
       more false b t is = is
 
-      second : (a b : Bool) → (a && b) ≡ true → b ≡ true
-      second true b is = is
-      second false b is = absurd (false≢true is)
-
       go : (assigns one.version e ≡ true) ⊎ (is_assigned live e ≡ true)
           → (is_assigned live e ≡ true → (is_lost later e || assigns tip e) ≡ true) → (is_lost (loss ∷ later) e || assigns tip e) ≡ true
-      go (inl here) rest = more (has loss.lost e) (is_lost later e) (assigns tip e) (second (nat_lt e loss.next) _ (sym (are.0.has_so e) ∙ here))
+      go (inl here) rest = more (has loss.lost e) (is_lost later e) (assigns tip e) (second_so (nat_lt e loss.next) _ (sym (are.0.has_so e) ∙ here))
       go (inr there) rest = more (has loss.lost e) (is_lost later e) (assigns tip e) (rest there)
 
   module _ (ids : List ℕ) where
@@ -63,7 +60,7 @@ module _ (tip : Version) (top : ℕ) (e : ℕ) where
         ended b so = subst (λ x. Ends ids (not x) live) (named b so) ends
 
         some : (more : List ℕ) → (is_assigned (rest ids live) e || has more e) ≡ true → (is_assigned (rest ids live) e || has (from n loss.lost ++ more) e) ≡ true
-        some more there = by (either (is_assigned (rest ids live) e) (has more e) there)
+        some more there = by (or_cases (is_assigned (rest ids live) e) (has more e) there)
           where
             by : (is_assigned (rest ids live) e ≡ true) ⊎ (has more e ≡ true) → (is_assigned (rest ids live) e || has (from n loss.lost ++ more) e) ≡ true
             by (inl here) = or_left _ _ here
@@ -82,7 +79,7 @@ module _ (tip : Version) (top : ℕ) (e : ℕ) where
 
             by : (e < loss.next) ⊎ (loss.next ≤ e) → (is_assigned (one ∷ rest ids live) e || has more e) ≡ true
             by (inl lt) = or_left _ _ (or_left _ _ (are.0.has_so e ∙ ap (λ b. b && (is_lost later e || assigns tip e)) (lt-ltb e loss.next lt) ∙ there))
-            by (inr ge) = later_one (either _ _ (then ge there))
+            by (inr ge) = later_one (or_cases _ _ (then ge there))
 
         go : (b : Bool) → is_named ids loss.id ≡ b → (w : Bool) → whole ≡ w → (x : Bool) → has loss.lost e ≡ x
             → ((x || is_lost later e) || assigns tip e) ≡ true → (Ends ids false live → After later live n false)

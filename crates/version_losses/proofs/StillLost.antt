@@ -1,19 +1,15 @@
 -- What is older than the last version that stays is lost as before.
 use Rattle.std.proofs.Common.{◌≡◌, ℕ, ◌<◌, ◌≤◌, Bool, true, false, cond, not, ◌||◌, List, [], ◌∷◌, ◌++◌, refl, ap, sym, subst, ◌∙◌, arith}
 use Rattle.std.proofs.lemmas.Bool.{false≢true}
+use Rattle.std.proofs.Math.Bool.{or_assoc}
 use Rattle.import_rounds.specs.Rounds.{has}
-use Rattle.import_rounds.proofs.KnownRounds.{has_both}
+use Rattle.import_rounds.proofs.KnownHas.{has_both}
 use Rattle.doc_versions.specs.declared.versions.Live.{Live}
 use Rattle.exec_rules.specs.declared.version.Version.{Version}
 use Rattle.version_losses.specs.declared.losses.Loss.{Loss}
 use Rattle.version_losses.specs.Losses.{is_lost, AreLosses}
 use Rattle.version_losses.specs.Leaving.{is_named, below, left_from}
 use Rattle.version_losses.proofs.Filtered.{has_below, Ends}
-
--- what has an execution, and what of it is older
-regrouped : (c x l : Bool) → ((c || x) || l) ≡ (c || (x || l))
-regrouped true x l = refl
-regrouped false x l = refl
 
 swapped : (c x l : Bool) → (x || (c || l)) ≡ (c || (x || l))
 swapped true true l = refl
@@ -52,10 +48,10 @@ module _ (tip : Version) (top : ℕ) (ids : List ℕ) where
           ≡ (has carried e || (has loss.lost e || is_lost later e))
       go true so w is gone stays =
           gone (ended true so)
-          ∙ ap (λ b. b || is_lost later e) taken ∙ regrouped (has carried e) (has loss.lost e) (is_lost later e)
+          ∙ ap (λ b. b || is_lost later e) taken ∙ or_assoc (has carried e) (has loss.lost e) (is_lost later e)
       go false so true is gone stays =
           ap (λ b. has loss.lost e || b) (stays carried (bare is) (ended false so))
           ∙ swapped (has carried e) (has loss.lost e) (is_lost later e)
       go false so false is gone stays =
           ap (λ b. has (carried ++ below n loss.lost) e || b) (stays [] refl (ended false so))
-          ∙ ap (λ b. b || is_lost later e) taken ∙ regrouped (has carried e) (has loss.lost e) (is_lost later e)
+          ∙ ap (λ b. b || is_lost later e) taken ∙ or_assoc (has carried e) (has loss.lost e) (is_lost later e)

@@ -1,9 +1,8 @@
 -- A body encodes at most one value.
 use Rattle.std.proofs.Common.{◌≡◌, ◌≢◌, ℕ, ◌<◌, ◌+◌, ◌^◌, Bool, true, false, List, [], ◌∷◌, ◌++◌, length, Option, Some, None, MatchBool, refl, sym, ap, ◌∙◌, decimal}
 use Rattle.std.specs.Prelude.{ℤ}
-use Rattle.std.proofs.lemmas.Fmt.{signed_decimal_injective, decimal_is_IsNumeral}
+use Rattle.std.proofs.lemmas.Fmt.{signed_decimal_injective, decimal_injective}
 use Rattle.std.proofs.lemmas.List.{length-map, append_cancel_right}
-use Rattle.std.specs.Str.Parse.{digits_value}
 use Rattle.xml_tree.specs.declared.tree.Attribute.{Attribute}
 use Rattle.xml_tree.specs.declared.tree.Tree.{Tree}
 use Rattle.xml_tree.specs.declared.tree.Tree.TheVariants.{Elem, Text}
@@ -65,16 +64,13 @@ numbered_one n (x ∷ xs) (y ∷ ys) e =
     let value : x ≡ y = ap (λ (a : Attribute). a.value) first in
     let k = numbered_one (n + 1) xs ys others in cc
 
-decimal_one : (i j : ℕ) → i < 2 ^ 64 → j < 2 ^ 64 → decimal i ≡ decimal j → i ≡ j
-decimal_one i j p q e = sym (decimal_is_IsNumeral i p).1 ∙ ap (digits_value 10) e ∙ (decimal_is_IsNumeral j q).1
-
 pub variant_one : (i j : ℕ) (s t : List (List ℕ)) (a b : List Tree) → i < 2 ^ 64 → j < 2 ^ 64
     → variant_body i s a ≡ variant_body j t b → (i ≡ j) × (s ≡ t) × (a ≡ b)
 variant_one i j s t a b p q e =
     let whole : Elem (decimal i) (numbered_from 0 s) a ≡ Elem (decimal j) (numbered_from 0 t) b = cc in
     let names : decimal i ≡ decimal j = cc in
     let attributes : numbered_from 0 s ≡ numbered_from 0 t = cc in
-    (decimal_one i j p q names, numbered_one 0 s t attributes, inside_same _ _ _ _ a b whole)
+    (decimal_injective i j p q names, numbered_one 0 s t attributes, inside_same _ _ _ _ a b whole)
 
 other_none : (before : List (List Tree)) (child : Tree) (behind : List Tree) → ((inside : List Tree) → child ≢ node inside)
     → (items : List (List Tree)) → list_body before ++ child ∷ behind ≢ list_body items

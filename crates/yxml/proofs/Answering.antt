@@ -12,29 +12,17 @@ use Rattle.yxml.specs.declared.fault.YxmlFault.{YxmlFault}
 use Rattle.yxml.specs.declared.fault.YxmlFault.TheVariants.{Unbalanced}
 use Rattle.yxml.specs.Answer.{answer_by, body_in}
 use Rattle.yxml.specs.Reading.{said, is_x, is_y, nesting_fault, marks_said, marks_from, marks_in, first_fault, fault_in}
-use Rattle.yxml.specs.Spelling.{onto, merged, Spells}
+use Rattle.yxml.specs.Spelling.{merged, Spells}
 use Rattle.yxml.proofs.Depths.{chunks-within, or_later-None}
 use Rattle.yxml.proofs.Joining.{merged-within}
 use Rattle.yxml.proofs.Spelled.{one_body}
+use Rattle.yxml.proofs.KnownMerged.{merged_open}
 
 open_after-append : (d : ℕ) (xs ys : List Mark) → open_after d (xs ++ ys) ≡ open_after (open_after d xs) ys
 open_after-append d [] ys = refl
 open_after-append d (opening name attributes ∷ xs) ys = open_after-append (d + 1) xs ys
 open_after-append d (closing ∷ xs) ys = open_after-append (d - 1) xs ys
 open_after-append d (words text ∷ xs) ys = open_after-append d xs ys
-
-words-open : (d : ℕ) (s : List ℕ) (ms : List Mark) → open_after d (onto (words s) ms) ≡ open_after d ms
-words-open d s [] = refl
-words-open d s (words t ∷ ms) = refl
-words-open d s (opening name attributes ∷ ms) = refl
-words-open d s (closing ∷ ms) = refl
-
--- merging texts opens and closes nothing
-merged-open : (d : ℕ) (ms : List Mark) → open_after d (merged ms) ≡ open_after d ms
-merged-open d [] = refl
-merged-open d (opening name attributes ∷ ms) = merged-open (d + 1) ms
-merged-open d (closing ∷ ms) = merged-open (d - 1) ms
-merged-open d (words s ∷ ms) = words-open d s (merged ms) ∙ merged-open d ms
 
 none-open : (d end : ℕ) (b : Bool) → (d == 0) ≡ b
     → (let o : Option YxmlFault = if b then None else Some (Unbalanced end) in o ≡ None) → d ≡ 0
@@ -56,7 +44,7 @@ pub spelled : (text : List ℕ) → fault_in text ≡ None → Spells text (body
 spelled text e =
     let within = merged-within 0 (marks_in text) (chunks-within 0 0 (slice_split is_x text) (length text) e) in
     let closes = within-closes 0 (merged (marks_in text)) within in
-    let none = merged-open 0 (marks_in text) ∙ chunks-balanced 0 0 (slice_split is_x text) (length text) e in
+    let none = merged_open 0 (marks_in text) ∙ chunks-balanced 0 0 (slice_split is_x text) (length text) e in
     record { faultless = e; same = sym (balanced-marks (merged (marks_in text)) (closes, none)) }
 
 ok_same : (ms : List Mark) (body : List Tree) → answer_by None ms ≡ Ok body → body_of ms ≡ body

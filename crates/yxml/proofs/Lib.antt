@@ -1,3 +1,5 @@
+pub mod KnownPieces
+pub mod KnownMerged
 mod Answering
 mod Attributes
 mod Builders

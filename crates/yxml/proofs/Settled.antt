@@ -3,17 +3,12 @@ use Rattle.std.proofs.Common.{◌≡◌, ℕ, List, [], ◌∷◌, ◌++◌, ref
 use Rattle.xml_tree.specs.Marks.{Mark, opening, closing, words}
 use Rattle.yxml.specs.Spelling.{onto, merged}
 use Rattle.yxml.specs.Builder.{IsSettled, text_marks}
-
-onto-onto : (s t : List ℕ) (ms : List Mark) → onto (words s) (onto (words t) ms) ≡ onto (words (s ++ t)) ms
-onto-onto s t [] = refl
-onto-onto s t (opening name attributes ∷ ms) = refl
-onto-onto s t (closing ∷ ms) = refl
-onto-onto s t (words u ∷ ms) = ap (λ x. words x ∷ ms) (sym (append_assoc s t u))
+use Rattle.yxml.proofs.KnownMerged.{onto_onto}
 
 -- it makes no difference which texts are merged first
 pub merged-words : (ms : List Mark) (s t : List ℕ) (rest : List Mark)
     → merged (ms ++ words (s ++ t) ∷ rest) ≡ merged (ms ++ words s ∷ words t ∷ rest)
-merged-words [] s t rest = sym (onto-onto s t (merged rest))
+merged-words [] s t rest = sym (onto_onto s t (merged rest))
 merged-words (m ∷ ms) s t rest = ap (onto m) (merged-words ms s t rest)
 
 pub settled-none : IsSettled []

@@ -1,5 +1,5 @@
 use Rattle.core_rules.proofs.Facts.{facts_from}
-use Rattle.core_rules.proofs.NamedRows.{there_row}
+use Rattle.core_rules.proofs.KnownNamedRows.{there_row}
 use Rattle.core_rules.proofs.HomesLaw.{tip_found, tip_once}
 use Rattle.core_rules.proofs.laws.places_law.Goals as goal
 

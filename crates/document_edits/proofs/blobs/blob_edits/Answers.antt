@@ -1,8 +1,8 @@
 use Rattle.std.proofs.Common.{◌≡◌, ◌-◌, ◌∷◌, List, [], length, take, drop, sym, ap, ◌∙◌}
 use Rattle.std.proofs.lemmas.List.{take_rest}
+use Rattle.text_words.proofs.KnownLists.{first_and_rest}
 use Rattle.message_values.specs.declared.item.BlobChange.{BlobChange}
 use Rattle.buffer_rules.specs.Updates.{blobs_after}
-use Rattle.document_edits.proofs.DraftLemmas.{head_tail}
 use Rattle.document_edits.proofs.NameSets.{next_change}
 use Rattle.document_edits.proofs.blobs.blob_edits.Goals as goal
 
@@ -14,7 +14,7 @@ each-preserved c =
     let before = c.args.before.now in
     let names = c.each.invariant.rest.0 in
     let are = c.each.invariant.rest.1 in
-    let split : rest ≡ change ∷ more = head_tail rest change c.in-len1-up.len_at_least c.change-item.is in
+    let split : rest ≡ change ∷ more = first_and_rest rest change c.in-len1-up.len_at_least c.change-item.is in
     let slice : take (length rest - 1) more ≡ more = take_rest rest 1 in
     record {
       rest = (

@@ -4,7 +4,7 @@ use Rattle.std.specs.List.Sorted.{IsStrictlyIncreasing}
 use Rattle.std.proofs.lemmas.List.Filters.{dedup_is}
 use Rattle.std.proofs.lemmas.Map.Keys.{IsStrictlyIncreasing-dedup}
 use Rattle.import_rounds.specs.Rounds.{has}
-use Rattle.exec_lists.proofs.Risen.{same_numbers}
+use Rattle.import_rounds.proofs.KnownHas.{same_numbers}
 use Rattle.exec_lists.proofs.gathering.rising.Goals as goal
 
 pub returns-clause-rises : goal.returns-clause-rises

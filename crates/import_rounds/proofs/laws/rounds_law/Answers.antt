@@ -1,4 +1,5 @@
-use Rattle.import_rounds.proofs.KnownRounds.{is_order, all_ordered}
+use Rattle.import_rounds.proofs.KnownRounds.{is_order}
+use Rattle.import_rounds.proofs.KnownOrdered.{all_ordered}
 use Rattle.import_rounds.proofs.laws.rounds_law.Goals as goal
 
 pub returns-clause-nodes : goal.returns-clause-nodes

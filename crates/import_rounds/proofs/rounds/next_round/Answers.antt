@@ -4,7 +4,7 @@ use Rattle.std.proofs.lemmas.List.{get_or_default}
 use Rattle.import_rounds.specs.Looks.{IsDue}
 use Rattle.import_rounds.specs.Rounds.{has}
 use Rattle.import_rounds.specs.Importers.{list_at}
-use Rattle.import_rounds.proofs.Has.{has_at, place_of}
+use Rattle.import_rounds.proofs.KnownHas.{has_at, has_contained}
 use Rattle.import_rounds.proofs.Steps.{sound_all}
 use Rattle.import_rounds.proofs.RoundLemmas.{round_is, due_imports}
 use Rattle.import_rounds.proofs.rounds.next_round.Goals as goal
@@ -46,7 +46,7 @@ returns-clause-round c = λ ordered are is. round_is c.args.rows.now c.args.mark
     (λ p h. c.last.invariant.sound p (sym (c.in_order.ensures.same p) ∙ h))
     (λ p due.
     let i = due_imports c.args.rows.now c.args.marks.now ordered c.args.last.now are is p due in
-    let k = place_of c.args.last.now i.1 i.4 in
+    let k = has_contained c.args.last.now i.1 i.4 in
     let place : get_or c.args.last.now k.0 0 ≡ i.1 = get_or_default c.args.last.now k.0 0 i.1 k.1 ∙ k.2 in
     let imports = c.requires.importers.complete p i.0 i.1 due.in_range i.2 i.3 (c.requires.last i.1 i.4) in
     c.in_order.ensures.same p

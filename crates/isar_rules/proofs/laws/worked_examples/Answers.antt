@@ -1,9 +1,10 @@
 use Rattle.std.proofs.Common.{refl, ap, ◌∷◌, ◌++◌}
 use Rattle.std.specs.Fmt.{digits}
+use Rattle.nj_formula.proofs.KnownFormulas.{out-Implies}
 use Rattle.isar_rules.specs.Places.{refused, accepted, no_subgoal}
 use Rattle.isar_rules.specs.WorkedProofs.{not_p}
 use Rattle.suggest_rules.proofs.KnownSuggestions.{swaps, swaps_text, none, no_fact}
-use Rattle.isar_rules.proofs.Printing.{p_text, implies_text, not_p_text, itself_text, swapped_text, swap_text, peirce_text, ab_text, ba_text, out-Implies}
+use Rattle.isar_rules.proofs.Printing.{p_text, implies_text, not_p_text, itself_text, swapped_text, swap_text, peirce_text, ab_text, ba_text}
 use Rattle.isar_rules.proofs.Showing.{fix_accepted, show_state, show_reports}
 use Rattle.isar_rules.proofs.Quantified.{quantified_text}
 use Rattle.isar_rules.proofs.Forking.{unknown, theory_fact, local_fact, own_fact}

@@ -1,9 +1,10 @@
 use Rattle.std.proofs.Common.{ap, sym, ◌∙◌}
 use Rattle.std.specs.Option.{option_map}
+use Rattle.text_words.proofs.KnownLists.{found_passes}
 use Rattle.shared_map.specs.Lent.{lent}
 use Rattle.doc_nodes.specs.Names.{equal}
-use Rattle.exec_rules.proofs.KnownNames.{name_is}
-use Rattle.job_inputs.proofs.CalledNode.{found_passes, none_placed}
+use Rattle.doc_nodes.proofs.KnownNames.{name_is}
+use Rattle.job_inputs.proofs.CalledNode.{none_placed}
 use Rattle.job_inputs.proofs.called.node_called.Goals as goal
 
 pub returns-in-Some-clause-some : goal.returns-in-Some-clause-some

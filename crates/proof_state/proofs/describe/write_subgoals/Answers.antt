@@ -1,5 +1,5 @@
 use Rattle.std.proofs.Common.{rules, ◌≡◌, ◌<◌, ◌≤◌, ◌∷◌, ◌++◌, length, string_bytes, codes}
-use Rattle.proof_state.proofs.LocalLemmas.{item_first}
+use Rattle.text_words.proofs.KnownLists.{rest_at}
 use Rattle.proof_state.proofs.TextLemmas.{leads_on, leads_end}
 use Rattle.proof_state.proofs.describe.write_subgoals.Goals as goal
 
@@ -9,7 +9,7 @@ loop-subgoal-preserved c =
     let within : c.loop-subgoal.subgoal-index < length c.args.subgoals.now = search rules in
     leads_on (string_bytes c.args.text.now) (string_bytes c.loop-subgoal.text) (string_bytes c.push_str.new.self)
     (string_bytes c.write_subgoal.new.text) c.args.subgoals.now c.loop-subgoal.subgoal-index c.subgoal-item.result
-    (item_first c.args.subgoals.now c.loop-subgoal.subgoal-index c.subgoal-item.result within c.subgoal-item.is)
+    (rest_at c.args.subgoals.now c.loop-subgoal.subgoal-index c.subgoal-item.result within c.subgoal-item.is)
     line c.in_ok-write_subgoal.ensures c.loop-subgoal.invariant
 
 pub returns : goal.returns

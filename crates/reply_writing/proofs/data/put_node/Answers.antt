@@ -1,13 +1,14 @@
 -- By its pieces.
 use Rattle.std.proofs.Common.{map, string_bytes}
+use Rattle.report_markup.proofs.KnownPieces.{last_piece}
 use Rattle.xml_codec.specs.Data.{list_body}
 use Rattle.reply_writing.specs.Bodies.{row_body}
 use Rattle.reply_writing.specs.Lent.{row_of}
-use Rattle.reply_writing.proofs.KnownNodes.{end, named_pieces, ends_with}
+use Rattle.reply_writing.proofs.KnownNodes.{end, named_pieces}
 use Rattle.reply_writing.proofs.data.put_node.Goals as goal
 
 pub returns : goal.returns
-returns c = ends_with c.push_str-7.result _ (string_bytes c.push_str-6.new.self) end _ c.push_str-7.ensures.bytes
+returns c = last_piece c.push_str-7.result _ (string_bytes c.push_str-6.new.self) end _ c.push_str-7.ensures.bytes
     (rw (
       c.in_ok-push_str-6.ensures.bytes,
       c.in_ok-put_rows.ensures,

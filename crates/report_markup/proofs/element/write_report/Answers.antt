@@ -6,9 +6,10 @@ use Rattle.yxml.specs.Spelling.{yxml}
 use Rattle.report_markup.specs.declared.property.Property.{Property}
 use Rattle.report_markup.specs.declared.report.Report.{Report}
 use Rattle.report_markup.specs.Element.{element, property_attribute}
-use Rattle.report_markup.proofs.Numbers.{offsets_fit}
-use Rattle.report_markup.proofs.Written.{pieces, normal, on_ok, last_piece}
+use Rattle.report_markup.proofs.KnownNumbers.{offsets_fit}
+use Rattle.report_markup.proofs.Written.{pieces, normal, on_ok}
 use Rattle.report_markup.proofs.element.write_report.Goals as goal
+use Rattle.report_markup.proofs.KnownPieces.{last_piece}
 
 pub returns-clause-bytes : goal.returns-clause-bytes
 returns-clause-bytes c =

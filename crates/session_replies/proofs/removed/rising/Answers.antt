@@ -4,8 +4,8 @@ use Rattle.std.specs.List.Sorted.{IsStrictlyIncreasing}
 use Rattle.std.proofs.lemmas.List.Filters.{dedup_is}
 use Rattle.std.proofs.lemmas.Map.Keys.{IsStrictlyIncreasing-dedup}
 use Rattle.import_rounds.specs.Rounds.{has}
+use Rattle.import_rounds.proofs.KnownHas.{same_numbers}
 use Rattle.session_replies.proofs.RisingNumbers.{increasing, rising}
-use Rattle.session_replies.proofs.OnceEach.{same_once}
 use Rattle.session_replies.proofs.removed.rising.Goals as goal
 
 pub returns : goal.returns
@@ -17,6 +17,6 @@ returns c =
       rises = rising 0 left (increasing left (subst IsStrictlyIncreasing (sym e)
           (IsStrictlyIncreasing-dedup ordered c.sort_unstable.ensures.sorted)));
       same = λ x. ap (λ xs. has xs x) e
-          ∙ same_once c.in_ok-risen.risen.items ordered c.sort_unstable.ensures.permutation x
+          ∙ same_numbers c.in_ok-risen.risen.items ordered c.sort_unstable.ensures.permutation x
           ∙ ap (λ xs. has xs x) c.in_ok-risen.ensures.items;
     }

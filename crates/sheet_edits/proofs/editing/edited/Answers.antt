@@ -1,10 +1,11 @@
 use Rattle.std.proofs.Common.{◌≡◌, ◌-◌, List, [], ◌∷◌, length, map, take, drop, sym, ap, subst, ◌∙◌, arith}
 use Rattle.std.proofs.lemmas.List.{take_rest, nil_from_length}
+use Rattle.text_words.proofs.KnownLists.{first_and_rest}
 use Rattle.text_edits.specs.declared.edit.Edit.{Edit}
 use Rattle.sheet_edits.specs.Held.{text_of}
 use Rattle.buffer_rules.specs.Texts.{edit_all}
 use Rattle.buffer_rules.specs.Sheets.{converted}
-use Rattle.sheet_edits.proofs.SheetLemmas.{next_edit, head_tail}
+use Rattle.sheet_edits.proofs.SheetLemmas.{next_edit}
 use Rattle.sheet_edits.proofs.MovedRanges.{converted_then, converted_none}
 use Rattle.sheet_edits.proofs.editing.edited.Goals as goal
 
@@ -15,7 +16,7 @@ each-preserved c =
     let more = drop 1 rest in
     let text = text_of c.each.made.text in
     let after = text_of c.in_ok-made.made.text in
-    let split : rest ≡ edit ∷ more = head_tail rest edit c.in-len1-up.len_at_least c.edit-item.is in
+    let split : rest ≡ edit ∷ more = first_and_rest rest edit c.in-len1-up.len_at_least c.edit-item.is in
     let slice : take (length rest - 1) more ≡ more = take_rest rest 1 in
     record {
       text = subst (λ (es : List Edit). edit_all es after ≡ edit_all c.args.edits.now (text_of c.args.old.text)) (sym slice)

@@ -1,5 +1,5 @@
 use Rattle.sheet_edits.specs.Held.{text_of}
-use Rattle.sheet_edits.proofs.EditSteps.{out_of_range, another}
+use Rattle.sheet_edits.proofs.KnownEditSteps.{out_of_range, another}
 use Rattle.sheet_edits.proofs.editing.edited_once.Goals as goal
 
 pub returns-in-Err-OutOfRange-clause-text : goal.returns-in-Err-OutOfRange-clause-text

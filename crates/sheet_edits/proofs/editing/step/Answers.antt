@@ -5,7 +5,7 @@ use Rattle.sheet_edits.specs.Held.{text_of}
 use Rattle.text_edits.specs.Edits.{Applies}
 use Rattle.buffer_rules.specs.Texts.{edit_once}
 use Rattle.sheet_edits.specs.Within.{AreWithin, IsSmall, moved}
-use Rattle.sheet_edits.proofs.EditSteps.{made}
+use Rattle.sheet_edits.proofs.KnownEditSteps.{made}
 use Rattle.sheet_edits.proofs.MovedRanges.{moved_within, moved_small}
 use Rattle.sheet_edits.proofs.editing.step.Goals as goal
 

@@ -2,8 +2,9 @@
 use Rattle.std.proofs.Common.{◌+◌, ◌++◌, List, ℕ, Option, arith, length, take}
 use Rattle.std.specs.Io.KnownBytes.{Consumes}
 use Rattle.text_input.specs.Reading.{TookSo}
-use Rattle.text_input.proofs.Pulling.{on_err, pulled_more}
+use Rattle.text_input.proofs.Pulling.{pulled_more}
 use Rattle.text_input.proofs.reading.pull_more.Goals as goal
+use Rattle.text_input.proofs.KnownErrors.{on_err}
 
 pub returns-in_err-extend_from_slice-in-Bytes-clause-err :
     goal.returns-in_err-extend_from_slice-in-Bytes-clause-err

@@ -1,11 +1,12 @@
 use Rattle.std.proofs.Common.{◌≡◌, ◌-◌, ◌↔◌, IsTrue, List, ◌∷◌, length, take, drop, sym, ap, subst, ◌∙◌}
 use Rattle.std.proofs.lemmas.List.{take_rest}
+use Rattle.text_words.proofs.KnownLists.{first_and_rest}
 use Rattle.message_values.specs.declared.item.Item.{Item}
 use Rattle.buffer_rules.specs.Trying.{steps}
 use Rattle.buffer_rules.specs.Sheets.{item_once}
 use Rattle.document_edits.specs.Standing.{sheets_of}
 use Rattle.document_edits.specs.Heads.{KeepHeaders}
-use Rattle.document_edits.proofs.DraftLemmas.{head_tail, next_item}
+use Rattle.document_edits.proofs.DraftLemmas.{next_item}
 use Rattle.document_edits.proofs.KeptHeaders.{keep_next, stand_next}
 use Rattle.document_edits.proofs.draft.Draft.with_items.Goals as goal
 
@@ -17,7 +18,7 @@ each-preserved c =
     let draft = c.each.draft in
     let after = c.in_ok-draft.draft in
     let now = sheets_of draft.opened in
-    let split : rest ≡ item ∷ more = head_tail rest item c.in-len1-up.len_at_least c.item-item.is in
+    let split : rest ≡ item ∷ more = first_and_rest rest item c.in-len1-up.len_at_least c.item-item.is in
     let slice : take (length rest - 1) more ≡ more = take_rest rest 1 in
     let told = c.in_ok-draft.ensures in
     let Whole : Type 0 = IsTrue c.args.self.headers_stand × KeepHeaders c.args.items.now (sheets_of c.args.self.opened) in

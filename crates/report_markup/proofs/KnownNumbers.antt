@@ -14,7 +14,7 @@ digit : (n : ℕ) → n < 10 → IsPlain ((48 + n) ∷ [])
 digit n small =
     ((ne_eqb _ _ (λ e. absurd (omega (arith, e))), tt), (ne_eqb _ _ (λ e. absurd (omega (arith, e))), tt))
 
-plain-decimal : (n : ℕ) → n < 2 ^ 64 → IsPlain (decimal n)
+pub plain-decimal : (n : ℕ) → n < 2 ^ 64 → IsPlain (decimal n)
 plain-decimal = decimal_by_steps (λ n ds. IsPlain ds) digit
     (λ n ds ten plain. let last = digit (n % 10) (omega arith) in
     (All-append _ ds _ plain.0 last.0, All-append _ ds _ plain.1 last.1))

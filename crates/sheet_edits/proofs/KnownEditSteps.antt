@@ -3,13 +3,12 @@ use Rattle.std.proofs.Common.{◌≡◌, ◌↔◌, ℕ, ◌+◌, Bool, true, fa
 use Rattle.std.specs.Prelude.{nat_lt}
 use Rattle.std.proofs.lemmas.Bool.{cond-true, cond-false}
 use Rattle.std.proofs.lemmas.Bool.Decides.{nat_tests}
-use Rattle.std.proofs.lemmas.Slice.Eq.{bytes_eq-Decides}
-use Rattle.std.proofs.lemmas.Map.Text.{is_eq-slice_cmp}
 use Rattle.text_edits.specs.declared.edit.Edit.{Edit}
 use Rattle.text_edits.specs.declared.edit.Edit.TheVariants.{Insert, Remove}
 use Rattle.text_edits.specs.Edits.{Applies, AppliesList}
 use Rattle.text_edits.specs.Faults.{IsOutOfRange, DiffersAt}
 use Rattle.doc_nodes.specs.Names.{equal}
+use Rattle.doc_nodes.proofs.KnownNames.{name_is}
 use Rattle.message_values.specs.declared.refusal.Refusal.{Refusal}
 use Rattle.message_values.specs.declared.refusal.Refusal.TheVariants.{EditOutOfRange, RemoveDiffers}
 use Rattle.buffer_rules.specs.Trying.{◌>>=◌}
@@ -48,11 +47,8 @@ out_of_range (Remove place x) text start len (above, a, b) =
     cond-true (nat_lt (length text) (place + length x)) (Err EditOutOfRange)
     (cond (differs (Remove place x) text) (Err RemoveDiffers) (Ok (edited (Remove place x) text))) out
 
-equal_so : (xs ys : List ℕ) → equal xs ys ≡ true → xs ≡ ys
-equal_so xs ys e = grind (arith, bytes_eq-Decides xs ys, is_eq-slice_cmp xs ys)
-
 other : (xs ys : List ℕ) (k : ℕ) → (get_or ys k 0 ≡ get_or xs k 0 → ⊥) → (b : Bool) → equal xs ys ≡ b → not b ≡ true
-other xs ys k differ true e = absurd (differ (ap (λ zs. get_or zs k 0) (sym (equal_so xs ys e))))
+other xs ys k differ true e = absurd (differ (ap (λ zs. get_or zs k 0) (sym (name_is xs ys e))))
 other xs ys k differ false e = refl
 
 -- a remove of another text is refused

@@ -8,7 +8,7 @@ use Rattle.nj_kernel.specs.Nj.{Nj, assume, conj_i, imp_i, imp_e, not_i, all_i}
 use Rattle.nj_kernel.specs.Sets.{members, ◌∪◌, IsFreshIn}
 use Rattle.proof_state.specs.Follows.{Follows}
 use Rattle.proof_state.proofs.KnownSets.{in_left, in_right, in_either, lists_both}
-use Rattle.proof_state.proofs.NjLemmas.{weaken, without}
+use Rattle.proof_state.proofs.KnownAssumptions.{weaken, without}
 
 pub itself : (P : Statement → Type 0) (f : Statement) → P f → Follows P f
 itself P f p = (f ∷ [], λ g m. ⊎_elim (λ e. subst P e p) (λ n. elim n [ ]) m, assume)

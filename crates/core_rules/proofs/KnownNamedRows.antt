@@ -1,19 +1,16 @@
 -- Where executions stand, by the names of nodes.
-use Rattle.std.proofs.Common.{◌≡◌, ◌⊎◌, inl, inr, ℕ, zero, suc, ◌+◌, ◌<◌, Bool, true, false, cond, not, List, [], ◌∷◌, length, Option, Some, None, refl, ap, sym, subst, ◌∙◌, arith}
-use Rattle.std.proofs.lemmas.Bool.{lt-ltb, or_left, or_right, or_cases, eq-eqb, eqb-true, false≢true}
-use Rattle.std.proofs.lemmas.Option.{slice_get_within}
-use Rattle.text_words.proofs.KnownTests.{both-parts, both-hold}
-use Rattle.std.specs.Prelude.{◌==◌, ◌&&◌, slice_get, nat_lt, zip, flat_map}
-use Rattle.std.specs.List.{list_any, position_or_len}
+use Rattle.std.proofs.Common.{◌≡◌, ◌⊎◌, inl, inr, ℕ, ◌<◌, Bool, true, false, List, [], length, Option, Some, None, refl, ap, sym, subst, ◌∙◌}
+use Rattle.std.proofs.lemmas.Bool.{or_left, or_right, or_cases, eq-eqb, eqb-true, false≢true}
+use Rattle.std.specs.Prelude.{◌==◌, ◌&&◌, slice_get, zip, flat_map}
+use Rattle.std.specs.List.{list_any}
 use Rattle.std.specs.Option.{option_map_or, option_and_then}
-use Rattle.std.specs.Ordering.{is_eq}
-use Rattle.std.specs.declared.cmp.Ordering.TheVariants.{Less}
 use Rattle.import_rounds.specs.Rounds.{has}
 use Rattle.shared_map.specs.Pairs.{IsSorted}
 use Rattle.doc_nodes.specs.declared.node.Entry.{Entry}
 use Rattle.doc_nodes.specs.declared.node.Node.{Node}
-use Rattle.doc_nodes.specs.Names.{in_order, equal}
-use Rattle.doc_nodes.specs.Imports.{NodeList, place_of}
+use Rattle.doc_nodes.specs.Names.{in_order}
+use Rattle.doc_nodes.specs.Imports.{place_of}
+use Rattle.doc_nodes.proofs.KnownPlaces.{place_named}
 use Rattle.exec_rules.specs.declared.row.Row.{Row}
 use Rattle.exec_rules.specs.declared.row.Assigned.{Assigned}
 use Rattle.exec_rules.specs.declared.version.Version.{Version}
@@ -26,30 +23,9 @@ use Rattle.core_rules.specs.Doc.{Doc}
 use Rattle.core_rules.specs.FromScratch.{assigned_to, AllFromScratch}
 use Rattle.core_rules.specs.Placed.{RowOf}
 use Rattle.core_rules.proofs.Places.{FoundAt, place_found, get_within, get_there}
-use Rattle.exec_rules.proofs.KnownNames.{name_itself}
 use Rattle.core_rules.proofs.AssignedRows.{IsIn, RowAt, assigned_at_row, node_in}
 use Rattle.core_rules.proofs.CoreLaw.{rows_found}
-use Rattle.core_rules.proofs.PlacedOnce.{each_at, stands_once}
-
--- names that rise: none before a node has its name
-first_named : (nodes : NodeList) (p : ℕ) (pair : List ℕ × Node) → IsSorted in_order nodes → slice_get nodes p ≡ Some pair
-    → position_or_len (λ other. equal other.0 pair.0) nodes ≡ p
-first_named [] p pair sorted at = absurd (cc)
-first_named (n ∷ ns) zero pair sorted at =
-    let same : n ≡ pair = cc in
-    ap (λ (x : List ℕ × Node). cond (not (equal n.0 x.0)) (1 + position_or_len (λ other. equal other.0 x.0) ns) 0) (sym same)
-    ∙ ap (λ b. cond (not b) (1 + position_or_len (λ other. equal other.0 n.0) ns) 0) (name_itself n.0)
-first_named (n ∷ ns) (suc p) pair sorted at =
-    let less : in_order n.0 pair.0 ≡ Less = each_at (λ other. in_order n.0 other.0 ≡ Less) ns p pair sorted.0 at in
-    let rest : 1 + position_or_len (λ other. equal other.0 pair.0) ns ≡ suc p = omega (arith, first_named ns p pair sorted.1 at) in
-    ap (λ o. cond (not (is_eq o)) (1 + position_or_len (λ other. equal other.0 pair.0) ns) 0) less ∙ rest
-
--- so a node's place is that of its name
-pub place_named : (nodes : NodeList) (p : ℕ) (pair : List ℕ × Node) → IsSorted in_order nodes → slice_get nodes p ≡ Some pair
-    → place_of nodes pair.0 ≡ Some p
-place_named nodes p pair sorted at =
-    ap (λ i. cond (nat_lt i (length nodes)) (Some i) None) (first_named nodes p pair sorted at)
-    ∙ ap (λ b. cond b (Some p) None) (lt-ltb p (length nodes) (slice_get_within nodes p pair at))
+use Rattle.core_rules.proofs.PlacedOnce.{stands_once}
 
 in_executions : (row : Row) (e : ℕ) → IsIn row e → has (executions row) e ≡ true
 in_executions row e (inl same) = or_left (e == row.evaluation) _ (eq-eqb e row.evaluation same)
