@@ -13,10 +13,7 @@ use Rattle.byte_message.specs.declared.frame_fault.FrameFault.{FrameFault}
 use Rattle.byte_message.proofs.Headings.{after-line, faulty-more, heading-line, never_fit}
 use Rattle.byte_message.proofs.Reaching.{spelled-append}
 use Rattle.byte_message.proofs.Spelled.{spelled-by}
-
-split_line : (bytes body : List ℕ) → after_line bytes ≡ Some body → bytes ≡ line_of bytes ++ 10 ∷ body
-split_line [] body e = cc
-split_line (b ∷ bytes) body e = let ih = split_line bytes body in grind (arith, ih)
+use Rattle.byte_message.proofs.Newlines.{newline_at}
 
 judged_ok : (r : Result (List ℕ) LineFault) (ls b c : List ℕ) → judged r b ≡ Fit ls c → (r ≡ Ok ls) × (b ≡ c)
 judged_ok (Ok ms) ls b c e = (cc, cc)
@@ -29,7 +26,7 @@ headed_of bytes ls body None e f = absurd (never_fit _ ls body f)
 headed_of bytes ls body (Some after) e f =
     let p = judged_ok (judge (line_of bytes)) ls after body f in
     let whole : bytes ≡ (line_of bytes ++ 10 ∷ []) ++ body =
-    split_line bytes after e ∙ ap (λ (x : List ℕ). line_of bytes ++ 10 ∷ x) p.1 ∙ sym (append_assoc (line_of bytes) (10 ∷ []) body) in
+    newline_at bytes after e ∙ ap (λ (x : List ℕ). line_of bytes ++ 10 ∷ x) p.1 ∙ sym (append_assoc (line_of bytes) (10 ∷ []) body) in
     let long = length-append (line_of bytes) (10 ∷ []) in
     (line_of bytes ++ 10 ∷ [], whole, omega arith, λ other. heading-line (line_of bytes) other (after-line bytes) ∙ ap (λ (r : Result (List ℕ) LineFault). judged r other) p.0)
 

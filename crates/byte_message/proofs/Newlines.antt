@@ -50,7 +50,7 @@ over_long h p n e m f o =
     let g = heading-over (h ++ take n p) (drop n p) (after-on h (take n p) (unended-after h e) ∙ f) (omega arith) in
     cc
 
-newline_at : (p b : List ℕ) → after_line p ≡ Some b → p ≡ line_of p ++ 10 ∷ b
+pub newline_at : (p b : List ℕ) → after_line p ≡ Some b → p ≡ line_of p ++ 10 ∷ b
 newline_at [] b e = cc
 newline_at (c ∷ p) b e = let ih = newline_at p b in grind (arith, ih)
 

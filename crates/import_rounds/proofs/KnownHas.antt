@@ -1,10 +1,10 @@
 -- What is in a list of numbers: its first, what one of two lists has, and what passes a test.
-use Rattle.std.proofs.Common.{◌≡◌, ℕ, ◌<◌, eqb, eq-eqb, Bool, true, false, ◌&&◌, ◌||◌, cond, List, [], ◌∷◌, ◌++◌, length, get_or, filter, refl, sym, ap, ◌∙◌, arith}
+use Rattle.std.proofs.Common.{◌≡◌, ℕ, ◌<◌, eqb, eq-eqb, Bool, true, false, ◌&&◌, ◌||◌, cond, List, [], ◌∷◌, ◌++◌, length, get_or, filter, refl, sym, ap, ◌∙◌, arith, ◌⊎◌, inl, inr, subst}
 use mathlib.Core.Bool.{false≢true}
-use Rattle.std.specs.List.{Contains, dedup, list_all}
+use Rattle.std.specs.List.{Contains, dedup, list_all, AllByRecursion}
 use Rattle.std.specs.Prelude.{◌==◌}
 use Rattle.std.specs.Cmp.Derive.{one_truth}
-use Rattle.std.proofs.lemmas.Bool.{eqb-true, and_from, or_left, or_right}
+use Rattle.std.proofs.lemmas.Bool.{eqb-true, and_from, or_left, or_right, or_cases}
 use Rattle.std.proofs.lemmas.Bool.Decides.{nat_tests}
 use Rattle.std.proofs.lemmas.List.Folds.{list_any_at, list_any-append}
 use Rattle.std.proofs.lemmas.List.Kept.{Contains-dedup_nat, Contains-from_dedup}
@@ -94,3 +94,12 @@ same_numbers found ordered moved e = one_truth (has (dedup eqb ordered) e) (has 
     (Contains-from_dedup eqb ordered e (has_contained (dedup eqb ordered) e is))))
     (λ is. contained_has (dedup eqb ordered) e (Contains-dedup_nat ordered e
     (Contains-permutation found ordered e moved (has_contained found e is))))
+
+-- what holds of each number holds of one that the list has
+pub each_has : (P : ℕ → Type 0) (xs : List ℕ) (e : ℕ) → AllByRecursion P xs → has xs e ≡ true → P e
+each_has P [] e all is = absurd (cc)
+each_has P (x ∷ xs) e all is = go (or_cases (e == x) (has xs e) is) (each_has P xs e all.1)
+  where
+    go : ((e == x) ≡ true) ⊎ (has xs e ≡ true) → (has xs e ≡ true → P e) → P e
+    go (inl same) rest = subst P (sym (eqb-true e x same)) all.0
+    go (inr there) rest = rest there

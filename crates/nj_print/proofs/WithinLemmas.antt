@@ -1,5 +1,5 @@
 -- No print of what a text was read as is deeper than the text.
-use Rattle.std.proofs.Common.{◌≡◌, ◌≤◌, ◌+◌, le_refl, ℕ, nat_le, nat_lt, Bool, true, false, cond, ◌&&◌, List, [], ◌∷◌, refl, ap, sym, subst, ◌∙◌, arith, le-leb, leb-true, le-ltb, ltb-true}
+use Rattle.std.proofs.Common.{◌≡◌, ◌≤◌, ◌+◌, le_refl, ℕ, nat_le, nat_lt, Bool, true, false, cond, ◌&&◌, List, [], ◌∷◌, refl, ap, sym, subst, ◌∙◌, arith, le-ltb, ltb-true}
 use Rattle.std.proofs.lemmas.Bool.{lt-ltb, and_parts, and_from}
 use Rattle.nj_formula.specs.declared.argument.Argument.{Argument}
 use Rattle.nj_formula.specs.Statement.{Statement, falsity, atom, neg, conj, disj, implies, every, exists}
@@ -8,7 +8,7 @@ use Rattle.nj_syntax.specs.declared.operator.Quantifier.{Quantifier}
 use Rattle.nj_syntax.specs.Grammar.{priority}
 use Rattle.nj_print.specs.Within.{are_within, inside, is_within}
 use Rattle.nj_print.proofs.FormLemmas.{join, bind}
-use Rattle.nj_print.proofs.WithinTerms.{terms_sink}
+use Rattle.nj_print.proofs.WithinTerms.{terms_sink, less_deep}
 
 -- in a place for what binds so strongly nothing is added, and otherwise one level
 pub no_inside : (n p d : ℕ) → p ≤ n → inside n p d ≡ d
@@ -64,20 +64,17 @@ module _ (most : ℕ) where
       let parts = and_parts (is_within most s m e) (is_within most t n e') is in
       and_from (is_within most s m d) (is_within most t n d') (f parts.0) (g parts.1)
 
-  less_deep : (d e : ℕ) → d ≤ e → nat_le e most ≡ true → nat_le d most ≡ true
-  less_deep d e le is = let deep = leb-true e most is in le-leb d most (omega arith)
-
   atom_sinks : (t : Argument) (more : List Argument) (d e : ℕ) → d ≤ e → (nat_le e most && are_within most (t ∷ more) (e + 1)) ≡ true
       → (nat_le d most && are_within most (t ∷ more) (d + 1)) ≡ true
   atom_sinks t more d e le is =
       let parts = and_parts (nat_le e most) (are_within most (t ∷ more) (e + 1)) is in
-      and_from (nat_le d most) (are_within most (t ∷ more) (d + 1)) (less_deep d e le parts.0)
+      and_from (nat_le d most) (are_within most (t ∷ more) (d + 1)) (less_deep most d e le parts.0)
       (terms_sink most (t ∷ more) (d + 1) (e + 1) (omega arith) parts.1)
 
   -- outside, a formula stands less deep
   sinks : (s : Statement) (p d e : ℕ) → d ≤ e → is_within most s p e ≡ true → is_within most s p d ≡ true
-  sinks falsity p d e le is = less_deep d e le is
-  sinks (atom x []) p d e le is = less_deep d e le is
+  sinks falsity p d e le is = less_deep most d e le is
+  sinks (atom x []) p d e le is = less_deep most d e le is
   sinks (atom x (t ∷ more)) p d e le is = atom_sinks t more d e le is
   sinks (neg a) p d e le is = sinks a 40 (inside 40 p d + 1) (inside 40 p e + 1) (let less = inside_sinks 40 p d e le in omega arith) is
   sinks (conj a b) p d e le is =
@@ -97,8 +94,8 @@ module _ (most : ℕ) where
 
   -- in another place, which is outside enough
   pub lowered : (s : Statement) (p q d e : ℕ) → d ≤ e → ((n : ℕ) → inside n p d ≤ inside n q e) → is_within most s q e ≡ true → is_within most s p d ≡ true
-  lowered falsity p q d e le out is = less_deep d e le is
-  lowered (atom x []) p q d e le out is = less_deep d e le is
+  lowered falsity p q d e le out is = less_deep most d e le is
+  lowered (atom x []) p q d e le out is = less_deep most d e le is
   lowered (atom x (t ∷ more)) p q d e le out is = atom_sinks t more d e le is
   lowered (neg a) p q d e le out is = sinks a 40 (inside 40 p d + 1) (inside 40 q e + 1) (let less = out 40 in omega arith) is
   lowered (conj a b) p q d e le out is =

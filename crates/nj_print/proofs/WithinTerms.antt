@@ -76,7 +76,8 @@ module _ (most : ℕ) where
   abbrev Sinks : Argument → Type 0
   Sinks t = (d e : ℕ) → d ≤ e → is_term_within most t e ≡ true → is_term_within most t d ≡ true
 
-  less_deep : (d e : ℕ) → d ≤ e → nat_le e most ≡ true → nat_le d most ≡ true
+  -- what stands less deep stands deep enough
+  pub less_deep : (d e : ℕ) → d ≤ e → nat_le e most ≡ true → nat_le d most ≡ true
   less_deep d e le is = let deep = leb-true e most is in le-leb d most (omega arith)
 
   free_sinks : (x : List ℕ) → Sinks (Free x)

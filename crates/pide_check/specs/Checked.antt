@@ -41,8 +41,8 @@ IsChecked l s left left' held held' = (taken : List ℕ) × Consumes left left' 
     × TakesSo s taken left' × WritesSo l s taken held held'
 
 -- where the source has a text, and no count rises, all its lines are written, or memory is short
-abbrev pub CompleteSo : Option (List ℕ) → ℕ → ℕ → ℕ → ℕ → Status → Type 0
-CompleteSo left pulls pulls' pushes pushes' s =
+abbrev pub ChecksWhole : Option (List ℕ) → ℕ → ℕ → ℕ → ℕ → Status → Type 0
+ChecksWhole left pulls pulls' pushes pushes' s =
     (bytes : List ℕ) → left ≡ Some bytes → IsUtf8 bytes → length bytes ≤ most_bytes
     → (Rose pulls pulls' → ⊥) → (Rose pushes pushes' → ⊥)
     → (s ≡ status.Done) ⊎ (s ≡ status.NoMemory)

@@ -4,7 +4,7 @@ ghost use Rattle.pide_base.specs.Faults.{Rose};
 ghost use Rattle.pide_base.specs.Moves.{AppendsFront};
 ghost use Rattle.std.specs.Io.KnownBytes.{Appends};
 ghost use Rattle.markup_lines.specs.Lines.{lines};
-ghost use Rattle.pide_check.specs.Checked.{CompleteSo, IsChecked};
+ghost use Rattle.pide_check.specs.Checked.{ChecksWhole, IsChecked};
 
 use crate::lines::write_lines;
 use language::Language;
@@ -75,7 +75,7 @@ pub fn check_text<L: Language, S: Source, K: Sink>(
         → Rose (S.faults source.old) (S.faults source.new) }
     ensures write_fault { result ≡ Status.WriteFault
         → Rose (K.faults sink.old) (K.faults sink.new) }
-    ensures complete { CompleteSo (S.left source.old) (S.faults source.old) (S.faults source.new)
+    ensures complete { ChecksWhole (S.left source.old) (S.faults source.old) (S.faults source.new)
         (K.faults sink.old) (K.faults sink.new) result }
 {
     match checked(alloc, language, source, sink) {

@@ -1,7 +1,7 @@
 //! The one call that the program makes.
 ghost use Rattle.std.specs.Prelude.{◌≡◌, ◌≢◌, ◌⊎◌, ℕ, true, false, [], map, reverse};
 ghost use Rattle.pide_base.specs.Faults.{Rose};
-ghost use Rattle.pide_check.specs.Checked.{IsChecked, CompleteSo as ChecksWhole};
+ghost use Rattle.pide_check.specs.Checked.{ChecksWhole, IsChecked};
 ghost use Rattle.pide_serve.specs.Headline.{BadFrameSo, BytesWritten, CompleteSo, CoversSo, DoneSo, EachCall, LongSo, MadeAlone, MessagesRead, OneLegalHistory, ShowsSo, TruncatedSo};
 ghost use Rattle.isar_rules.specs.Isar.{isar};
 ghost use Rattle.pide_program.specs.Words.{is_check, is_serve, is_taken};

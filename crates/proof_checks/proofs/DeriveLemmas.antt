@@ -24,6 +24,7 @@ use Rattle.proof_checks.proofs.ProvingLemmas.{fits_of}
 use Rattle.proof_checks.proofs.StandLemmas.{parted, fresh_found, one_found, two_found, cited_found}
 use Rattle.proof_checks.proofs.StatementLemmas.{same_is}
 use Rattle.proof_checks.proofs.NjLemmas.{one_nj, two_nj, three_nj}
+use Rattle.proof_checks.proofs.SameAnswers.{same_found}
 
 -- no name is free where the rule asks for a fresh one
 one_fresh : (rule : Unary) (c : Statement) (s t : List Statement) → by_one rule c s ≡ Ok t → (x : List ℕ) → fresh_one rule ≡ Some x → is_free_among x (c ∷ s) ≡ false
@@ -49,9 +50,6 @@ one_free _ (Some own) a p c fits fresh = λ x is. cc
 
 abbrev Derives : (Term → Formula → Scoped → Found) → Type 0
 Derives sub = (t : Term) (goal : Formula) (scope : Scoped) (s : List Statement) → sub t goal scope ≡ Ok s → Nj s (meaning goal)
-
-same_found : {s t : List Statement} → ◌≡◌ {A = Found} (Ok s) (Ok t) → s ≡ t
-same_found e = cc
 
 module _ (sub : Term → Formula → Scoped → Found) (derives : Derives sub) (scope : Scoped) where
   -- what a part's proof assumes, with its own assumption

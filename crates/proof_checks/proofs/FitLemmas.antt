@@ -25,6 +25,7 @@ use Rattle.proof_checks.specs.Fits.{Fits, FitsOne, FitsTwo, FitsThree}
 use Rattle.proof_checks.specs.Rows.{Planned, misfit, conj_i, disj_i1, disj_i2, imp_i, not_i, all_i, ex_i, not_e, all_e, ex_e, step_of}
 use Rattle.proof_checks.specs.Statements.{is_same}
 use Rattle.proof_checks.proofs.StatementLemmas.{same_is}
+use Rattle.proof_checks.proofs.SameAnswers.{same_step}
 
 -- what a formula of this outermost layer says
 abbrev says : Formula-F Formula → Statement
@@ -32,9 +33,6 @@ says l = layer_meaning (map-Formula Formula Statement meaning l)
 
 out_says : (f : Formula) → meaning f ≡ says (out-Formula f)
 out_says f = fold_out-Formula Statement layer_meaning f
-
-same_step : {s t : Step} → ◌≡◌ {A = Planned} (Ok s) (Ok t) → s ≡ t
-same_step e = cc
 
 -- a planned step that fits
 fits_planned : (s t : Step) (g : Statement) → Fits s g → ◌≡◌ {A = Planned} (Ok s) (Ok t) → Fits t g

@@ -1,3 +1,4 @@
+mod SameAnswers
 mod StatementLemmas
 mod SetLemmas
 mod SettleLemmas

@@ -21,6 +21,7 @@ use Rattle.proof_checks.specs.Fits.{Fits, IsWithin}
 use Rattle.proof_checks.specs.Rows.{Planned}
 use Rattle.proof_checks.specs.Scopes.{inside, remaining}
 use Rattle.proof_checks.proofs.FitLemmas.{step_fits}
+use Rattle.proof_checks.proofs.SameAnswers.{same_step}
 
 pub then_ok : {A B : Type 0} {m : Result A TermFault} {a : A} (next : A → Result B TermFault) → m ≡ Ok a → and_then m next ≡ next a
 then_ok next e = ap (λ x. and_then x next) e
@@ -45,9 +46,6 @@ unfolding checked_within
 checked_err zero t goal scope f e = then_err (of_step (λ _ _ _. Err ProofTooDeep) scope goal) e
 checked_err (suc n) t goal scope f e = then_err (of_step (checked_within n) scope goal) e
 
-same_planned : {s t : Step} → ◌≡◌ {A = Planned} (Ok s) (Ok t) → s ≡ t
-same_planned e = cc
-
 within_suc : (step : Step) (n : ℕ) → IsWithin step (suc n)
 within_suc (Cited c) n = tt
 within_suc (One rule p) n = omega arith
@@ -56,13 +54,13 @@ within_suc (Three p q r) n = omega arith
 
 pub within_of : (left : ℕ) (l : Term-F Term) (goal : Formula) (step : Step) → step_within left l goal ≡ Ok step → IsWithin step left
 unfolding step_within
-within_of zero (Term-F.Fact c) goal step e = subst (λ s. IsWithin s zero) (same_planned e) tt
+within_of zero (Term-F.Fact c) goal step e = subst (λ s. IsWithin s zero) (same_step e) tt
 within_of zero _ goal step e = cc
 within_of (suc n) l goal step e = within_suc step n
 
 pub fits_of : (left : ℕ) (l : Term-F Term) (goal : Formula) (step : Step) → step_within left l goal ≡ Ok step → Fits step (meaning goal)
 unfolding step_within Fits
-fits_of zero (Term-F.Fact c) goal step e = subst (λ s. Fits s (meaning goal)) (same_planned e) tt
+fits_of zero (Term-F.Fact c) goal step e = subst (λ s. Fits s (meaning goal)) (same_step e) tt
 fits_of zero _ goal step e = cc
 fits_of (suc n) l goal step e = step_fits l goal step e
 

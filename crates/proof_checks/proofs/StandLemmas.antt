@@ -23,9 +23,7 @@ use Rattle.proof_checks.specs.Statements.{is_same, is_free_among}
 use Rattle.proof_state.proofs.KnownSets.{in_either}
 use Rattle.proof_checks.proofs.StatementLemmas.{lists_without}
 use Rattle.proof_checks.proofs.LookLemmas.{looked_stands}
-
-same_found : {s t : List Statement} → ◌≡◌ {A = Found} (Ok s) (Ok t) → s ≡ t
-same_found e = cc
+use Rattle.proof_checks.proofs.SameAnswers.{same_found}
 
 -- what was found before what follows
 pub parted : {A B : Type 0} (m : Result A TermFault) (next : A → Result B TermFault) (b : B) → and_then m next ≡ Ok b → (a : A) × (m ≡ Ok a) × (next a ≡ Ok b)

@@ -1,10 +1,8 @@
 -- The new executions of a plan can be put into the tables.
-use Rattle.std.proofs.Common.{◌≡◌, ◌⊎◌, inl, inr, ℕ, suc, ◌<◌, Bool, true, false, cond, List, [], ◌∷◌, length, Option, Some, None, refl, ap, sym, subst, ◌∙◌, arith}
-use Rattle.std.proofs.lemmas.Bool.{eqb-true, or_cases}
-use Rattle.std.specs.Prelude.{◌==◌}
-use Rattle.std.specs.List.{AllByRecursion}
+use Rattle.std.proofs.Common.{◌≡◌, ℕ, suc, ◌<◌, Bool, true, false, cond, List, ◌∷◌, length, Option, Some, None, refl, ap, sym, ◌∙◌, arith}
 use Rattle.std.specs.Option.{option_map, option_map_or}
 use Rattle.import_rounds.specs.Rounds.{has}
+use Rattle.import_rounds.proofs.KnownHas.{each_has}
 use Rattle.doc_nodes.specs.Imports.{NodeList}
 use Rattle.exec_table.specs.declared.execution.Execution.{Execution}
 use Rattle.exec_table.specs.Finish.{after_cancelling}
@@ -31,14 +29,6 @@ use Rattle.prover_core.proofs.FreshPlan.{homes_in, tasks_in, rise}
 use Rattle.prover_core.proofs.UpdatedDoc.{NewLaws}
 use Rattle.prover_core.proofs.UpdateTables.{no_row, no_home, no_task, nobody_waits}
 
-all_has : (P : ℕ → Type 0) (xs : List ℕ) (q : ℕ) → AllByRecursion P xs → has xs q ≡ true → P q
-all_has P [] q all is = absurd (cc)
-all_has P (x ∷ xs) q all is = go (or_cases (q == x) (has xs q) is) (λ there. all_has P xs q all.1 there)
-  where
-    go : ((q == x) ≡ true) ⊎ (has xs q ≡ true) → (has xs q ≡ true → P q) → P q
-    go (inl same) rest = subst P (sym (eqb-true q x same)) all.0
-    go (inr there) rest = rest there
-
 module _ {S : Type 0} (l : Lang S) (h : List Event) (t : Tables S) (k : IsKept l h t) (id : ℕ) (nodes : NodeList) (blobs : BlobList)
     (laws : NewLaws l h id nodes blobs) (tip_live : (e : ℕ) → assigns (doc l h).tip e ≡ true → is_assigned (doc l h).live e ≡ true)
     (tip_homes : (e : ℕ) → assigns (doc l h).tip e ≡ true → HasHome l (doc l h) (doc l h).tip e)
@@ -60,7 +50,7 @@ module _ {S : Type 0} (l : Lang S) (h : List Event) (t : Tables S) (k : IsKept l
       let there : numbered now.homes e ≡ Some x = ap (λ hs. numbered (grown d.homes hs) e) (sym homes_are) ∙ at in
       let own = laws.homes e (laws.given e past (numbered_within now.homes e x there)) in
       let it : own.home ≡ x = same_home (numbered now.homes e) own.home x own.homed there in
-      (all_has (IsSource now (version_of nodes blobs (assignment_of d nodes blobs)) e) (sources_of own.home.input) q own.sources
+      (each_has (IsSource now (version_of nodes blobs (assignment_of d nodes blobs)) e) (sources_of own.home.input) q own.sources
       (ap (λ (y : Home). has (sources_of y.input) q) it ∙ is)).older
 
   none_by : (b : Bool) (o : Option (Execution (Done S))) → o ≡ None → cond b (after_cancelling o) o ≡ None

@@ -1,10 +1,10 @@
 -- What new executions of a plan wait for is finished by the table where it is by what has happened.
 use Rattle.std.proofs.Common.{◌≡◌, ◌⊎◌, inl, inr, ℕ, suc, ◌<◌, ◌≤◌, Bool, true, false, cond, not, ◌&&◌, List, [], ◌∷◌, length, Option, Some, None, refl, ap, sym, subst, ◌∙◌, arith}
-use Rattle.std.proofs.lemmas.Bool.{eqb-true, cases_lt, or_cases}
-use Rattle.std.specs.Prelude.{◌==◌, is_some}
-use Rattle.std.specs.List.{AllByRecursion}
+use Rattle.std.proofs.lemmas.Bool.{cases_lt}
+use Rattle.std.specs.Prelude.{is_some}
 use Rattle.std.specs.Option.{option_map, option_and_then}
 use Rattle.import_rounds.specs.Rounds.{has}
+use Rattle.import_rounds.proofs.KnownHas.{each_has}
 use Rattle.pide_base.specs.declared.part.PartKind.TheVariants as kind
 use Rattle.doc_nodes.specs.Imports.{NodeList}
 use Rattle.exec_table.specs.declared.execution.Execution.{Execution}
@@ -35,14 +35,6 @@ use Rattle.prover_core.proofs.UpdatedDoc.{NewLaws}
 use Rattle.prover_core.proofs.UpdateTables.{no_row}
 use Rattle.core_rules.proofs.KnownNumbers.{numbered_within}
 use Rattle.prover_core.proofs.EvaluatedBy.{evaluated_by}
-
-each_has : (P : ℕ → Type 0) (xs : List ℕ) (e : ℕ) → AllByRecursion P xs → has xs e ≡ true → P e
-each_has P [] e all is = absurd (cc)
-each_has P (x ∷ xs) e all is = go (or_cases (e == x) (has xs e) is) (each_has P xs e all.1)
-  where
-    go : ((e == x) ≡ true) ⊎ (has xs e ≡ true) → (has xs e ≡ true → P e) → P e
-    go (inl same) rest = subst P (sym (eqb-true e x same)) all.0
-    go (inr there) rest = rest there
 
 module _ {S : Type 0} (l : Lang S) (h : List Event) (t : Tables S) (k : IsKept l h t) (id : ℕ) (nodes : NodeList) (blobs : BlobList)
     (laws : NewLaws l h id nodes blobs) (tip_live : (e : ℕ) → assigns (doc l h).tip e ≡ true → is_assigned (doc l h).live e ≡ true)

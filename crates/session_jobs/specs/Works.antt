@@ -19,5 +19,5 @@ pub record WorkDone (S : Type 0) : Type 0 where
   pub protocol : Protocol
 
 -- the reply that tells the part's reports
-abbrev pub report_of : {S : Type 0} → WorkDone S → Told
-report_of work = tells.Report work.done.part (told_in work.protocol work.source work.done.reports)
+abbrev pub work_report : {S : Type 0} → WorkDone S → Told
+work_report work = tells.Report work.done.part (told_in work.protocol work.source work.done.reports)

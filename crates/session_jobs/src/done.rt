@@ -2,7 +2,7 @@
 ghost use Rattle.std.specs.Prelude.{◌≡◌};
 ghost use Rattle.reply_writing.specs.declared.told.Told.TheVariants as tells;
 ghost use Rattle.session_replies.specs.Spelling.{spelling};
-ghost use Rattle.session_jobs.specs.Works.{report_of};
+ghost use Rattle.session_jobs.specs.Works.{work_report};
 
 use core_jobs::{Done, Job};
 use message_values::Protocol;
@@ -24,13 +24,13 @@ impl<S> Model for SessionDone<S> {
     ghost use Rattle.std.specs.Prelude.{◌≡◌};
     ghost use Rattle.reply_writing.specs.declared.told.Told.TheVariants as tells;
     ghost use Rattle.session_replies.specs.Spelling.{spelling};
-    ghost use Rattle.session_jobs.specs.Works.{WorkDone, report_of};
+    ghost use Rattle.session_jobs.specs.Works.{WorkDone, work_report};
 
     ghost Value = { WorkDone S };
 
     ghost view = { λ d. record { done = d.done; source = d.job.source; protocol = d.protocol } };
 
-    ghost invariant = { λ d. (d.report.items ≡ spelling (report_of (record {
+    ghost invariant = { λ d. (d.report.items ≡ spelling (work_report (record {
       done = d.done;
       source = d.job.source;
       protocol = d.protocol;
@@ -54,7 +54,7 @@ impl<S> SessionDone<S> {
         report: Vec<u8>,
         dropped: Vec<u8>,
     ) -> SessionDone<S>
-        requires report { report.items ≡ spelling (report_of (record {
+        requires report { report.items ≡ spelling (work_report (record {
           done = done;
           source = job.source;
           protocol = protocol;
@@ -84,7 +84,7 @@ impl<S: Drop> SessionDone<S> {
     /// What came of it, and the bytes of both replies.
     pub fn into_parts(self) -> DoneParts<S>
         ensures done { result.done ≡ self.done }
-        ensures report { result.report.items ≡ spelling (report_of self) }
+        ensures report { result.report.items ≡ spelling (work_report self) }
         ensures dropped { result.dropped.items ≡ spelling (tells.Dropped self.done.part) }
     {
         DoneParts {

@@ -2,7 +2,7 @@
 ghost use Rattle.std.specs.Prelude.{◌≡◌, IfOk};
 ghost use Rattle.reply_writing.specs.declared.told.Told.TheVariants as tells;
 ghost use Rattle.session_replies.specs.Spelling.{spelling};
-ghost use Rattle.session_jobs.specs.Works.{report_of};
+ghost use Rattle.session_jobs.specs.Works.{work_report};
 ghost use Rattle.session_jobs.specs.Runs.{RanSo, ReportedSo};
 
 use crate::done::SessionDone;
@@ -133,7 +133,7 @@ fn report_on<S>(
     source: &[char],
     done: &Done<S>,
 ) -> Result<Vec<u8>, AllocError>
-    ensures { IfOk result (λ bytes. bytes.items ≡ spelling (report_of (record {
+    ensures { IfOk result (λ bytes. bytes.items ≡ spelling (work_report (record {
       done = done.now;
       source = source.now;
       protocol = protocol;

@@ -74,7 +74,7 @@ module _ {S : Type 0} (l : Lang S) (service : Service) (old new : Log Service En
         (inr (k.at_rest, free)) holding' count left others_stay unwanted past is items waiting
 
     -- it ends it
-    pub ended_kept : (work : WorkDone S) → work.done.part ≡ part → report_of l s part ≡ jobs.report_of work → (f : Finish) (past : List Event)
+    pub ended_kept : (work : WorkDone S) → work.done.part ≡ part → report_of l s part ≡ jobs.work_report work → (f : Finish) (past : List Event)
         → FinishedSo l who part s.events f past
         → new.items ≡ item.Made (entry_of f who part) ∷ old.items → new.waiting ≡ old.waiting ++ spelling (told_of f work) ∷ []
         → IsKept l service new (session_of s.buffer past s.protocol s.called) last holding' works

@@ -31,7 +31,7 @@ module _ {S : Type 0} (l : Lang S) (s : Session)
           let job : JobContent S = record { part = work.done.part; source = x.source; blob = x.blob; input = State x.state } in
           let same : x.source ≡ work.source = cc in source job at ∙ same
 
-  pub reported : (who : ℕ) (work : WorkDone S) → IsDoneWorkOf l s who work → report_of l s work.done.part ≡ jobs.report_of work
+  pub reported : (who : ℕ) (work : WorkDone S) → IsDoneWorkOf l s who work → report_of l s work.done.part ≡ jobs.work_report work
   reported who work is = told work.done is.right
       ∙ ap (λ (p : Protocol). tells.Report work.done.part (told_in p (source_of (document l s).homes work.done.part.exec) work.done.reports)) (sym is.protocol)
       ∙ ap (λ (text : List ℕ). tells.Report work.done.part (told_in work.protocol text work.done.reports)) (source_is who work is)

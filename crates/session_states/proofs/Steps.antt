@@ -95,7 +95,7 @@ module _ {S : Type 0} (l : Lang S) (service : Service) (old new : Log Service En
 
   -- it ends the part that it holds
   pub finish_stepped : asked (mode_of service) message ≡ Ok (asks.Finish who) → IsLegal l s.events → (work : WorkDone S)
-      → held s.events who ≡ Some work.done.part → report_of l s work.done.part ≡ jobs.report_of work → now who ≡ None
+      → held s.events who ≡ Some work.done.part → report_of l s work.done.part ≡ jobs.work_report work → now who ≡ None
       → (f : Finish) (past : List Event) → FinishedSo l who work.done.part s.events f past
       → new.items ≡ item.Made (entry_of f who work.done.part) ∷ item.Made (entry.Call message) ∷ old.items
       → new.waiting ≡ (old.waiting ++ []) ++ spelling (told_of f work) ∷ [] → (holding' : ℕ) → holding' + 1 ≡ holding → holding' + 1 ≤ new.free

@@ -113,13 +113,13 @@ module _ {S : Type 0} (l : Lang S) (service : Service) (items : List SessionItem
         (dropped unwanted items_are waiting_are)
 
     -- it ends its part, one way or the other
-    pub ended_from : (work : WorkDone S) → work.done.part ≡ part → report_of l s part ≡ jobs.report_of work → (f : Finish) (past : List Event)
+    pub ended_from : (work : WorkDone S) → work.done.part ≡ part → report_of l s part ≡ jobs.work_report work → (f : Finish) (past : List Event)
         → FinishedSo l who part s.events f past
         → new.items ≡ item.Made (entry_of f who part) ∷ items → new.waiting ≡ waiting ++ spelling (told_of f work) ∷ []
         → IsKept l service new (session_of s.buffer past s.protocol s.called) last holding now
     ended_from work same told_is finish.Finished past so items_are waiting_are =
         subst (λ (h : List Event). IsKept l service new (session_of s.buffer h s.protocol s.called) last holding now) (sym so.1)
-        (finished so.0 (jobs.report_of work) told_is items_are waiting_are)
+        (finished so.0 (jobs.work_report work) told_is items_are waiting_are)
     ended_from work same told_is finish.Dropped past so items_are waiting_are =
         dropped_from so.0 past so.1 items_are
         (waiting_are ∙ ap (λ (p : Part). waiting ++ spelling (tells.Dropped p) ∷ []) same)

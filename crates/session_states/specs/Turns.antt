@@ -7,7 +7,7 @@ use Rattle.reply_writing.specs.declared.told.Told.{Told}
 use Rattle.reply_writing.specs.declared.told.Told.TheVariants as tells
 use Rattle.session_rules.specs.declared.entry.Entry.{Entry}
 use Rattle.session_rules.specs.declared.entry.Entry.TheVariants as entry
-use Rattle.session_jobs.specs.Works.{WorkDone, report_of}
+use Rattle.session_jobs.specs.Works.{WorkDone, work_report}
 
 -- the entry by which it ends
 abbrev pub entry_of : Finish → ℕ → Part → Entry
@@ -16,5 +16,5 @@ entry_of finish.Dropped who part = entry.Dropped who part
 
 -- what is told of it
 abbrev pub told_of : {S : Type 0} → Finish → WorkDone S → Told
-told_of finish.Finished work = report_of work
+told_of finish.Finished work = work_report work
 told_of finish.Dropped work = tells.Dropped work.done.part
