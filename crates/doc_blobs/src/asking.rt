@@ -4,11 +4,10 @@ ghost use Rattle.std.specs.Option.{option_and_then};
 ghost use Rattle.std.specs.String.{string_bytes};
 ghost use Rattle.std.specs.Str.{encode_utf8_all};
 ghost use Rattle.doc_nodes.specs.Names.{equal};
-ghost use Rattle.outer_tokens.specs.Headings.{proper};
 ghost use Rattle.doc_blobs.specs.Needs.{is_load, asked_by, named_by, just_two, needs};
 
 use doc_nodes::{Aliases, BlobName};
-use outer_tokens::{Kind, Token, content, is_proper, lex_under, one_list, scalars};
+use outer_tokens::{Kind, Token, content, lex_under, one_list, proper_ones, scalars};
 use std::alloc::{AllocError, Global};
 use std::cmp::Ordering;
 
@@ -47,21 +46,6 @@ fn of_tokens(
         return Ok(None);
     }
     asked_by(alloc, source, aliases, *name, *blob)
-}
-
-/// The proper ones of the tokens.
-fn proper_ones(alloc: Global, tokens: &[Token]) -> Result<Vec<Token>, AllocError>
-    ensures { IfOk result (λ some. some.items ≡ proper tokens.now) }
-{
-    let mut some = Vec::new(alloc);
-    let mut rest = tokens;
-    'tokens: while let [token, more @ ..] = rest {
-        if is_proper(token.kind) {
-            some.push(*token)?;
-        }
-        rest = more;
-    }
-    Ok(some)
 }
 
 /// The blob that the two tokens of the source ask for.

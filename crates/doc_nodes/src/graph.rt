@@ -5,36 +5,12 @@ ghost use Rattle.import_rounds.specs.Looks.{marked, aims_at};
 ghost use Rattle.doc_nodes.specs.Imports.{place_of, aims_of, aims};
 ghost use Rattle.doc_nodes.specs.Graphs.{IsGraphOf};
 
-use crate::compared::compared;
+use crate::called::Called;
 use crate::node::{Node, Nodes};
 use import_rounds::{in_rounds, marks_of};
-use pide_base::NodeName;
-use shared_map::Cut;
 use sqlite_items::Items;
 use std::alloc::{AllocError, Global};
-use std::cmp::Ordering;
 use std::marker::Model;
-
-/// The node of a name.
-#[derive(Clone, Copy)]
-struct Called<'a> {
-    name: &'a [char],
-}
-
-impl<'a> Cut<NodeName> for Called<'a> {
-    ghost use Rattle.std.specs.Cmp.Lexicographic.{nat_list_cmp_total};
-    ghost use Rattle.shared_map.specs.Cuts.{at_key};
-    ghost use Rattle.shared_map.specs.KeyCut.{is_cut-at_key};
-    ghost use Rattle.doc_nodes.specs.Names.{in_order};
-
-    ghost place = { λ cut. at_key in_order cut.name.now };
-
-    ghost rises = { λ cut. is_cut-at_key nat_list_cmp_total cut.name.now };
-
-    fn place(&self, node: &NodeName) -> Ordering {
-        compared(node.as_str().as_bytes(), self.name)
-    }
-}
 
 /// The imports of a version's nodes: each node's, by place; the places in the order of imports; and
 /// which are ordered.

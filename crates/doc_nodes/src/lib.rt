@@ -14,6 +14,7 @@
 
 mod alias;
 mod blob_name;
+mod called;
 mod compared;
 mod folding;
 mod graph;
@@ -28,6 +29,7 @@ mod word;
 
 pub use alias::{Aliases, is_target};
 pub use blob_name::BlobName;
+pub use called::Called;
 pub use graph::ImportGraph;
 pub use inherited::{NodeAliases, aliases_of};
 pub use laws::{aliases_law, order_law, prefix_law, wanted_law};

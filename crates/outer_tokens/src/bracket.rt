@@ -116,8 +116,8 @@ fn opening_len(bracket: Bracket, text: &[char]) -> Option<usize>
     }
 }
 
-/// The row of a text that begins with the opening of the bracket, and how many scalars it has: up to
-/// the closing, or to the text's end where there is none.
+/// The row of a text that begins with the opening of the bracket, and how many scalars it has: up
+/// to the closing, or to the text's end where there is none.
 pub fn bracket_row(bracket: Bracket, text: &[char]) -> Option<(Row, usize)>
     ensures { MatchOption result ((inside : List ℕ) → text.now ≡ opening bracket ++ inside → ⊥)
         (λ r. IsFirstRow text.now r.0 r.1) }

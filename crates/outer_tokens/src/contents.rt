@@ -70,8 +70,8 @@ fn inside(token: &[char], first: usize, last: usize) -> &[char]
     &rest[..token.len().saturating_sub(first + last)]
 }
 
-/// The content of a token of the kind: of a string what it stands for, of a cartouche its inside, of
-/// another its scalars.
+/// The content of a token of the kind: of a string what it stands for, of a cartouche its inside,
+/// of another its scalars.
 pub fn content(alloc: Global, kind: Kind, token: &[char]) -> Result<Vec<char>, AllocError>
     ensures { IfOk result (λ v. v.items ≡ content_of kind token.now) }
 {

@@ -8,8 +8,8 @@ ghost use Rattle.outer_tokens.specs.Headings.{AreTokens};
 ghost use Rattle.outer_tokens.specs.Lexing.{tokens_under, tokens_of};
 ghost use Rattle.outer_tokens.specs.declared.token.Token.{Token};
 
-/// Each text has one list of tokens under the aliases, and under names that go by the place; it joins
-/// to the text.
+/// Each text has one list of tokens under the aliases, and under names that go by the place; it
+/// joins to the text.
 pub fn one_list()
     ensures just { (text : List ℕ) (aliases : List (List ℕ)) (tokens : List Token) →
         AreTokens text aliases tokens ↔ (tokens ≡ tokens_of text aliases) }

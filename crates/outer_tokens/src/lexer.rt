@@ -13,8 +13,8 @@ use pide_base::Range;
 use sqlite_items::Items;
 use std::alloc::{AllocError, Global};
 
-/// The token of the text that begins at the place, where these names are commands beside those of the
-/// language. `None` comes exactly at the text's end.
+/// The token of the text that begins at the place, where these names are commands beside those of
+/// the language. `None` comes exactly at the text's end.
 pub fn next_token(text: &[char], names: &[Items<char>], place: usize) -> Option<Token>
     requires { place ≤ length text.now }
     ensures { MatchOption result (place ≡ length text.now)
@@ -32,8 +32,8 @@ pub fn next_token(text: &[char], names: &[Items<char>], place: usize) -> Option<
     })
 }
 
-/// The tokens of a piece of text, where these names are commands beside those of the language from its
-/// beginning on. They join to it.
+/// The tokens of a piece of text, where these names are commands beside those of the language from
+/// its beginning on. They join to it.
 pub fn lex_under(
     alloc: Global,
     text: &[char],
@@ -50,8 +50,9 @@ pub fn lex_under(
     Ok(tokens)
 }
 
-/// The tokens of the text, which join to it. Up to and with the header's `begin`, and in a text without
-/// a header, the command names are those of the language; after it they are these and the aliases.
+/// The tokens of the text, which join to it. Up to and with the header's `begin`, and in a text
+/// without a header, the command names are those of the language; after it they are these and the
+/// aliases.
 pub fn lex(alloc: Global, text: &[char], aliases: &[Items<char>]) -> Result<Vec<Token>, AllocError>
     ensures { IfOk result (λ v. AreTokens text.now aliases.now v.items) }
 {

@@ -1,7 +1,7 @@
-//! The outer tokens of a text: spaces, comments, strings, cartouches, symbols, identifiers by the names of
-//! commands and keywords, single scalars, and what doesn't end (after Isabelle's outer syntax).
-//! Texts are lists of Unicode scalars, and places count them from 0. It knows nothing of commands but
-//! their names.
+//! The outer tokens of a text: spaces, comments, strings, cartouches, symbols, identifiers by the
+//! names of commands and keywords, single scalars, and what doesn't end (after Isabelle's outer
+//! syntax). Texts are lists of Unicode scalars, and places count them from 0. It knows nothing of
+//! commands but their names.
 #![tactic(auto)]
 
 mod blank;
@@ -11,6 +11,7 @@ mod kind;
 mod law;
 mod lexer;
 mod long_name;
+mod proper;
 mod renaming;
 mod row;
 mod stage;
@@ -22,6 +23,7 @@ pub use contents::content;
 pub use kind::{Kind, is_proper};
 pub use law::{one_list, symbol_law};
 pub use lexer::{lex, lex_under, next_token};
+pub use proper::proper_ones;
 pub use renaming::renamed;
 pub use row::Row;
 pub use stage::{Stage, after_token, given};

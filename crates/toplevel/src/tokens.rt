@@ -1,12 +1,11 @@
 //! The proper tokens of a command's source.
 ghost use Rattle.std.specs.Prelude.{◌≡◌, [], IfOk};
-ghost use Rattle.outer_tokens.specs.Headings.{proper};
 ghost use Rattle.doc_blobs.specs.Needs.{source_tokens};
 ghost use Rattle.isar_rules.specs.Steps.{aliases_at};
 
 use doc_nodes::Aliases;
 use isar_rules::Place;
-use outer_tokens::{Token, is_proper, lex_under, one_list};
+use outer_tokens::{Token, lex_under, one_list, proper_ones};
 use std::alloc::{AllocError, Global};
 
 /// The aliases in force at the place: none at the beginning of a node.
@@ -17,21 +16,6 @@ pub(crate) fn aliases_at<'a>(place: &Place, aliases: &'a Aliases, none: &'a Alia
         Place::Start { .. } => none,
         _ => aliases,
     }
-}
-
-/// The proper ones of the tokens.
-fn proper_ones(alloc: Global, tokens: &[Token]) -> Result<Vec<Token>, AllocError>
-    ensures { IfOk result (λ some. some.items ≡ proper tokens.now) }
-{
-    let mut some = Vec::new(alloc);
-    let mut rest = tokens;
-    'tokens: while let [token, more @ ..] = rest {
-        if is_proper(token.kind) {
-            some.push(*token)?;
-        }
-        rest = more;
-    }
-    Ok(some)
 }
 
 /// The proper tokens of the source under the aliases.
