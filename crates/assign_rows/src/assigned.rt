@@ -1,5 +1,5 @@
-//! What updates of small documents assign and tell (`exec_assign`): each row as its evaluation, with
-//! its print behind a `/`, and `|` behind each node.
+//! What updates of small documents assign and tell (`exec_assign`): each row as its evaluation,
+//! with its print behind a `/`, and `|` behind each node.
 ghost use Rattle.std.specs.Prelude.{◌≡◌, ◌≤◌, ◌∷◌, [], IfOk};
 ghost use Rattle.pide_base.specs.Ids.{id_end};
 ghost use Rattle.exec_assign.specs.Fitting.{RowsFit};

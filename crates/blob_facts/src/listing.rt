@@ -29,8 +29,8 @@ fn take_line(
     }
 }
 
-/// The facts that a blob of this text lists, in its order; blank lines are skipped. BadLine tells the
-/// first line that is neither, from 1; NoMemory comes where memory runs out.
+/// The facts that a blob of this text lists, in its order; blank lines are skipped. BadLine tells
+/// the first line that is neither, from 1; NoMemory comes where memory runs out.
 pub fn facts_of(alloc: Global, text: &[char]) -> Result<Items<ListedFact>, BlobFault>
     ensures { Tells (facts_of text.now) result }
 {

@@ -83,8 +83,8 @@ pub fn header_law()
 }
 
 /// What an update prepares is what the core asks of an update, as long as both documents agree, its
-/// version is above all before, and the ids of executions suffice. They agree at the start, and after
-/// each update.
+/// version is above all before, and the ids of executions suffice. They agree at the start, and
+/// after each update.
 pub fn fits_law()
     ensures fits { (b b' : Buffer) (d : Doc) (live id : ℕ) (asked : Asked) → Agrees b d
         → prepared b live asked ≡ Ok b' → d.last < id

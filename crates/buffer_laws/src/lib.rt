@@ -2,8 +2,8 @@
 //! stand.
 //!
 //! Commands that keep their ids are those of Wenzel, "Asynchronous User Interaction and Tool
-//! Integration in Isabelle/PIDE" (ITP 2014); which keep them is this project's own. There is no code
-//! here. The laws must not know of executions, languages or messages.
+//! Integration in Isabelle/PIDE" (ITP 2014); which keep them is this project's own. There is no
+//! code here. The laws must not know of executions, languages or messages.
 #![tactic(auto)]
 
 mod laws;

@@ -19,7 +19,8 @@ use std::alloc::{AllocError, Global};
 
 /// A property of this key.
 fn property(alloc: Global, key: PropertyKey, value: String) -> Result<Property, AllocError>
-    ensures { IfOk result (λ property. property ≡ record { key = key; value = string_bytes value }) }
+    ensures { IfOk result (λ property. property
+        ≡ record { key = key; value = string_bytes value }) }
 {
     Ok(Property {
         key,

@@ -1,5 +1,5 @@
-//! Examples of what is read of commands and of blobs. It holds tests alone, in a crate of its own so
-//! that the crates are checked without them.
+//! Examples of what is read of commands and of blobs. It holds tests alone, in a crate of its own
+//! so that the crates are checked without them.
 #![tactic(auto)]
 
 #[cfg(test)]

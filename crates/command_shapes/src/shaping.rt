@@ -85,9 +85,9 @@ fn verb_in(source: &[char], first: Token, aliases: &Aliases) -> Option<Verb>
     }
 }
 
-/// The shape of the command of this source, by its proper tokens under the aliases in force, with its
-/// own word as the first. None comes exactly where the command is malformed, NoMemory where memory
-/// runs out. Ranges count scalars of the source.
+/// The shape of the command of this source, by its proper tokens under the aliases in force, with
+/// its own word as the first. None comes exactly where the command is malformed, NoMemory where
+/// memory runs out. Ranges count scalars of the source.
 pub fn shape_of(
     alloc: Global,
     source: &[char],

@@ -69,7 +69,8 @@ abbrev pub meeting : Edit → List ℕ → CutText → Option ℕ
 meeting edit olds new = find (is_meeting (old_end_of edit) (new_end_of edit) olds)
     (boundaries (length new.text) (tokens_in new))
 
--- how many new tokens there are after the meeting, when the old text had this length and these tokens
+-- how many new tokens there are after the meeting, when the old text had this length and these
+-- tokens
 abbrev pub back_in : Edit → ℕ → List Token → CutText → ℕ
 back_in edit len tokens new = past (meeting edit (boundaries len tokens) new) (tokens_in new)
 

@@ -21,8 +21,8 @@ use sqlite_items::{Items, at};
 use std::alloc::{AllocError, Global};
 use text_edits::{Edit, EditFault, Text, apply, changed};
 
-/// An edited text with its tokens and spans, and how many of its tokens are those of the text before
-/// the edit: the first `front`, and the last `back`, which the edit has moved.
+/// An edited text with its tokens and spans, and how many of its tokens are those of the text
+/// before the edit: the first `front`, and the last `back`, which the edit has moved.
 #[derive(Debug, Drop)]
 pub struct Reparsed {
     pub text: Text,
@@ -39,8 +39,8 @@ struct Relexed {
     back: usize,
 }
 
-/// How many tokens more there are where an edit puts something into a token: what stood before and what
-/// stood behind. It only tells how much room is made at once.
+/// How many tokens more there are where an edit puts something into a token: what stood before and
+/// what stood behind. It only tells how much room is made at once.
 const SPLIT: usize = 2;
 
 /// Whether tokens of the kind are spaces.
@@ -58,8 +58,8 @@ fn is_over(stage: Stage) -> bool
     matches!(stage, Stage::Ended | Stage::Absent)
 }
 
-/// How many tokens there are before the last Space token that begins below the place; none where there
-/// is no such token.
+/// How many tokens there are before the last Space token that begins below the place; none where
+/// there is no such token.
 fn front_len(tokens: &[Token], place: usize) -> usize
     requires rising { (len : ℕ) × Rising 0 len tokens.now }
     ensures front { result ≡ before (restart place tokens.now) tokens.now }
@@ -167,7 +167,8 @@ fn meets(len: usize, kept: &[Token], change: Change, next: &mut usize, place: us
     requires within { moved change.new_end change.old_end place ≤ len }
     requires passed { ArePassed (moved change.new_end change.old_end place) kept.now next.old }
     ensures passed { ArePassed (moved change.new_end change.old_end place) kept.now next.new }
-    ensures told { result ≡ is_meeting change.old_end change.new_end (boundaries len kept.now) place }
+    ensures told { result
+        ≡ is_meeting change.old_end change.new_end (boundaries len kept.now) place }
     ensures met { OnTrue result (boundary_at len kept.now next.new
         ≡ moved change.new_end change.old_end place) }
 {
@@ -208,8 +209,8 @@ fn push_moved(tokens: &mut Vec<Token>, change: Change, kept: &[Token]) -> Result
     Ok(())
 }
 
-/// The tokens of the edited text: those before the restart are kept, what follows is lexed up to the
-/// meeting, and the rest is moved.
+/// The tokens of the edited text: those before the restart are kept, what follows is lexed up to
+/// the meeting, and the rest is moved.
 fn relex(
     alloc: Global,
     old: &Spans,
@@ -224,7 +225,8 @@ fn relex(
     ensures tokens { IfOk result (λ r. r.tokens.items ≡ tokens_of text.now aliases.now) }
     ensures front { IfOk result (λ r. r.front ≡ front_in edit.now old.now.tokens) }
     ensures back { IfOk result (λ r. r.back
-        ≡ back_in edit.now was.len old.now.tokens (record { text = text.now; aliases = aliases.now })) }
+        ≡ back_in edit.now was.len old.now.tokens
+            (record { text = text.now; aliases = aliases.now })) }
 {
     let kept = old.tokens();
     let change = Change::of(edit);
@@ -284,13 +286,13 @@ fn recut(
     })
 }
 
-/// The text after the edit, in memory of its own, with its tokens and spans under these aliases, which
-/// may be others than those of the text before it. Before the last Space token that begins below the
-/// edit, and from the first boundary behind the edit at which both texts have one, the tokens are kept:
-/// they are not lexed again, and only a word among them may be a command in one text alone.
-/// `OutOfRange` and `Differs` come where the edit can't be made, `NoMemory` where memory runs out; the
-/// text before it is lent, and stays. This project's own, after the idea of a document model that
-/// keeps what an edit leaves alone (Wenzel).
+/// The text after the edit, in memory of its own, with its tokens and spans under these aliases,
+/// which may be others than those of the text before it. Before the last Space token that begins
+/// below the edit, and from the first boundary behind the edit at which both texts have one, the
+/// tokens are kept: they are not lexed again, and only a word among them may be a command in one
+/// text alone. `OutOfRange` and `Differs` come where the edit can't be made, `NoMemory` where
+/// memory runs out; the text before it is lent, and stays. This project's own, after the idea of a
+/// document model that keeps what an edit leaves alone (Wenzel).
 pub fn reparse(
     alloc: Global,
     old: &Spans,
@@ -316,7 +318,8 @@ pub fn reparse(
     }
 }
 
-/// The same of a text that is handed over, in its own memory. It is let go where the edit is not made.
+/// The same of a text that is handed over, in its own memory. It is let go where the edit is not
+/// made.
 pub fn reparse_in_place(
     alloc: Global,
     old: &Spans,

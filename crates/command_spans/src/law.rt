@@ -14,8 +14,8 @@ ghost use Rattle.command_spans.specs.Reparsing.{old_end_of, new_end_of, moved, f
 ghost use Rattle.command_spans.specs.Keeping.{KeepsTokens};
 ghost use Rattle.command_spans.specs.declared.span.Span.{Span};
 
-/// Each list of tokens, and so each text under the aliases, is cut into one list of spans, which joins
-/// to the text.
+/// Each list of tokens, and so each text under the aliases, is cut into one list of spans, which
+/// joins to the text.
 pub fn one_list()
     ensures cut { (tokens : List Token) (spans : List Span) →
         AreSpansOf tokens spans ↔ (spans ≡ spans_of tokens) }
@@ -26,9 +26,9 @@ pub fn one_list()
         flat_map (λ s. text_between text s.range.start s.range.stop) spans ≡ text }
 {}
 
-/// What reparsing keeps: whatever the aliases before and after an edit, the first `front` tokens of the
-/// edited text are the first ones of the text before, and its last `back` are the last ones, moved as
-/// the edit converts their places; a word among them may be a command in one text alone.
+/// What reparsing keeps: whatever the aliases before and after an edit, the first `front` tokens of
+/// the edited text are the first ones of the text before, and its last `back` are the last ones,
+/// moved as the edit converts their places; a word among them may be a command in one text alone.
 pub fn kept_tokens()
     ensures kept { (edit : Edit) (old new : CutText) → Applies edit old.text new.text →
         KeepsTokens (old_end_of edit) (new_end_of edit) (front_of edit old) (back_of edit old new)

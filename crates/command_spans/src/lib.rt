@@ -1,5 +1,6 @@
 //! The spans of a text: commands, what stands before the first command, and what is ignored (after
-//! Isabelle's command spans). It knows the tokens of a text, and of commands nothing but that they are.
+//! Isabelle's command spans). It knows the tokens of a text, and of commands nothing but that they
+//! are.
 #![tactic(auto)]
 
 mod change;

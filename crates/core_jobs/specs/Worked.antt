@@ -39,7 +39,8 @@ head = record {
 abbrev pub begun : Input Words
 begun = input.Start head (Ordered (record { name = codes "A"; state = codes "t" ∷ [] } ∷ []))
 
--- an evaluation in `A`; that of the first command of `B`, which forks and asks for a blob; its print
+-- an evaluation in `A`; that of the first command of `B`, which forks and asks for a blob; its
+-- print
 abbrev pub homes : List Home
 homes = record { source = codes "b"; blob = Some (codes "p"); input = home.Print 2 }
     ∷ record { source = codes "b"; blob = Some (codes "p"); input = home.First head }

@@ -37,8 +37,8 @@ impl<S> Model for Job<S> {
 }
 
 impl<S> Job<S> {
-    /// The job of this part. The source is the command's, in scalars, and the blob the text that the
-    /// command asks for, where there is one. It takes no memory.
+    /// The job of this part. The source is the command's, in scalars, and the blob the text that
+    /// the command asks for, where there is one. It takes no memory.
     pub fn new(
         part: Part,
         source: Shared<Text>,
@@ -93,10 +93,10 @@ impl<S> Job<S> {
 }
 
 impl<S: Send + Sync + Drop> Job<S> {
-    /// Works on the part. Done has the language's answer to the command, its blob and the state that
-    /// is taken up, whatever `stop` says: an evaluation runs the command, a fork has what is reported
-    /// of it later, a print what is printed of it. Stopped comes only where `stop` answered yes in
-    /// this call. There and for want of memory the job is as it was.
+    /// Works on the part. Done has the language's answer to the command, its blob and the state
+    /// that is taken up, whatever `stop` says: an evaluation runs the command, a fork has what is
+    /// reported of it later, a print what is printed of it. Stopped comes only where `stop`
+    /// answered yes in this call. There and for want of memory the job is as it was.
     pub fn run<L: Language<State = S>, P: Stop>(
         self,
         alloc: Global,

@@ -14,7 +14,8 @@ use Rattle.buffer_rules.specs.Preparing.{Buffer, prepared}
 use Rattle.buffer_laws.specs.Fitting.{Agrees}
 
 -- the worker holds the job's part, and the job works on what the part's execution works on
-pub record Holds {S : Type 0} (l : Lang S) (h : List Event) (who : ℕ) (job : JobContent S) : Type 0 where
+pub record Holds {S : Type 0} (l : Lang S) (h : List Event) (who : ℕ) (job : JobContent S)
+    : Type 0 where
   pub part : held h who ≡ Some job.part
   pub right : IsJobOf l (doc l h).homes job
 

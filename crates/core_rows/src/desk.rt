@@ -1,5 +1,5 @@
-//! The editor's buffer with the core behind it, and the jobs that workers hold. Each call may be made
-//! at any time: one that the core doesn't take then says so.
+//! The editor's buffer with the core behind it, and the jobs that workers hold. Each call may be
+//! made at any time: one that the core doesn't take then says so.
 ghost use Rattle.std.specs.Prelude.{◌≡◌, ◌<◌, false};
 ghost use Rattle.core_rules.specs.Standing.{has_ended};
 ghost use Rattle.core_rules.specs.Doc.{doc};

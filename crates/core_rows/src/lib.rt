@@ -1,6 +1,6 @@
 //! Examples of the core at work behind an editor's buffer, over a small language: what updates
-//! assign, what comes of claims, cancellations and removals, and all orders of two workers on a small
-//! document. What is shown is compared with a check from nothing.
+//! assign, what comes of claims, cancellations and removals, and all orders of two workers on a
+//! small document. What is shown is compared with a check from nothing.
 //!
 //! It holds tests alone, in a crate of their own so that the crates are checked without them.
 #![tactic(auto)]

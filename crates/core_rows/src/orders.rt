@@ -30,8 +30,8 @@ const IMPORTER: Step = Step::Update(2, &[Of("B", Insert(24, " x"))]);
 
 const IMPORT: Step = Step::Update(2, &[Of("A", Change(3, "x", "y"))]);
 
-/// The first version, a step that comes once between those of the workers, and the versions that there
-/// are at the end.
+/// The first version, a step that comes once between those of the workers, and the versions that
+/// there are at the end.
 #[derive(Clone, Copy)]
 struct Orders {
     open: Step,
@@ -92,9 +92,9 @@ fn put(path: &mut Vec<usize>, place: usize, number: usize) -> Result<(), Fail> {
     Ok(())
 }
 
-/// Follows a path from the beginning, but for its last step, in place of which the first one is done
-/// that has its number or a greater one; and goes on by the first steps that can be done. None where
-/// the last step has no such one: then the path ends before it.
+/// Follows a path from the beginning, but for its last step, in place of which the first one is
+/// done that has its number or a greater one; and goes on by the first steps that can be done. None
+/// where the last step has no such one: then the path ends before it.
 fn walked(alloc: Global, orders: &Orders, path: &mut Vec<usize>) -> Result<Option<Run>, Fail> {
     let mut run = Run::new(alloc)?;
     run.step(alloc, orders.open)?;

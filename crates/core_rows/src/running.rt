@@ -29,7 +29,8 @@ pub(crate) enum Step {
     Settled(u64),
     /// What is shown of a node in the version.
     Shown(u64, &'static str),
-    /// Worker 0 takes parts and finishes them, until none is ready: the numbers of their executions.
+    /// Worker 0 takes parts and finishes them, until none is ready: the numbers of their
+    /// executions.
     Work,
     End,
 }

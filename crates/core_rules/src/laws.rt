@@ -31,9 +31,9 @@ use language::Language;
 
 /// After each legal list of events, whatever the order in which parts were taken and finished, all
 /// that a live version assigns comes to what it comes to from nothing: each execution goes by what
-/// the version has at its place, and works on the state in which its command is run when the version
-/// is checked from its first node to its last. So what is shown of a node is what that check gives,
-/// at the parts that are finished. What an execution works on never changes.
+/// the version has at its place, and works on the state in which its command is run when the
+/// version is checked from its first node to its last. So what is shown of a node is what that
+/// check gives, at the parts that are finished. What an execution works on never changes.
 pub fn core_law<L: Language>()
     ensures each { (h : List Event) (k : ℕ) (one : Live Version) → IsLegal L.lang h
         → slice_get (doc L.lang h).live k ≡ Some one
@@ -133,8 +133,8 @@ pub fn alone_law<L: Language>()
 {}
 
 /// An execution that a live version assigns goes by something and works on something. What it takes
-/// up are older evaluations, which the version assigns as well; and a node that has no commands, and
-/// hands on how it begins, is one of the version's. Nobody works on what was not made. A
+/// up are older evaluations, which the version assigns as well; and a node that has no commands,
+/// and hands on how it begins, is one of the version's. Nobody works on what was not made. A
 /// part that somebody holds, or has finished, waits for nothing.
 pub fn homes_law<L: Language>()
     ensures live { (h : List Event) (k : ℕ) (one : Live Version) (e : ℕ) → IsLegal L.lang h

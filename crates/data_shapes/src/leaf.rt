@@ -11,8 +11,8 @@ use lent_bodies::{LentBody, LentElement};
 use std::alloc::Global;
 use xml_tree::XmlString;
 
-/// What stands in the element `:` without attributes that stands first in the body, from which it is
-/// taken away.
+/// What stands in the element `:` without attributes that stands first in the body, from which it
+/// is taken away.
 pub(crate) fn take_node<'a>(body: &mut LentBody<'a>) -> Option<LentBody<'a>>
     ensures { MatchOption result ((inside more : List Tree) → body.old ≢ node inside ∷ more)
         (λ inside. body.old ≡ node inside ∷ body.new) }

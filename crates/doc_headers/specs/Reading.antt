@@ -47,7 +47,7 @@ header_from text r [] = None
 header_from text r (t ∷ ts) = if is_ended (advanced text t r).stage
     then Some (advanced text t r).header else header_from text (advanced text t r) ts
 
--- the header of the text, as a function: `HasHeader` holds of just its value, `HasNoHeader` where it
--- has none
+-- the header of the text, as a function: `HasHeader` holds of just its value, `HasNoHeader` where
+-- it has none
 abbrev pub header_in : List ℕ → Option Header
 header_in text = header_from text nothing (tokens_under (λ _. is_in_force []) text)

@@ -1,5 +1,5 @@
-//! The header of a text: the theory's name, its imports and its keyword pairs. It is read off the proper
-//! tokens of the text's front, without aliases. It knows nothing of nodes.
+//! The header of a text: the theory's name, its imports and its keyword pairs. It is read off the
+//! proper tokens of the text's front, without aliases. It knows nothing of nodes.
 #![tactic(auto)]
 
 mod law;

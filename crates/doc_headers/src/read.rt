@@ -11,8 +11,8 @@ use outer_tokens::{Kind, Stage, Token, after_token, content, is_proper, next_tok
 use sqlite_items::Items;
 use std::alloc::{AllocError, Global};
 
-/// How far a header has been read, what it told so far, and the name of a pair that isn't read to its
-/// end.
+/// How far a header has been read, what it told so far, and the name of a pair that isn't read to
+/// its end.
 #[derive(Debug, Drop)]
 struct Reading {
     stage: Stage,
@@ -66,8 +66,8 @@ impl Reading {
     }
 }
 
-/// The header of the text. `None` comes exactly where its proper tokens don't begin with one. No more
-/// of the text is read than its header, or than what shows that it has none.
+/// The header of the text. `None` comes exactly where its proper tokens don't begin with one. No
+/// more of the text is read than its header, or than what shows that it has none.
 pub fn header(alloc: Global, text: &[char]) -> Result<Option<Header>, AllocError>
     ensures { IfOk result (λ found. MatchOption found (HasNoHeader text.now) (HasHeader text.now)) }
 {
@@ -84,8 +84,8 @@ pub fn header(alloc: Global, text: &[char]) -> Result<Option<Header>, AllocError
     Ok(None)
 }
 
-/// Where the header of the text ends, in scalars: after its `begin`. `None` comes exactly where there is
-/// no header. No more of the text is read than for the header.
+/// Where the header of the text ends, in scalars: after its `begin`. `None` comes exactly where
+/// there is no header. No more of the text is read than for the header.
 pub fn header_stop(text: &[char]) -> Option<usize>
     ensures { result ≡ header_end text.now }
 {

@@ -26,8 +26,8 @@ pub type OpenNodes = SharedMap<NodeName, OpenNode>;
 
 /// The open nodes while an update is made, and the nodes of the version that comes of it. A node
 /// that an item names is there without commands, and its commands have to be cut; another is the
-/// node of the version before. `headers_stand` tells that no item has changed a header so far: there
-/// are nodes of the same names, with the same imports and keyword pairs, as before.
+/// node of the version before. `headers_stand` tells that no item has changed a header so far:
+/// there are nodes of the same names, with the same imports and keyword pairs, as before.
 #[derive(Drop)]
 pub struct Draft {
     pub opened: OpenNodes,

@@ -11,10 +11,12 @@ use Rattle.shared_map.specs.Cuts.{IsCut}
 abbrev pub to_span : ℕ → ℕ → ℕ → Ordering
 to_span from to key = cond (nat_lt key from) Less (cond (nat_lt key to) Equal Greater)
 
-before_span : (from to key other : ℕ) → nat_cmp key other ≡ Less → to_span from to other ≡ Less → to_span from to key ≡ Less
+before_span : (from to key other : ℕ) → nat_cmp key other ≡ Less → to_span from to other ≡ Less
+    → to_span from to key ≡ Less
 before_span from to key other rise less = grind (arith, nat_tests)
 
-behind_span : (from to key other : ℕ) → nat_cmp key other ≡ Less → to_span from to key ≡ Greater → to_span from to other ≡ Greater
+behind_span : (from to key other : ℕ) → nat_cmp key other ≡ Less → to_span from to key ≡ Greater
+    → to_span from to other ≡ Greater
 behind_span from to key other rise greater = grind (arith, nat_tests)
 
 pub is_cut-to_span : (from to : ℕ) → IsCut nat_cmp (to_span from to)

@@ -1,4 +1,5 @@
-//! Lists of what has happened: the same code over one that keeps its items and over one for proofs alone.
+//! Lists of what has happened: the same code over one that keeps its items and over one for proofs
+//! alone.
 use past_items::{Kept, Past, Unkept};
 use std::alloc::AllocError;
 use std::test::Fail;

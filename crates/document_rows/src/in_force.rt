@@ -1,5 +1,5 @@
-//! The aliases that are in force in each node (`doc_nodes`), by name: each as `name=target`, then the
-//! first bad one behind `!`.
+//! The aliases that are in force in each node (`doc_nodes`), by name: each as `name=target`, then
+//! the first bad one behind `!`.
 use crate::written::{Written, nodes_of};
 use doc_nodes::{ImportGraph, NodeAliases, aliases_of};
 use std::alloc::{AllocError, Global};

@@ -1,4 +1,5 @@
-//! A map that keeps its old versions (`shared_map`): what each call answers at values worked out by hand.
+//! A map that keeps its old versions (`shared_map`): what each call answers at values worked out by
+//! hand.
 use shared_map::{Cut, InsertError, SharedMap};
 use std::alloc::{AllocError, Global};
 use std::cmp::Ordering;

@@ -1,4 +1,5 @@
-//! Markup trees (`markup_tree`): what is kept, what a range is refused for, and what contains a range.
+//! Markup trees (`markup_tree`): what is kept, what a range is refused for, and what contains a
+//! range.
 use crate::sketch::{bare, report};
 use markup_tree::{AddError, MarkupTree};
 use pide_base::Range;

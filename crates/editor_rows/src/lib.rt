@@ -1,6 +1,6 @@
-//! Examples of the editor's document under updates: which ids commands keep, perspectives, refusals,
-//! and a walk of many updates beside a plain buffer that reads everything again. It holds tests alone,
-//! in a crate of their own so that the crates are checked without them.
+//! Examples of the editor's document under updates: which ids commands keep, perspectives,
+//! refusals, and a walk of many updates beside a plain buffer that reads everything again. It holds
+//! tests alone, in a crate of their own so that the crates are checked without them.
 #![tactic(auto)]
 
 #[cfg(test)]

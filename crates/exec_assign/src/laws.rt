@@ -35,9 +35,9 @@ pub fn cancelled_law()
 {}
 
 /// The new executions have the next numbers, one after the other: node by node in the order of
-/// imports, in a node its evaluations in the order of places, then its prints. The homes are theirs,
-/// in this order. Executions with lower numbers stand where the version before has them. So none is
-/// given twice.
+/// imports, in a node its evaluations in the order of places, then its prints. The homes are
+/// theirs, in this order. Executions with lower numbers stand where the version before has them. So
+/// none is given twice.
 pub fn new_numbers_law()
     ensures new { (u : Update) (first : ℕ) → AreBelow first u.tip
         → new_in u first (assignment u first).assigned

@@ -2,10 +2,10 @@
 //! new ones go by.
 //!
 //! Executions and their assignment are those of Wenzel, "Asynchronous User Interaction and Tool
-//! Integration in Isabelle/PIDE" (ITP 2014); when one is kept is this project's own. The rules stand
-//! in `exec_rules`, which know whole versions; here they are followed node by node, in the order of
-//! imports. A node that an update leaves alone, and whose imports end as before, shares its rows
-//! with the version before. It must not know of a language, of results or of workers.
+//! Integration in Isabelle/PIDE" (ITP 2014); when one is kept is this project's own. The rules
+//! stand in `exec_rules`, which know whole versions; here they are followed node by node, in the
+//! order of imports. A node that an update leaves alone, and whose imports end as before, shares
+//! its rows with the version before. It must not know of a language, of results or of workers.
 #![tactic(auto)]
 
 mod assigning;

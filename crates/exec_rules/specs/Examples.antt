@@ -10,14 +10,21 @@ use Rattle.exec_rules.specs.Listed.{Told, listed}
 
 -- a command that is hidden, and one that is seen
 abbrev pub hidden : ℕ → Entry
-hidden c = record { command = c; range = record { start = 0; stop = 0 }; visible = false; needs = None }
+hidden c =
+    record { command = c; range = record { start = 0; stop = 0 }; visible = false; needs = None }
 
 abbrev pub seen : ℕ → Entry
-seen c = record { command = c; range = record { start = 0; stop = 0 }; visible = true; needs = None }
+seen c =
+    record { command = c; range = record { start = 0; stop = 0 }; visible = true; needs = None }
 
 -- a command that asks for the blob `x`
 abbrev pub loads : ℕ → Entry
-loads c = record { command = c; range = record { start = 0; stop = 0 }; visible = false; needs = Some (codes "x") }
+loads c = record {
+  command = c;
+  range = record { start = 0; stop = 0 };
+  visible = false;
+  needs = Some (codes "x");
+}
 
 -- a node with these imports and commands, all of them wanted, and one without
 abbrev pub required : List (List ℕ) → List Entry → Node
@@ -25,7 +32,8 @@ required imports entries =
     record { text = []; entries = entries; required = true; imports = imports; keywords = [] }
 
 abbrev pub watched : List Entry → Node
-watched entries = record { text = []; entries = entries; required = false; imports = []; keywords = [] }
+watched entries =
+    record { text = []; entries = entries; required = false; imports = []; keywords = [] }
 
 -- the version before any update
 abbrev pub start : Version

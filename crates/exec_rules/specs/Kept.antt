@@ -45,7 +45,8 @@ kept times (e ∷ es) (b ∷ bs) (r ∷ rs) =
 kept times es bs rs = 0
 
 -- the command at a place can keep its evaluation
-pub record KeepsAt (times : Times) (now before : List Entry) (rows : List Row) (i : ℕ) : Type 0 where
+pub record KeepsAt (times : Times) (now before : List Entry) (rows : List Row) (i : ℕ)
+    : Type 0 where
   pub command : Entry
   pub old : Entry
   pub row : Row

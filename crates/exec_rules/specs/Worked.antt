@@ -10,7 +10,8 @@ abbrev pub five : NodeList
 five = (codes "A", required [] (hidden 1 ∷ hidden 2 ∷ hidden 3 ∷ hidden 4 ∷ hidden 5 ∷ [])) ∷ []
 
 abbrev pub third_changed : NodeList
-third_changed = (codes "A", required [] (hidden 1 ∷ hidden 2 ∷ hidden 6 ∷ hidden 4 ∷ hidden 5 ∷ [])) ∷ []
+third_changed =
+    (codes "A", required [] (hidden 1 ∷ hidden 2 ∷ hidden 6 ∷ hidden 4 ∷ hidden 5 ∷ [])) ∷ []
 
 -- the changed command and all behind it have new executions
 abbrev pub AChangedCommand : Type 0
@@ -44,18 +45,23 @@ pub record APerspective : Type 0 where
             ∷ (5, 7 ∷ 10 ∷ []) ∷ [],
       ) ∷ []
   pub one : tells after_all one_seen [] [] 11
-      ≡ (codes "A", (1, 1 ∷ 3 ∷ []) ∷ (2, 2 ∷ []) ∷ (3, 5 ∷ []) ∷ (4, 6 ∷ []) ∷ (5, 7 ∷ []) ∷ []) ∷ []
+      ≡ (
+        codes "A",
+        (1, 1 ∷ 3 ∷ []) ∷ (2, 2 ∷ []) ∷ (3, 5 ∷ []) ∷ (4, 6 ∷ []) ∷ (5, 7 ∷ []) ∷ [],
+      ) ∷ []
 
 -- a node and one that imports it; then the last command of the first is another; then that of the
 -- second
 abbrev pub importer : List ℕ → NodeList
-importer = λ name. (name, required (codes "A" ∷ []) (hidden 4 ∷ hidden 5 ∷ hidden 6 ∷ hidden 7 ∷ [])) ∷ []
+importer = λ name.
+    (name, required (codes "A" ∷ []) (hidden 4 ∷ hidden 5 ∷ hidden 6 ∷ hidden 7 ∷ [])) ∷ []
 
 abbrev pub importing : NodeList
 importing = (codes "A", required [] (hidden 1 ∷ hidden 2 ∷ hidden 3 ∷ [])) ∷ importer (codes "B")
 
 abbrev pub import_changed : NodeList
-import_changed = (codes "A", required [] (hidden 1 ∷ hidden 2 ∷ hidden 8 ∷ [])) ∷ importer (codes "B")
+import_changed =
+    (codes "A", required [] (hidden 1 ∷ hidden 2 ∷ hidden 8 ∷ [])) ∷ importer (codes "B")
 
 abbrev pub importer_changed : NodeList
 importer_changed = (codes "A", required [] (hidden 1 ∷ hidden 2 ∷ hidden 8 ∷ []))

@@ -69,8 +69,8 @@ impl<S: State> Shared<S> {
         let None = left else { unreachable!() };
     }
 
-    // Wakes those who wait for a change. Whoever begins to wait after this look looks at the count of
-    // entries after that, and so sees the entry that was appended before.
+    // Wakes those who wait for a change. Whoever begins to wait after this look looks at the count
+    // of entries after that, and so sees the entry that was appended before.
     fn wake_watchers(&self) {
         if self.is_watched() {
             self.table.shared.wake_all(ENTRIES);
@@ -89,8 +89,9 @@ impl<S: State> Shared<S> {
         self.wake_watchers();
     }
 
-    // Wakes those who wait for their turn, if a ticket was drawn behind the one that was served. Whoever
-    // draws one after this look looks whose turn it is after that, and so sees that it is its own.
+    // Wakes those who wait for their turn, if a ticket was drawn behind the one that was served.
+    // Whoever draws one after this look looks whose turn it is after that, and so sees that it is
+    // its own.
     fn wake_next(&self, served: u64) {
         if self.table.shared.peek(TICKETS) != served.wrapping_add(1) {
             self.table.shared.wake_all(SERVED);

@@ -13,8 +13,8 @@ use std::sync::atomic::{AtomicU64, Ordering};
 #[derive(Drop)]
 pub struct Shared<S: State> {
     pub(crate) table: Table<Option<S>, Doing<S::Entry>, Snapshot<S>, OneHistory<S>, Global>,
-    /// How many callers wait for a change, or are about to: those who make one wake nobody where it is
-    /// 0. No contract speaks of it.
+    /// How many callers wait for a change, or are about to: those who make one wake nobody where it
+    /// is 0. No contract speaks of it.
     pub(crate) watchers: AtomicU64,
     ghost sized: { (table.shared.table_id.words ≡ 3) × (table.shared.table_id.slots ≡ 1) },
 }

@@ -5,8 +5,8 @@ ghost use Rattle.std.specs.List.{list_all};
 ghost use Rattle.import_rounds.specs.Rounds.{has, is_known, in_rounds};
 ghost use Rattle.import_rounds.specs.Looks.{aims_at};
 
-/// A node is ordered exactly where each of its imports is a node that is ordered. It is ordered once,
-/// and each of its imports before it.
+/// A node is ordered exactly where each of its imports is a node that is ordered. It is ordered
+/// once, and each of its imports before it.
 pub fn rounds_law()
     ensures nodes { (rows : List (List (Option ℕ))) (p : ℕ) → has (in_rounds rows) p ≡ true
         → p < length rows }

@@ -42,8 +42,8 @@ pub fn refused_law()
         → IsDoneOrRefused before (step source blob before) }
 {}
 
-/// What is reported of a command, by its evaluation, its fork and its print, lies in its source; any
-/// two of these reports are equal in range, nested or disjoint.
+/// What is reported of a command, by its evaluation, its fork and its print, lies in its source;
+/// any two of these reports are equal in range, nested or disjoint.
 pub fn tidy_law()
     ensures { AreTidy isar }
 {}

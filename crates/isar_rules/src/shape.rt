@@ -3,7 +3,8 @@
 use pide_base::Range;
 use sqlite_items::Items;
 
-/// A name, or the content of a quoted text, in scalars, and where it stands in the command's source.
+/// A name, or the content of a quoted text, in scalars, and where it stands in the command's
+/// source.
 #[derive(Debug, Drop)]
 pub struct Spot {
     pub text: Items<char>,

@@ -22,8 +22,8 @@ pub trait Language {
     /// The language as a record of functions.
     ghost lang: { Lang Self.State };
 
-    /// The state at the beginning of a node of this name, with what it has from its imports and with
-    /// its aliases.
+    /// The state at the beginning of a node of this name, with what it has from its imports and
+    /// with its aliases.
     fn start(
         &self,
         alloc: Global,
@@ -33,9 +33,9 @@ pub trait Language {
     ) -> Result<Self::State, AllocError>
         ensures { IfOk result (λ state. state ≡ lang.start node.now imports.now aliases.now) };
 
-    /// What the command of this source makes of the state, with the text of the blob that it asks for,
-    /// where there is one. Ranges count scalars of the source. Stopped comes only where `stop` answered
-    /// yes in this call.
+    /// What the command of this source makes of the state, with the text of the blob that it asks
+    /// for, where there is one. Ranges count scalars of the source. Stopped comes only where `stop`
+    /// answered yes in this call.
     fn step<P: Stop>(
         &self,
         alloc: Global,
@@ -67,6 +67,7 @@ pub trait Language {
     ) -> Result<Items<Report>, AllocError>
         ensures { IfOk result (λ reports. reports ≡ lang.print source.now state.now) };
 
-    /// Reports lie in the source, and any two of a command's are equal in range, nested or disjoint.
+    /// Reports lie in the source, and any two of a command's are equal in range, nested or
+    /// disjoint.
     ghost tidy: { AreTidy lang };
 }

@@ -38,7 +38,8 @@ abbrev pub entries_of : NodeList → List Entry
 entries_of [] = []
 entries_of (node ∷ nodes) = node.1.entries
 
--- what a command reports, and what its fork reports if it has one, at the command's place in the text
+-- what a command reports, and what its fork reports if it has one, at the command's place in the
+-- text
 abbrev pub reported : {S : Type 0} → Lang S → Entry × Setting S → List Report
 reported l pair = map (moved pair.0.range.start) ((made_of l pair.1).reports
     ++ (if (made_of l pair.1).forks then forked l pair.1 else []))

@@ -34,8 +34,8 @@ impl From<AllocError> for AddError {
     }
 }
 
-/// Reports in report order, any two of which are equal in range, nested or disjoint. Contracts see it
-/// as their list. A report is added in time logarithmic in their number.
+/// Reports in report order, any two of which are equal in range, nested or disjoint. Contracts see
+/// it as their list. A report is added in time logarithmic in their number.
 #[derive(Drop)]
 pub struct MarkupTree {
     tree: Tree,

@@ -109,8 +109,8 @@ ExI t s a (exists p) r =
     Depending (a ≡ instance t p) (Makes r (members s) (exists p)) (Misfits r R.ExI 1)
 ExI t s a _ r = Misfits r R.ExI 1
 
--- from EX y. P[y] and from C, with P[x] assumed, to C, where x is free neither in the body P, nor in
--- C, nor in the assumptions that remain of the second premise
+-- from EX y. P[y] and from C, with P[x] assumed, to C, where x is free neither in the body P, nor
+-- in C, nor in the assumptions that remain of the second premise
 abbrev pub ExE : List ℕ → List Statement → Statement → List Statement → Statement → Answer → Type 0
 ExE x s (exists p) t c r =
     Depending ((is_free x p ≡ false) × (is_free x c ≡ false)

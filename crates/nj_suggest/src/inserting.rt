@@ -6,9 +6,9 @@ ghost use Rattle.nj_suggest.specs.Edits.{edit};
 use std::alloc::{AllocError, Global};
 use text_edits::{Edit, Text};
 
-/// The edit that puts a suggestion's text, with a space before and behind it, in at the place, which
-/// counts scalars: at the end of the command that the suggestion was printed of. An error says that
-/// there was no memory.
+/// The edit that puts a suggestion's text, with a space before and behind it, in at the place,
+/// which counts scalars: at the end of the command that the suggestion was printed of. An error
+/// says that there was no memory.
 pub fn edit(alloc: Global, stop: usize, text: &str) -> Result<Edit, AllocError>
     ensures { IfOk result (λ e. e ≡ edit stop (chars text.now)) }
 {

@@ -21,8 +21,8 @@ abbrev pub is_space : List ℕ → Bool
 is_space [] = false
 is_space (c ∷ s) = list_all is_blank (c ∷ s)
 
--- identifiers joined by dots, as a test: whether a dot came before, and whether an identifier begins
--- here
+-- identifiers joined by dots, as a test: whether a dot came before, and whether an identifier
+-- begins here
 abbrev pub is_long_from : Bool → Bool → List ℕ → Bool
 is_long_from dotted true [] = false
 is_long_from dotted true (c ∷ s) = is_ascii_alphabetic c && is_long_from dotted false s

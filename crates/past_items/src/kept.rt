@@ -5,7 +5,8 @@ use crate::past::Past;
 use std::alloc::{AllocError, Global};
 use std::marker::Model;
 
-/// What has happened, kept oldest first in a vector. Contracts see its list, newest first, and the room for more.
+/// What has happened, kept oldest first in a vector. Contracts see its list, newest first, and the
+/// room for more.
 #[derive(Drop)]
 pub struct Kept<T> {
     items: Vec<T>,

@@ -11,7 +11,8 @@ pub trait Past<T>: Sized {
     /// How many items can be added without memory.
     ghost room: { Self → ℕ };
 
-    /// Makes room for so many items. For want of memory nothing has changed but the room, which never falls.
+    /// Makes room for so many items. For want of memory nothing has changed but the room, which
+    /// never falls.
     fn reserve(&mut self, more: usize) -> Result<(), AllocError>
         ensures items { items self.new ≡ items self.old }
         ensures room { room self.old ≤ room self.new }

@@ -6,8 +6,8 @@ use http_server::Log;
 use std::alloc::AllocError;
 use std::marker::Model;
 
-/// What has happened, of which nothing is kept: it takes no memory, and proofs alone can read it. Contracts see
-/// the list, newest first.
+/// What has happened, of which nothing is kept: it takes no memory, and proofs alone can read it.
+/// Contracts see the list, newest first.
 #[derive(Drop)]
 pub struct Unkept<T> {
     log: Log<T, ()>,

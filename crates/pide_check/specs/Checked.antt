@@ -15,11 +15,13 @@ abbrev pub HadText : List ℕ → Option (List ℕ) → Type 0
 HadText taken left = HadJust taken left × IsUtf8 taken
 
 -- what was taken: a text, where its lines were written or the sink failed; all bytes up to the end,
--- with the first that is in no whole character; one byte too many; or fewer, where the source failed
+-- with the first that is in no whole character; one byte too many; or fewer, where the source
+-- failed
 abbrev pub TakesSo : Status → List ℕ → Option (List ℕ) → Type 0
 TakesSo status.Done taken left = HadText taken left
 TakesSo status.WriteFault taken left = HadText taken left
-TakesSo (status.BadText at) taken left = HadJust taken left × (IsUtf8 taken → ⊥) × IsValidUpTo taken at
+TakesSo (status.BadText at) taken left =
+    HadJust taken left × (IsUtf8 taken → ⊥) × IsValidUpTo taken at
 TakesSo status.LongInput taken left = length taken ≡ most_bytes + 1
 TakesSo status.ReadFault taken left = length taken ≤ most_bytes
 TakesSo status.NoMemory taken left = length taken ≤ most_bytes + 1

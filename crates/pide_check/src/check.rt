@@ -61,8 +61,8 @@ fn checked<L: Language, S: Source, K: Sink>(
     }
 }
 
-/// Reads the text of the source, checks it from nothing, and writes its lines: all of them where the
-/// answer is `Done`, a front of them where the sink failed or memory ran out, and else nothing.
+/// Reads the text of the source, checks it from nothing, and writes its lines: all of them where
+/// the answer is `Done`, a front of them where the sink failed or memory ran out, and else nothing.
 pub fn check_text<L: Language, S: Source, K: Sink>(
     alloc: Global,
     language: &L,

@@ -50,8 +50,8 @@ fn add_line<K: Sink>(sink: &mut K, text: &mut String, report: &Report) -> Result
     Ok(push_piece(sink, text))
 }
 
-/// Writes the line of each report, in pieces. False where the sink failed: it has then taken a front
-/// of them, as for want of memory.
+/// Writes the line of each report, in pieces. False where the sink failed: it has then taken a
+/// front of them, as for want of memory.
 pub(crate) fn write_lines<K: Sink>(
     alloc: Global,
     sink: &mut K,

@@ -28,9 +28,9 @@ pub enum LetGo {
     ByOther,
 }
 
-/// Holds each worker at its first claim: the worker that it is made for, and worker 0, until another
-/// worker has come to a point after it was first about to hand in a part; each other worker until the
-/// one that it is made for has claimed. A hold ends after so many looks at the latest.
+/// Holds each worker at its first claim: the worker that it is made for, and worker 0, until
+/// another worker has come to a point after it was first about to hand in a part; each other worker
+/// until the one that it is made for has claimed. A hold ends after so many looks at the latest.
 #[derive(Drop)]
 pub struct HoldGate {
     worker: u32,

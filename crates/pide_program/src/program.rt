@@ -13,8 +13,8 @@ use pide_serve::{Outcome, serve};
 use std::alloc::Global;
 use toplevel::Isar;
 
-/// Does what the words ask: serves the messages of the source, each when it is whole, and writes the
-/// replies; or checks the text of the source, and writes its markup by lines.
+/// Does what the words ask: serves the messages of the source, each when it is whole, and writes
+/// the replies; or checks the text of the source, and writes its markup by lines.
 ///
 /// `words` are those of the command line after the program's name.
 pub fn pide<S: Source, K: Sink>(alloc: Global, words: &[&str], source: S, sink: K) -> Outcome<S, K>

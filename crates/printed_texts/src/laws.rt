@@ -6,5 +6,6 @@ ghost use Rattle.isar_rules.specs.Described.{levels_text};
 
 /// The text of a proof state is what describes it, and nothing else is.
 pub fn one_state_text()
-    ensures { (levels : Levels) (text : List ℕ) → Describes levels text ↔ (text ≡ levels_text levels) }
+    ensures { (levels : Levels) (text : List ℕ)
+        → Describes levels text ↔ (text ≡ levels_text levels) }
 {}

@@ -1,5 +1,5 @@
-//! Examples of the program: its words, streams over memory, turns at the lock in threads, workers, a
-//! session, and whole runs.
+//! Examples of the program: its words, streams over memory, turns at the lock in threads, workers,
+//! a session, and whole runs.
 //!
 //! It holds tests alone, in a crate of their own so that the program is checked without them.
 #![tactic(auto)]

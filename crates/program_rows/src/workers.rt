@@ -26,7 +26,8 @@ use worker_loop::{Shift, run_workers};
 /// The most looks of a gate.
 const LOOKS: u64 = 10_000_000;
 
-/// Holds the first worker whose job asks whether to stop until another has come to six points after that.
+/// Holds the first worker whose job asks whether to stop until another has come to six points after
+/// that.
 #[derive(Drop)]
 struct SixPoints {
     /// The worker that is held, one more than its number.
@@ -82,7 +83,8 @@ fn task(alloc: Global, part: Part, is_stopped: bool) -> Result<Task, AllocError>
     Ok(Task { part, flag })
 }
 
-// A board of so many tasks, with the executions 1, 2 and so on. Those after `wanted` are to be stopped.
+// A board of so many tasks, with the executions 1, 2 and so on. Those after `wanted` are to be
+// stopped.
 fn board_of(alloc: Global, tasks: u64, wanted: u64) -> Result<Board, AllocError>
     ensures { IfOk result (λ b. b.marks.items ≡ []) }
 {
@@ -123,7 +125,8 @@ fn add_pass(
     requires few { vec_len passes.old + 1 < 2 ^ 32 }
     requires workers { AreWorkers (λ m. m.what) lock.now 1 passes.old.items }
     ensures own { IsPassOf lock.now first.new }
-    ensures first { ((view first.new).caller ≡ 0) × IfOk result (λ _. (view first.new).made ≡ vec_len passes.new) }
+    ensures first { ((view first.new).caller ≡ 0)
+        × IfOk result (λ _. (view first.new).made ≡ vec_len passes.new) }
     ensures workers { IfOk result (λ _. AreWorkers (λ m. m.what) lock.now 1 passes.new.items) }
     ensures count { IfOk result (λ _. vec_len passes.new ≡ vec_len passes.old + 1) }
 {
@@ -148,8 +151,8 @@ fn end<R: Wait>(rt: &R, lock: &Shared<Board>, first: Pass<Board>, tasks: usize) 
     unreachable!()
 }
 
-// So many workers work through so many tasks, each in a thread of its own, until those up to `wanted` are
-// finished: what was made of the tasks.
+// So many workers work through so many tasks, each in a thread of its own, until those up to
+// `wanted` are finished: what was made of the tasks.
 fn work_through<R: Threads + Wait + Sync, G: Gate + Sync>(
     rt: &R,
     alloc: Global,

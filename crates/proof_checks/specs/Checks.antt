@@ -1,6 +1,6 @@
 -- The answer to a proof term, a goal and a scope, as a function: the statements that the proof
--- assumes, or the first fault. A rule is judged before its parts, the parts from the left, and fresh
--- names after the parts (this project's own; the conditions on names are Gentzen's, 1935).
+-- assumes, or the first fault. A rule is judged before its parts, the parts from the left, and
+-- fresh names after the parts (this project's own; the conditions on names are Gentzen's, 1935).
 use Rattle.std.specs.Prelude.{ℕ, zero, suc, List, [], ◌∷◌, ◌++◌, Option, Result, Ok, Err}
 use Rattle.std.specs.Prelude.{if◌then◌else◌}
 use Rattle.nj_formula.specs.declared.formula.Formula.{Formula}

@@ -20,7 +20,8 @@ pub(crate) fn cited(
     goal: &Formula,
     scope: &InnerScope,
 ) -> Result<Thm, Halt>
-    ensures gives { Gives result (cited cite.now.name goal.now (looked_in (seen scope.now) cite.now.name))
+    ensures gives { Gives result
+        (cited cite.now.name goal.now (looked_in (seen scope.now) cite.now.name))
         (meaning goal.now) }
     ensures runs { NotStopped result }
 {

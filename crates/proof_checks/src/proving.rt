@@ -96,7 +96,8 @@ fn taken<P: Stop>(
 ) -> Result<Thm, Halt>
     requires within { IsWithin step.now left }
     requires fits { Fits step.now (meaning goal.now) }
-    ensures gives { Gives result (of_step (checked_within (left - 1)) (seen scope.old) goal.now step.now)
+    ensures gives { Gives result
+        (of_step (checked_within (left - 1)) (seen scope.old) goal.now step.now)
         (meaning goal.now) }
     ensures scope { OnOk result (scope.new ≡ scope.old) }
     ensures asked { Asked result (P.yeses stop.old) (P.yeses stop.new) }

@@ -20,8 +20,8 @@ IsJustified facts by levels = GoalFollows facts levels
 IsJustified facts (fix seen x) levels = seen ≡ facts
 IsJustified facts _ levels = Unit {0}
 
--- the commands are accepted one after the other, each is justified, and the last one closes the goal
--- of the start
+-- the commands are accepted one after the other, each is justified, and the last one closes the
+-- goal of the start
 abbrev pub IsProof : List Fact → List Command → Levels → Type 0
 IsProof facts [] levels = levels ≡ Closed
 IsProof facts (command ∷ more) levels = IsJustified facts command levels

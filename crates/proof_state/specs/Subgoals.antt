@@ -1,4 +1,5 @@
--- The subgoals of a goal: what the introduction rule of its outermost symbol asks for (Gentzen 1935).
+-- The subgoals of a goal: what the introduction rule of its outermost symbol asks for (Gentzen
+-- 1935).
 use Rattle.std.specs.Prelude.{Bool, true, false, List, [], ◌∷◌}
 use Rattle.nj_formula.specs.declared.formula.Formula.{Formula, out-Formula}
 use Rattle.nj_formula.specs.declared.formula.Formula.TheOpen.{Formula-F}

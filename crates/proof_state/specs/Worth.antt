@@ -1,5 +1,5 @@
--- What proof states are worth, whatever commands led there: once what is open is derived, the goal of
--- the start is derived from the facts of the context (this project's own).
+-- What proof states are worth, whatever commands led there: once what is open is derived, the goal
+-- of the start is derived from the facts of the context (this project's own).
 use Rattle.std.specs.Prelude.{◌≡◌, ◌⊎◌, false, List, [], ◌∷◌, Some, map, slice_get}
 use Rattle.nj_formula.specs.declared.formula.Formula.{Formula}
 use Rattle.nj_formula.specs.Meaning.{meaning}
@@ -40,8 +40,8 @@ IsPartOf goal (S.Show c) = Unit {0}
 IsPartOf goal (S.AssumeShow a c) = Unit {0}
 IsPartOf goal (S.FixShow x p) = meaning goal ≡ every (meaning p)
 
--- the block stands, where P is given: its facts follow, its pending subgoals are enough for its goal,
--- and its variables are fresh
+-- the block stands, where P is given: its facts follow, its pending subgoals are enough for its
+-- goal, and its variables are fresh
 pub record IsSound (P : Statement → Type 0) (block : Block) : Type 0 where
   pub facts : Each (λ fact. Follows (λ s. P s ⊎ Assumes block s) (meaning fact.formula)) block.facts
   pub enough : Each (Holds P) block.pending → Follows P (meaning block.goal)
@@ -51,7 +51,8 @@ pub record IsSound (P : Statement → Type 0) (block : Block) : Type 0 where
 -- deriving the goal inside the block does for the block what it is shown for
 abbrev pub Serves : (Statement → Type 0) → Purpose → Formula → Block → Type 0
 Serves P (Have name) goal block = Unit {0}
-Serves P (Show place) goal block = (subgoal : Subgoal) × (slice_get block.pending place ≡ Some subgoal)
+Serves P (Show place) goal block =
+    (subgoal : Subgoal) × (slice_get block.pending place ≡ Some subgoal)
     × (Follows (λ s. P s ⊎ Assumes block s) (meaning goal) → Holds P subgoal)
 
 -- deriving the goal inside these blocks is worth the goal of the start

@@ -1,6 +1,6 @@
-//! The state of a proof in the language of Isar (Wenzel 1999): levels of blocks and, while a goal is
-//! open, that goal; and what each proof command makes of it. Which subgoals a goal has, and when one
-//! of them fits what is shown, is this project's own.
+//! The state of a proof in the language of Isar (Wenzel 1999): levels of blocks and, while a goal
+//! is open, that goal; and what each proof command makes of it. Which subgoals a goal has, and when
+//! one of them fits what is shown, is this project's own.
 //!
 //! A copy takes constant time, and a command shares all that it does not change, so that the state
 //! before each command can be kept. It must not know text, proof terms or who checks them.

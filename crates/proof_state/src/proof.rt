@@ -14,9 +14,9 @@ use std::alloc::{AllocError, Global};
 use std::marker::Model;
 use theory_ctx::{Ctx, Scope};
 
-/// A proof of a goal, as far as its commands have come. Contracts see it as its levels: in mode prove
-/// an open goal, in mode state a block, each with the blocks around it from the inside out, or that
-/// the goal given at the start is closed. At each error it is as before.
+/// A proof of a goal, as far as its commands have come. Contracts see it as its levels: in mode
+/// prove an open goal, in mode state a block, each with the blocks around it from the inside out,
+/// or that the goal given at the start is closed. At each error it is as before.
 #[derive(Drop)]
 pub struct Proof {
     levels: Levels,
@@ -77,8 +77,8 @@ impl Proof {
         Ok(())
     }
 
-    /// `assume`: the formula joins the block's assumptions. `NotAllowed` in mode prove and after the
-    /// end.
+    /// `assume`: the formula joins the block's assumptions. `NotAllowed` in mode prove and after
+    /// the end.
     pub fn assume(
         &mut self,
         alloc: Global,
@@ -111,8 +111,8 @@ impl Proof {
         Ok(())
     }
 
-    /// `show`: opens a goal for the first pending subgoal of the block that fits, which is no longer
-    /// pending when the goal is closed. `NotAllowed` in mode prove and after the end;
+    /// `show`: opens a goal for the first pending subgoal of the block that fits, which is no
+    /// longer pending when the goal is closed. `NotAllowed` in mode prove and after the end;
     /// `NoSuchSubgoal` where none fits.
     pub fn show(&mut self, alloc: Global, formula: Formula) -> Result<(), ProofFault>
         ensures step { Gives (step (show formula) self.old) (left result self.new) }
@@ -122,8 +122,8 @@ impl Proof {
         Ok(())
     }
 
-    /// `next`: the block has no variables, assumptions and facts any more. `NotAllowed` in mode prove
-    /// and after the end.
+    /// `next`: the block has no variables, assumptions and facts any more. `NotAllowed` in mode
+    /// prove and after the end.
     pub fn next(&mut self, alloc: Global) -> Result<(), ProofFault>
         ensures step { Gives (step next self.old) (left result self.new) }
         ensures err { OnErr result (self.new ≡ self.old) }
@@ -133,8 +133,8 @@ impl Proof {
     }
 
     /// `qed`: closes the block's goal, and tells whether it is the goal given at the start.
-    /// `NotAllowed` in mode prove and after the end; `SubgoalsRemain` where a subgoal of the block is
-    /// pending.
+    /// `NotAllowed` in mode prove and after the end; `SubgoalsRemain` where a subgoal of the block
+    /// is pending.
     pub fn qed(&mut self, alloc: Global) -> Result<bool, ProofFault>
         ensures step { Gives (step qed self.old) (left result self.new) }
         ensures whole { IfOk result (λ whole. whole ≡ is_closed self.new) }
@@ -144,8 +144,8 @@ impl Proof {
         Ok(self.levels.is_closed())
     }
 
-    /// `by`: closes the open goal, and tells whether it is the goal given at the start. Whether it is
-    /// derivable is asked elsewhere. `NotAllowed` in mode state and after the end.
+    /// `by`: closes the open goal, and tells whether it is the goal given at the start. Whether it
+    /// is derivable is asked elsewhere. `NotAllowed` in mode state and after the end.
     pub fn by(&mut self, alloc: Global) -> Result<bool, ProofFault>
         ensures step { Gives (step by self.old) (left result self.new) }
         ensures whole { IfOk result (λ whole. whole ≡ is_closed self.new) }
@@ -188,8 +188,8 @@ impl Proof {
         Ok(scope)
     }
 
-    /// The print: the open goal, or the block's goal and a line for each pending subgoal. Empty after
-    /// the end.
+    /// The print: the open goal, or the block's goal and a line for each pending subgoal. Empty
+    /// after the end.
     pub fn describe(&self, alloc: Global) -> Result<String, AllocError>
         ensures { IfOk result (λ text. Describes self.now (string_bytes text)) }
     {

@@ -1,4 +1,5 @@
--- What stands in a rule of a proof term, in order (this project's own; the rules are Gentzen's, 1935).
+-- What stands in a rule of a proof term, in order (this project's own; the rules are Gentzen's,
+-- 1935).
 use Rattle.std.specs.Prelude.{ℕ, List, [], ◌∷◌, Option, Some, None}
 use Rattle.nj_formula.specs.declared.argument.Argument.{Argument}
 use Rattle.nj_formula.specs.declared.formula.Formula.{Formula}
@@ -9,8 +10,8 @@ use Rattle.proof_terms.specs.declared.term.Term.TheVariants.{ConjI, ConjE1, Conj
 use Rattle.proof_terms.specs.declared.term.Term.TheVariants.{ImpI, ImpE, NotI, NotE, FalseE}
 use Rattle.proof_terms.specs.declared.term.Term.TheVariants.{AllI, AllE, ExI, ExE}
 
--- a place in a rule: of a quoted formula, of a quoted term of the object language, of a name, and of
--- a proof term
+-- a place in a rule: of a quoted formula, of a quoted term of the object language, of a name, and
+-- of a proof term
 pub data Slot : Type 0 where
   formula : Slot
   object : Slot
@@ -49,7 +50,8 @@ built R.ConjE1 (a_formula b ∷ a_proof t ∷ []) = Some (ConjE1 b t)
 built R.ConjE2 (a_formula a ∷ a_proof t ∷ []) = Some (ConjE2 a t)
 built R.DisjI1 (a_proof t ∷ []) = Some (DisjI1 t)
 built R.DisjI2 (a_proof t ∷ []) = Some (DisjI2 t)
-built R.DisjE (a_formula a ∷ a_formula b ∷ a_proof t ∷ a_name x ∷ a_proof u ∷ a_name y ∷ a_proof v ∷ []) =
+built R.DisjE
+    (a_formula a ∷ a_formula b ∷ a_proof t ∷ a_name x ∷ a_proof u ∷ a_name y ∷ a_proof v ∷ []) =
     Some (DisjE a b t x u y v)
 built R.ImpI (a_name x ∷ a_proof t ∷ []) = Some (ImpI x t)
 built R.ImpE (a_formula a ∷ a_proof t ∷ a_proof u ∷ []) = Some (ImpE a t u)

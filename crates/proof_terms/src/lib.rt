@@ -1,7 +1,7 @@
-//! Proof terms: what stands behind `by`, read from the tokens of its source. A term is a cited fact,
-//! or a rule of natural deduction with what it is made of: formulas, terms of the object language,
-//! names and further proof terms. The rules are Gentzen's (1935); how terms are written, how deep
-//! they may nest and what is told first of a wrong one are this project's own.
+//! Proof terms: what stands behind `by`, read from the tokens of its source. A term is a cited
+//! fact, or a rule of natural deduction with what it is made of: formulas, terms of the object
+//! language, names and further proof terms. The rules are Gentzen's (1935); how terms are written,
+//! how deep they may nest and what is told first of a wrong one are this project's own.
 //!
 //! To know what is promised, read `specs/Slots.antt` (the table of rules), `specs/Grammar.antt` and
 //! `specs/Faults.antt`; `specs/Reading.antt` is the same answer as a function. It must not know

@@ -41,7 +41,8 @@ pub(crate) fn malformed() -> TermError
     TermError::Fault(TermFault::Malformed)
 }
 
-/// The name whose scalars these are, unless one of them is not ASCII. The letters are room to write.
+/// The name whose scalars these are, unless one of them is not ASCII. The letters are room to
+/// write.
 fn ascii_name(
     alloc: Global,
     letters: &mut String,

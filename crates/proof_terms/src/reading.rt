@@ -16,11 +16,11 @@ use std::alloc::Global;
 /// How many rules may be nested.
 const DEEPEST: usize = 200;
 
-/// The proof term that the proper tokens of the source are, all of them. The faults are told in this
-/// order, from the left: a token with which no term goes on (`Malformed`, as where the tokens end too
-/// early or go on behind the term), a quoted text that is no formula or no term (`BadFormula`,
-/// `FormulaTooDeep`), and the name of a rule that stands in 200 others (`ProofTooDeep`). It looks no
-/// further than the fault.
+/// The proof term that the proper tokens of the source are, all of them. The faults are told in
+/// this order, from the left: a token with which no term goes on (`Malformed`, as where the tokens
+/// end too early or go on behind the term), a quoted text that is no formula or no term
+/// (`BadFormula`, `FormulaTooDeep`), and the name of a rule that stands in 200 others
+/// (`ProofTooDeep`). It looks no further than the fault.
 pub fn read(alloc: Global, source: &[char], tokens: &[Token]) -> Result<Term, TermError>
     ensures { Told (marks source.now tokens.now) result }
 {

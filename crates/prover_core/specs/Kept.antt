@@ -60,9 +60,9 @@ pub record IsKnown {S : Type 0} (l : Lang S) (homes : List Home) (e : ℕ) : Typ
   pub setting_is : setting l homes e ≡ Some works_on
 
 -- they are told by all that has happened: the live versions, with what was lost by them and the
--- numbers that came next when they were made; the next execution; of each execution that a live version assigns how far it is,
--- and what it goes by; who holds what; the tasks of the tip; whether all has ended, and whether
--- something of the tip may be cancelled
+-- numbers that came next when they were made; the next execution; of each execution that a live
+-- version assigns how far it is, and what it goes by; who holds what; the tasks of the tip; whether
+-- all has ended, and whether something of the tip may be cancelled
 pub record IsKept {S : Type 0} (l : Lang S) (h : List Event) (t : Tables S) : Type 0 where
   pub legal : IsLegal l h
   pub start_is : t.versions.start ≡ start

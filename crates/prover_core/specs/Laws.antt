@@ -22,8 +22,8 @@ use Rattle.core_rules.specs.Sources.{HasHome}
 use Rattle.core_rules.specs.Placed.{RowOf}
 
 -- what the tip assigns goes by something and has a place, what a live version assigns was made, and
--- nobody works on what was not; nothing that was cancelled is assigned again, and each new execution
--- has the next number
+-- nobody works on what was not; nothing that was cancelled is assigned again, and each new
+-- execution has the next number
 pub record UpdateLaws {S : Type 0} (l : Lang S) : Type 0 where
   pub tip : (h : List Event) (e : ℕ) → IsLegal l h → assigns (doc l h).tip e ≡ true
       → HasHome l (doc l h) (doc l h).tip e

@@ -2,7 +2,8 @@
 //! far each execution is, and the tasks; it hands out jobs and takes in what comes of them.
 //!
 //! It is told by all that has happened, a list of events that no memory is used for: what it keeps
-//! is what `core_rules` says of that list. It must not know messages, threads, or how a text is cut.
+//! is what `core_rules` says of that list. It must not know messages, threads, or how a text is
+//! cut.
 #![tactic(auto)]
 
 mod adding;

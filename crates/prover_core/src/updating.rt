@@ -20,8 +20,8 @@ use version_losses::Loss;
 
 impl<L: Language> Core<L> {
     /// Makes a version as it was planned: executions that the tip had and the version hasn't, with
-    /// an unfinished part, are cancelled, and their jobs asked to stop. Answers the nodes whose rows
-    /// are others than the tip's, in the order of names. It takes no memory.
+    /// an unfinished part, are cancelled, and their jobs asked to stop. Answers the nodes whose
+    /// rows are others than the tip's, in the order of names. It takes no memory.
     pub fn update(&mut self, plan: Plan) -> Vec<ToldNode>
         requires going { has_ended self.old.past ≡ false }
         requires planned { IsPlanOf L.lang self.old.past plan }

@@ -1,7 +1,7 @@
 //! What has happened to something that replies, and the replies that wait to be sent.
 //!
-//! A list tells the entries and, between them, which replies the writer took and whether it lost the
-//! sink; this project's own. Room for what is owed is made before it is owed, so that adding an
+//! A list tells the entries and, between them, which replies the writer took and whether it lost
+//! the sink; this project's own. Room for what is owed is made before it is owed, so that adding an
 //! entry with its reply, sending and losing take no memory. It must not know what an entry is, what
 //! replies say, or where they go.
 #![tactic(auto)]

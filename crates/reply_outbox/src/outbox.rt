@@ -11,9 +11,9 @@ use std::alloc::{AllocError, Global};
 use std::collections::VecDeque;
 use std::marker::{Model, PhantomData};
 
-/// What has happened, in a list of the caller's, and the replies that wait to be sent. Contracts see
-/// the items, the newest first, the bytes of the replies, the oldest first, and for how many entries,
-/// each with a reply, there is room.
+/// What has happened, in a list of the caller's, and the replies that wait to be sent. Contracts
+/// see the items, the newest first, the bytes of the replies, the oldest first, and for how many
+/// entries, each with a reply, there is room.
 #[derive(Drop)]
 pub struct Outbox<O, E, P: Past<Item<O, E>>> {
     past: P,

@@ -2,8 +2,8 @@
 //!
 //! Replies are those of `reply_writing`; the form in which they are read is the one in which they
 //! are written, and no other spelling of their data. Nothing is read into trees: data is taken from
-//! the front of its bytes, element by element. The crate must not know what a message asks, nor what
-//! a document is.
+//! the front of its bytes, element by element. The crate must not know what a message asks, nor
+//! what a document is.
 #![tactic(auto)]
 
 mod chunk;

@@ -1,8 +1,8 @@
 //! Reports: what a command has to say of a range of its source, their order, and their YXML.
 //!
 //! Reports are after the markup of PIDE (Wenzel, "Asynchronous User Interaction and Tool
-//! Integration in Isabelle/PIDE", ITP 2014). The kinds, their properties and the order are this project's own.
-//! The crate knows no command and no version: an offset is handed to it.
+//! Integration in Isabelle/PIDE", ITP 2014). The kinds, their properties and the order are this
+//! project's own. The crate knows no command and no version: an offset is handed to it.
 #![tactic(auto)]
 
 mod compared;

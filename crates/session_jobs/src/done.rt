@@ -9,8 +9,8 @@ use message_values::Protocol;
 use pide_base::Part;
 use std::marker::Model;
 
-/// What came of a part, with the replies that tell its reports and that it was let go. Contracts see
-/// what came of it, its command's source in scalars, and the protocol of the reports.
+/// What came of a part, with the replies that tell its reports and that it was let go. Contracts
+/// see what came of it, its command's source in scalars, and the protocol of the reports.
 #[derive(Drop)]
 pub struct SessionDone<S> {
     job: Job<S>,

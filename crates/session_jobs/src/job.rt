@@ -15,8 +15,8 @@ use session_replies::report;
 use std::alloc::{AllocError, Global};
 use std::marker::Model;
 
-/// A job with the reply that tells that its part was let go. Contracts see the job, and the protocol
-/// by which its reports are told.
+/// A job with the reply that tells that its part was let go. Contracts see the job, and the
+/// protocol by which its reports are told.
 #[derive(Drop)]
 pub struct SessionJob<S> {
     job: Job<S>,
@@ -90,8 +90,8 @@ impl<S> SessionJob<S> {
 
 impl<S: Send + Sync + Drop> SessionJob<S> {
     /// Works on the part, and writes the reply that tells its reports. Done has what the core's job
-    /// gives, whatever `stop` says. Stopped comes only where `stop` answered yes in this call. There
-    /// and for want of memory the job is as it was.
+    /// gives, whatever `stop` says. Stopped comes only where `stop` answered yes in this call.
+    /// There and for want of memory the job is as it was.
     pub fn run<L: Language<State = S>, P: Stop>(
         self,
         alloc: Global,

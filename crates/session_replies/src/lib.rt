@@ -1,9 +1,9 @@
 //! Replies of a session, from what the prover's side answers to bytes: what an update assigns, what
 //! a snapshot shows, what came of parts, and the shorter ones.
 //!
-//! Each call writes one reply; laws say that it is the one that a session's rules ask for, where the
-//! prover's side answers as it promises. The crate must not know what a message is read from, which
-//! messages came, or where bytes go. Nothing of a report is copied.
+//! Each call writes one reply; laws say that it is the one that a session's rules ask for, where
+//! the prover's side answers as it promises. The crate must not know what a message is read from,
+//! which messages came, or where bytes go. Nothing of a report is copied.
 #![tactic(auto)]
 
 mod assigned;

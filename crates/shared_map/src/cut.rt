@@ -4,7 +4,8 @@ ghost use Rattle.shared_map.specs.Cuts.{IsCut, at_key};
 
 use std::cmp::Ordering;
 
-/// A run of keys, as all keys that begin with a name: each key lies before it, within it or behind it.
+/// A run of keys, as all keys that begin with a name: each key lies before it, within it or behind
+/// it.
 pub trait Cut<K: Ord> {
     /// Where a key lies: `Less` before the cut, `Equal` within it, `Greater` behind it.
     ghost place: { Self → K → Ordering };

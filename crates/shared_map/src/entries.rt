@@ -19,7 +19,8 @@ impl<'a, K, V> Model for Entries<'a, K, V> {
 
     ghost Value = { List (K × V) };
 
-    ghost view = { λ entries. take (entries.to - entries.from) (drop entries.from entries.pairs.now) };
+    ghost view = { λ entries.
+        take (entries.to - entries.from) (drop entries.from entries.pairs.now) };
 
     ghost invariant = { λ entries. entries.to ≤ length entries.pairs.now };
 }

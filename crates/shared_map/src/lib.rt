@@ -1,11 +1,11 @@
-//! A persistent ordered map, and a persistent list that grows at its front: a copy takes constant time
-//! and shares everything with its source, and a change shares all but one path with what was before
-//! it, so old versions stay.
+//! A persistent ordered map, and a persistent list that grows at its front: a copy takes constant
+//! time and shares everything with its source, and a change shares all but one path with what was
+//! before it, so old versions stay.
 //!
-//! Contracts see a map as the list of its pairs, sorted by key. Beneath it lies a list without order
-//! in a weight-balanced tree (Adams 1993; its two numbers after Hirai and Yamamoto 2011), joined as in
-//! Blelloch, Ferizovic and Sun 2016. No contract speaks of balance. It must not know what its keys and
-//! values are, nor threads.
+//! Contracts see a map as the list of its pairs, sorted by key. Beneath it lies a list without
+//! order in a weight-balanced tree (Adams 1993; its two numbers after Hirai and Yamamoto 2011),
+//! joined as in Blelloch, Ferizovic and Sun 2016. No contract speaks of balance. It must not know
+//! what its keys and values are, nor threads.
 #![tactic(auto)]
 
 mod balance;

@@ -8,8 +8,9 @@ use std::alloc::{AllocError, Global};
 use std::marker::Model;
 use std::sync::Arc;
 
-/// A persistent list that grows and shrinks at its front. Contracts see it as the list. A copy shares
-/// all with its source, and a change all but one path, so the old version costs nothing to keep.
+/// A persistent list that grows and shrinks at its front. Contracts see it as the list. A copy
+/// shares all with its source, and a change all but one path, so the old version costs nothing to
+/// keep.
 #[derive(Drop)]
 pub struct SharedList<T> {
     tree: Tree<T>,

@@ -36,8 +36,9 @@ impl From<AllocError> for InsertError {
     }
 }
 
-/// A persistent ordered map. Contracts see it as the list of its pairs, sorted by key. A copy shares
-/// all with its source, and a change all but one path, so the old version costs nothing to keep.
+/// A persistent ordered map. Contracts see it as the list of its pairs, sorted by key. A copy
+/// shares all with its source, and a change all but one path, so the old version costs nothing to
+/// keep.
 #[derive(Drop)]
 pub struct SharedMap<K: Ord, V> {
     pairs: Tree<(K, V)>,
@@ -153,7 +154,8 @@ impl<K: Ord + Drop, V: Drop> SharedMap<K, V> {
         }
     }
 
-    /// Adds a pair, unless the map has the key: then it is `Taken`. At an error the map is as before.
+    /// Adds a pair, unless the map has the key: then it is `Taken`. At an error the map is as
+    /// before.
     pub fn insert(&mut self, alloc: Global, key: K, value: V) -> Result<(), InsertError>
         ensures ok { OnOk result (self.new ≡ put K.cmp (key, value) self.old) }
         ensures found { OnOk result ((other : K) → found K.cmp other self.new
@@ -184,8 +186,8 @@ impl<K: Ord + Drop, V: Drop> SharedMap<K, V> {
         Ok(())
     }
 
-    /// Takes the pair of the key out, and tells whether there was one. For want of memory the map is
-    /// as before.
+    /// Takes the pair of the key out, and tells whether there was one. For want of memory the map
+    /// is as before.
     pub fn remove(&mut self, alloc: Global, key: &K) -> Result<bool, AllocError>
         ensures ok { OnOk result (self.new ≡ without K.cmp key.now self.old) }
         ensures found { OnOk result ((other : K) → found K.cmp other self.new

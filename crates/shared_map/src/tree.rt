@@ -6,8 +6,8 @@ use std::alloc::{AllocError, Global};
 use std::marker::Model;
 use std::sync::Arc;
 
-/// A list in a balanced tree, whose parts are shared by the trees that are made of it. Contracts see
-/// it as the list.
+/// A list in a balanced tree, whose parts are shared by the trees that are made of it. Contracts
+/// see it as the list.
 #[cycle(tree)]
 #[derive(Drop)]
 pub(crate) struct Tree<T> {

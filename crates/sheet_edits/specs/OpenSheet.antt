@@ -3,8 +3,8 @@ use Rattle.std.specs.Prelude.{Option}
 use Rattle.doc_blobs.specs.Needs.{AliasList}
 use Rattle.buffer_rules.specs.declared.sheet.Sheet.{Sheet}
 
--- its sheet, and the aliases under which the commands of the version's node were cut from it, unless
--- they have to be cut
+-- its sheet, and the aliases under which the commands of the version's node were cut from it,
+-- unless they have to be cut
 pub record OpenSheet : Type 0 where
   pub sheet : Sheet
   pub cut_under : Option AliasList

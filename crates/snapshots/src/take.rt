@@ -12,8 +12,8 @@ use std::alloc::{AllocError, Global};
 use text_edits::Edit;
 
 /// The snapshot of the node whose parts these are, those of one command side by side, in a text
-/// that the edits have changed since. Where the parts' reports are in order, and no edit disturbs it,
-/// this is linear.
+/// that the edits have changed since. Where the parts' reports are in order, and no edit disturbs
+/// it, this is linear.
 pub fn snapshot<'a>(
     alloc: Global,
     parts: &[AssignedPart<'a>],

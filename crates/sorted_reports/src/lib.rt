@@ -1,7 +1,7 @@
 //! Reports that come in parts, put in report order.
 //!
-//! The order is that of `report_markup`, in which only a report and itself are equal, so there is one
-//! answer. It must not know of commands or of states.
+//! The order is that of `report_markup`, in which only a report and itself are equal, so there is
+//! one answer. It must not know of commands or of states.
 #![tactic(auto)]
 
 ghost use Rattle.std.specs.Prelude.{◌≡◌, ◌+◌, ◌++◌, ℕ, IfOk, OnOk};

@@ -1,5 +1,5 @@
--- The proof that is suggested for a goal: the first that is found in a fixed order (rules of natural
--- deduction are Gentzen's, 1935; the order of the search is this project's own).
+-- The proof that is suggested for a goal: the first that is found in a fixed order (rules of
+-- natural deduction are Gentzen's, 1935; the order of the search is this project's own).
 use Rattle.std.specs.Prelude.{ℕ, zero, suc, Bool, false, true, not, if◌then◌else◌, List, [], ◌∷◌, find, option_map, Option, Some, None}
 use Rattle.std.specs.Option.{option_or, option_and_then}
 use Rattle.nj_formula.specs.declared.formula.Formula.{Formula, out-Formula}
@@ -57,7 +57,8 @@ module _ (aliases : List (List ℕ)) where
     -- by a rule that introduces, by the goal's outermost layer; a quantifier is as an atom
     abbrev pub introduced : Formula-F Formula → Option Term
     introduced (Formula-F.Implies a b) =
-        by_rule R.ImpI (option_map (ImpI (next_name aliases names)) (sub (assuming aliases names a) b))
+        by_rule R.ImpI
+            (option_map (ImpI (next_name aliases names)) (sub (assuming aliases names a) b))
     introduced (Formula-F.Not a) = by_rule R.NotI
         (option_map (NotI (next_name aliases names)) (sub (assuming aliases names a) F.False))
     introduced (Formula-F.And a b) = by_rule R.ConjI (both ConjI (sub names a) (sub names b))
@@ -104,7 +105,7 @@ module _ (aliases : List (List ℕ)) where
 abbrev pub deepest : ℕ
 deepest = 4
 
--- the proof that is suggested for a goal, by the facts of the blocks around it, the innermost first,
--- and the names that are aliases of commands
+-- the proof that is suggested for a goal, by the facts of the blocks around it, the innermost
+-- first, and the names that are aliases of commands
 abbrev pub suggested : Formula → List Local → List (List ℕ) → Option Term
 suggested goal locals aliases = found_within aliases deepest (citable locals) goal

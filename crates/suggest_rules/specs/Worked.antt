@@ -16,10 +16,13 @@ prop x = Atom x []
 
 -- `P & Q --> Q & P`, and `((P --> Q) --> P) --> P`
 abbrev pub swap : Formula
-swap = Implies (And (prop (codes "P")) (prop (codes "Q"))) (And (prop (codes "Q")) (prop (codes "P")))
+swap =
+    Implies (And (prop (codes "P")) (prop (codes "Q"))) (And (prop (codes "Q")) (prop (codes "P")))
 
 abbrev pub peirce : Formula
-peirce = Implies (Implies (Implies (prop (codes "P")) (prop (codes "Q"))) (prop (codes "P"))) (prop (codes "P"))
+peirce =
+    Implies (Implies (Implies (prop (codes "P")) (prop (codes "Q"))) (prop (codes "P")))
+        (prop (codes "P"))
 
 -- a name that stands nowhere
 abbrev pub fact : List ℕ → Term
@@ -27,7 +30,8 @@ fact name = Fact (record { name = name; range = record { start = 0; stop = 0 } }
 
 -- the proof of the first, whose only assumption has this name
 abbrev pub swapped_by : List ℕ → Term
-swapped_by h = ImpI h (ConjI (ConjE2 (prop (codes "P")) (fact h)) (ConjE1 (prop (codes "Q")) (fact h)))
+swapped_by h =
+    ImpI h (ConjI (ConjE2 (prop (codes "P")) (fact h)) (ConjE1 (prop (codes "Q")) (fact h)))
 
 -- a fact of this name that says `P`
 abbrev pub says_p : List ℕ → Local
@@ -56,8 +60,10 @@ pub record NextNames : Type 0 where
 -- a name that is hidden is left out, and then only sixteen are taken
 pub record CitedNames : Type 0 where
   pub hidden : cited_of (each_of (codes "abac")) ≡ each_of (codes "abc")
-  pub hidden_first : cited_of (replicate 20 (codes "a") ++ codes "b" ∷ []) ≡ codes "a" ∷ codes "b" ∷ []
-  pub sixteen : cited_of (each_of (codes "abcdefghijklmnopqrst")) ≡ each_of (codes "abcdefghijklmnop")
+  pub hidden_first : cited_of (replicate 20 (codes "a") ++ codes "b" ∷ [])
+      ≡ codes "a" ∷ codes "b" ∷ []
+  pub sixteen : cited_of (each_of (codes "abcdefghijklmnopqrst"))
+      ≡ each_of (codes "abcdefghijklmnop")
 
 -- the suggestions of small goals, and the text of a proof
 pub record Suggestions : Type 0 where

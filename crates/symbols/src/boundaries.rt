@@ -78,8 +78,8 @@ impl Boundaries {
         self.places.get(symbol).copied()
     }
 
-    /// The number of the last boundary that isn't above the place, where the one of the number `from`
-    /// isn't.
+    /// The number of the last boundary that isn't above the place, where the one of the number
+    /// `from` isn't.
     fn number_from(&self, from: usize, offset: usize) -> usize
         requires within { from < length self.now }
         requires upto { slice_index self.now from ≤ offset }
@@ -95,8 +95,9 @@ impl Boundaries {
         n
     }
 
-    /// For each of the places, none of which is below the one before it, the number of the symbol that
-    /// begins there or has it inside, or of all symbols at the text's end. One sweep gives them all.
+    /// For each of the places, none of which is below the one before it, the number of the symbol
+    /// that begins there or has it inside, or of all symbols at the text's end. One sweep gives
+    /// them all.
     pub fn numbers(&self, alloc: Global, offsets: &[usize]) -> Result<Vec<usize>, AllocError>
         requires { NeverFalls offsets.now }
         ensures { IfOk result (λ v. v.items ≡ map (number_at self.now) offsets.now) }

@@ -1,5 +1,6 @@
-//! The symbols of a text: `\<name>`, `\<^name>`, or one other scalar (after Isabelle's symbols, in ASCII).
-//! Texts are lists of Unicode scalars, and places count them from 0. It knows nothing of tokens.
+//! The symbols of a text: `\<name>`, `\<^name>`, or one other scalar (after Isabelle's symbols, in
+//! ASCII). Texts are lists of Unicode scalars, and places count them from 0. It knows nothing of
+//! tokens.
 #![tactic(auto)]
 
 mod boundaries;

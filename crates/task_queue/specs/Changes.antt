@@ -35,7 +35,8 @@ with_priority p s = record s { priority = p }
 
 -- no task waits for the execution
 abbrev pub nobody_waits : Queue → ℕ → Type 0
-nobody_waits queue e = (f : ℕ) → option_map_or (λ s. has s.inputs e) (standing queue f) false ≡ false
+nobody_waits queue e =
+    (f : ℕ) → option_map_or (λ s. has s.inputs e) (standing queue f) false ≡ false
 
 -- somebody has taken the part
 abbrev pub IsHeld : Option Standing → Type 0

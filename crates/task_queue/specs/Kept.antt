@@ -27,5 +27,6 @@ pub record IsKept (q : Inside) : Type 0 where
   pub ready : AreReady (standing (seen q)) q.ready.parts
   pub room : hash_map_len q.tasks ≤ capacity_of q.ready
   pub links : HasAll q.waiters
-  pub waiters : (e f : ℕ) (r s : Standing) → standing (seen q) e ≡ Some r → standing (seen q) f ≡ Some s
+  pub waiters : (e f : ℕ) (r s : Standing)
+      → standing (seen q) e ≡ Some r → standing (seen q) f ≡ Some s
       → has s.inputs e ≡ true → Waits q.waiters e f

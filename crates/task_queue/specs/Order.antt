@@ -10,6 +10,7 @@ height priority.Print = 1
 height priority.Eval = 2
 height priority.VisibleEval = 3
 
--- the first execution is taken before the second: its priority is higher, or the same and its id lower
+-- the first execution is taken before the second: its priority is higher, or the same and its id
+-- lower
 abbrev pub goes_before : Priority → ℕ → Priority → ℕ → Bool
 goes_before p e q f = nat_lt (height q) (height p) || (height p == height q && nat_lt e f)

@@ -43,7 +43,8 @@ pub record IsNext (all : Standings) (part : Part) : Type 0 where
 
 -- a part of this priority and execution belongs at place i: those before it are taken after it, and
 -- those from there on are not
-pub record IsPlaceFor (all : Standings) (p : Priority) (e : ℕ) (parts : List Part) (i : ℕ) : Type 0 where
+pub record IsPlaceFor (all : Standings) (p : Priority) (e : ℕ) (parts : List Part) (i : ℕ)
+    : Type 0 where
   pub within : i ≤ length parts
   pub later : (j : ℕ) (d : Part) → j < i
       → let f = (slice_index_or parts j d).exec in goes_before p e (priority_of all f) f ≡ true

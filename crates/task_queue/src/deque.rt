@@ -27,7 +27,8 @@ impl Model for PartDeque {
       above = length deque.slots.items - deque.stop;
     } };
 
-    ghost invariant = { λ deque. (deque.start ≤ deque.stop) × (deque.stop ≤ length deque.slots.items) };
+    ghost invariant = { λ deque.
+        (deque.start ≤ deque.stop) × (deque.stop ≤ length deque.slots.items) };
 }
 
 /// What stands in a slot that holds no part.

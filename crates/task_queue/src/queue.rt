@@ -24,8 +24,8 @@ use std::marker::Model;
 
 type Table = HashMap<u64, Standing, BuildHasherDefault<FoldHasher>, Global>;
 
-/// Tasks by execution. Contracts see how the present part of each execution stands, the ready parts in
-/// order, the next one last, and the room:
+/// Tasks by execution. Contracts see how the present part of each execution stands, the ready parts
+/// in order, the next one last, and the room:
 /// how many more tasks, and how many more inputs of tasks, fit without memory.
 #[derive(Drop)]
 pub struct TaskQueue {
@@ -72,8 +72,8 @@ impl TaskQueue {
         self.tasks.get(&exec.number())
     }
 
-    /// Whether a task waits for the execution. It looks at all tasks; who puts tasks in by rising ids,
-    /// each behind those that it waits for, need not ask.
+    /// Whether a task waits for the execution. It looks at all tasks; who puts tasks in by rising
+    /// ids, each behind those that it waits for, need not ask.
     pub fn is_awaited(&self, exec: ExecId) -> bool
         ensures { IsTrue result ↔ ((e : ℕ) × (s : Standing) × (standing self.now e ≡ Some s)
             × (has s.inputs exec ≡ true)) }
@@ -159,10 +159,11 @@ impl TaskQueue {
         }
     }
 
-    /// Lets the part of the execution go, whether it waits, is ready or is held. What waits for it is
-    /// never ready.
+    /// Lets the part of the execution go, whether it waits, is ready or is held. What waits for it
+    /// is never ready.
     pub fn cancel_group(&mut self, exec: ExecId)
-        ensures tasks { (e : ℕ) → standing self.new e ≡ with_standing (standing self.old) exec None e }
+        ensures tasks { (e : ℕ)
+            → standing self.new e ≡ with_standing (standing self.old) exec None e }
         ensures room { self.old.room ≤ self.new.room }
         ensures links { self.old.links ≤ self.new.links }
     {
@@ -305,7 +306,8 @@ fn behind(place: usize, other: usize) -> usize
     if other < place { place - 1 } else { place }
 }
 
-/// The waiter waits no more for the execution; where it is ready now, it is put among the ready parts.
+/// The waiter waits no more for the execution; where it is ready now, it is put among the ready
+/// parts.
 fn meet(tasks: &mut Table, ready: &mut PartDeque, waiter: ExecId, exec: u64)
     requires ready { AreReady (looked tasks.old) ready.old.parts }
     requires room { hash_map_len tasks.old ≤ capacity_of ready.old }

@@ -29,7 +29,8 @@ pub struct Standing {
 impl Standing {
     /// A task that was put in, and that nobody has taken.
     pub(crate) fn waiting(kind: PartKind, priority: Priority, inputs: Inputs) -> Standing
-        ensures { result ≡ record { kind = kind; priority = priority; inputs = inputs; held = false } }
+        ensures { result
+            ≡ record { kind = kind; priority = priority; inputs = inputs; held = false } }
     {
         Standing {
             kind,

@@ -122,7 +122,8 @@ impl Waiters {
     /// Takes one of those that wait for it out: None where there is none.
     pub(crate) fn next(&mut self, input: u64) -> Option<ExecId>
         requires all { HasAll self.old }
-        ensures some { IfSome result (λ w. (v : ℕ) → Waits self.old input v → (v ≡ w) ⊎ Waits self.new input v) }
+        ensures some { IfSome result (λ w. (v : ℕ) → Waits self.old input v
+            → (v ≡ w) ⊎ Waits self.new input v) }
         ensures none { IfNone result ((v : ℕ) → Waits self.old input v → ⊥) }
         ensures kept { (e w : ℕ) → e ≢ input → Waits self.old e w → Waits self.new e w }
         ensures all { HasAll self.new }

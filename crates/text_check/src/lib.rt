@@ -1,4 +1,5 @@
-//! Checking one text from nothing: its commands one after the other, and what they report, by lines.
+//! Checking one text from nothing: its commands one after the other, and what they report, by
+//! lines.
 //!
 //! A text is checked as a theory of its own, as a batch run of Isabelle checks one (the Isabelle
 //! System manual, "isabelle process"). The language is any; the text is the only node of its

@@ -7,8 +7,8 @@ use itoa::Buffer;
 use report_markup::{Property, Report};
 use std::alloc::AllocError;
 
-/// Adds the line of a report: where it stands, in scalars, its kind, its properties, its text and the
-/// end of the line. For want of memory some of it may have been added.
+/// Adds the line of a report: where it stands, in scalars, its kind, its properties, its text and
+/// the end of the line. For want of memory some of it may have been added.
 pub fn write_line(out: &mut String, report: &Report) -> Result<(), AllocError>
     ensures { OnOk result (string_bytes out.new ≡ string_bytes out.old ++ line report.now) }
 {

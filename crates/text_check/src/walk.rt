@@ -38,8 +38,8 @@ fn add_moved(
     Ok(())
 }
 
-/// Works on the command at a place of the text: the state behind it is answered, and what it reports
-/// is added.
+/// Works on the command at a place of the text: the state behind it is answered, and what it
+/// reports is added.
 fn run<L: Language>(
     alloc: Global,
     language: &L,

@@ -39,8 +39,8 @@ fn removed(alloc: Global, text: &Text, start: usize, taken: &Text) -> Result<Tex
     }
 }
 
-/// The text after the edit, in memory of its own; the scalars are copied once. `OutOfRange` is tried
-/// first, then `Differs`, then memory.
+/// The text after the edit, in memory of its own; the scalars are copied once. `OutOfRange` is
+/// tried first, then `Differs`, then memory.
 pub fn changed(alloc: Global, text: &Text, edit: &Edit) -> Result<Text, EditFault>
     ensures applied { IfOk result (λ after. Applies edit.now text.now after) }
     ensures out_of_range { (start len : ℕ) → (result ≡ Err (EditFault.OutOfRange start len))

@@ -14,11 +14,12 @@ abbrev pub HadJust : List ℕ → Option (List ℕ) → Type 0
 HadJust taken left = IsAtEnd left × (length taken ≤ most_bytes)
 
 -- what was read, by the bytes that were taken and those that are left: a text, where the source had
--- its bytes in UTF-8 and no more; else the first byte that is in no whole character; or one byte too
--- many; or the source failed before that
+-- its bytes in UTF-8 and no more; else the first byte that is in no whole character; or one byte
+-- too many; or the source failed before that
 abbrev pub ReadSo : Input → List ℕ → Option (List ℕ) → Type 0
 ReadSo (input.Whole text) taken left = HadJust taken left × IsUtf8 taken × (text ≡ chars taken)
-ReadSo (input.BadText at) taken left = HadJust taken left × (IsUtf8 taken → ⊥) × IsValidUpTo taken at
+ReadSo (input.BadText at) taken left =
+    HadJust taken left × (IsUtf8 taken → ⊥) × IsValidUpTo taken at
 ReadSo input.LongInput taken left = length taken ≡ most_bytes + 1
 ReadSo input.ReadFault taken left = length taken ≤ most_bytes
 

@@ -4,9 +4,11 @@ use Rattle.std.specs.Io.KnownBytes.{Consumes, IsAtEnd}
 use Rattle.text_input.specs.declared.reading.Step.{Step}
 use Rattle.text_input.specs.declared.reading.Step.TheVariants as step
 
--- the bytes grow by those that were taken, one at least and no more than fit the buffer; or they stay
+-- the bytes grow by those that were taken, one at least and no more than fit the buffer; or they
+-- stay
 abbrev pub GrowSo : Step → List ℕ → List ℕ → ℕ → Type 0
-GrowSo step.Took before now most = (length before < length now) × (length now ≤ length before + most)
+GrowSo step.Took before now most =
+    (length before < length now) × (length now ≤ length before + most)
 GrowSo step.End before now most = now ≡ before
 GrowSo step.Failed before now most = now ≡ before
 

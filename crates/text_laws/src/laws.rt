@@ -7,8 +7,8 @@ ghost use Rattle.text_laws.specs.Sound.{IsSound};
 
 use theory_laws::alone_law;
 
-/// Where the markup of a text has no error, the text is a theory all of whose facts follow by natural
-/// deduction from its own axioms: each lemma among them.
+/// Where the markup of a text has no error, the text is a theory all of whose facts follow by
+/// natural deduction from its own axioms: each lemma among them.
 pub fn sound_text_law()
     ensures { (text : List ℕ) → errors_in (markup_of isar text) ≡ [] → IsSound text }
 {

@@ -75,8 +75,8 @@ fn twin(alloc: Global, old: &CutText) -> Result<CutText, AllocError> {
     CutText::of(alloc, old.text().copy(alloc)?, old.spans().aliases())
 }
 
-/// Whether the text, the tokens, the spans and both numbers are those of the whole text, whether the
-/// old text stays or its memory is used.
+/// Whether the text, the tokens, the spans and both numbers are those of the whole text, whether
+/// the old text stays or its memory is used.
 pub(crate) fn is_as_whole(
     alloc: Global,
     old: &CutText,

@@ -18,4 +18,5 @@ abbrev pub told : Lookup → Answer
 told (Found theory name formula) = found (option_copied theory) name.now formula.now
 told Unknown = unknown
 told (Ambiguous first second) =
-    ambiguous (long_name first.theory.now first.name.now) (long_name second.theory.now second.name.now)
+    ambiguous (long_name first.theory.now first.name.now)
+        (long_name second.theory.now second.name.now)

@@ -1,4 +1,5 @@
--- Local facts: which of them a name means, and how they hide the facts of theories (this project's own).
+-- Local facts: which of them a name means, and how they hide the facts of theories (this project's
+-- own).
 use Rattle.std.specs.Prelude.{ℕ, List, [], ◌∷◌, ◌++◌, find, Option, Some, None}
 use Rattle.std.specs.Str.{bytes_eq}
 use Rattle.theory_ctx.specs.Facts.{Fact}

@@ -1,4 +1,5 @@
--- The order of facts: by their names, then by their theories, in the order of bytes (this project's own).
+-- The order of facts: by their names, then by their theories, in the order of bytes (this project's
+-- own).
 use Rattle.std.specs.Prelude.{◌≡◌, ℕ, List}
 use Rattle.std.specs.declared.cmp.Ordering.{Ordering}
 use Rattle.std.specs.declared.cmp.Ordering.TheVariants.{Less, Equal, Greater}
@@ -27,24 +28,30 @@ abbrev pub to_fact : List ℕ → List ℕ → FactName → Ordering
 to_fact t n fact = ordering_then (by_bytes fact.name n) (by_bytes fact.theory t)
 
 pub by_name_total : IsTotalOrder by_name
-by_name_total = then_total (on_total (λ f. f.name) nat_list_cmp_total) (on_total (λ f. f.theory) nat_list_cmp_total)
+by_name_total = then_total (on_total (λ f. f.name) nat_list_cmp_total)
+    (on_total (λ f. f.theory) nat_list_cmp_total)
 
 pub is_cut-to_name : (n : List ℕ) → IsCut by_name (to_name n)
 is_cut-to_name n = record {
   before = λ one other rise less. go one other less (by_bytes one.name other.name) refl rise;
-  behind = λ one other rise greater. back one other greater (by_bytes one.name other.name) refl rise;
+  behind = λ one other rise greater.
+      back one other greater (by_bytes one.name other.name) refl rise;
 }
   where
-    go : (one other : FactName) → to_name n other ≡ Less → (o : Ordering) → by_bytes one.name other.name ≡ o
+    go : (one other : FactName) → to_name n other ≡ Less
+        → (o : Ordering) → by_bytes one.name other.name ≡ o
         → ordering_then o (by_bytes one.theory other.theory) ≡ Less → to_name n one ≡ Less
     go one other less Less e rise = nat_list_cmp_total.trans one.name other.name n e less
     go one other less Equal e rise = nat_list_cmp_total.congr one.name other.name n e ∙ less
     go one other less Greater e rise = cc
 
-    back : (one other : FactName) → to_name n one ≡ Greater → (o : Ordering) → by_bytes one.name other.name ≡ o
+    back : (one other : FactName) → to_name n one ≡ Greater
+        → (o : Ordering) → by_bytes one.name other.name ≡ o
         → ordering_then o (by_bytes one.theory other.theory) ≡ Less → to_name n other ≡ Greater
     back one other greater Less e rise =
         nat_list_cmp_total.antisymm other.name n
-        ∙ ap ordering_reverse (nat_list_cmp_total.trans n one.name other.name (nat_list_cmp_total.antisymm n one.name ∙ ap ordering_reverse greater) e)
-    back one other greater Equal e rise = sym (nat_list_cmp_total.congr one.name other.name n e) ∙ greater
+        ∙ ap ordering_reverse (nat_list_cmp_total.trans n one.name other.name
+            (nat_list_cmp_total.antisymm n one.name ∙ ap ordering_reverse greater) e)
+    back one other greater Equal e rise =
+        sym (nat_list_cmp_total.congr one.name other.name n e) ∙ greater
     back one other greater Greater e rise = cc

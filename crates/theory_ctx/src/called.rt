@@ -36,7 +36,8 @@ impl<'a> Cut<FactName> for Called<'a> {
 
     ghost place = { λ cut. to_fact cut.theory.now cut.name.now };
 
-    ghost rises = { λ cut. is_cut-at_key by_name_total (record { name = cut.name.now; theory = cut.theory.now }) };
+    ghost rises = { λ cut. is_cut-at_key by_name_total
+        (record { name = cut.name.now; theory = cut.theory.now }) };
 
     fn place(&self, fact: &FactName) -> Ordering {
         let names = fact.name.as_str().cmp(self.name);

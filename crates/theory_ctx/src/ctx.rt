@@ -41,8 +41,8 @@ impl From<AllocError> for AddError {
 }
 
 /// The facts that a theory sees: its own and those of its imports. Contracts see it as their list,
-/// sorted by name and then by theory; no two of them have one theory and one name. A context that is
-/// copied, extended or merged shares its facts.
+/// sorted by name and then by theory; no two of them have one theory and one name. A context that
+/// is copied, extended or merged shares its facts.
 #[derive(Drop)]
 pub struct Ctx {
     facts: SharedMap<FactName, Formula>,
@@ -80,8 +80,8 @@ impl Ctx {
         })
     }
 
-    /// Adds a fact of a theory. It is `Taken` where the theory has a fact of this name already. At an
-    /// error the context is as before.
+    /// Adds a fact of a theory. It is `Taken` where the theory has a fact of this name already. At
+    /// an error the context is as before.
     pub fn add(
         &mut self,
         alloc: Global,
@@ -92,7 +92,8 @@ impl Ctx {
         ensures ok { OnOk result (self.new
             ≡ added (record { name = name.now; theory = theory.now }, formula) self.old) }
         ensures sorted { OnOk result (IsSorted by_name self.new) }
-        ensures taken { (result ≡ Err AddError.Taken) ↔ IsSome (fact_of theory.now name.now self.old) }
+        ensures taken { (result ≡ Err AddError.Taken)
+            ↔ IsSome (fact_of theory.now name.now self.old) }
         ensures err { OnErr result (self.new ≡ self.old) }
     {
         if self.has(theory, name) {
@@ -130,8 +131,8 @@ impl Ctx {
         self.fact(theory, name).is_some()
     }
 
-    /// The facts of all parts. Where two parts have different facts of one theory and one name, that
-    /// of the earlier part is kept. What only one part has is shared.
+    /// The facts of all parts. Where two parts have different facts of one theory and one name,
+    /// that of the earlier part is kept. What only one part has is shared.
     pub fn merge(alloc: Global, parts: &[&Ctx]) -> Result<Ctx, AllocError>
         ensures { IfOk result (λ ctx. ctx ≡ merged (map (λ part. part.now) parts.now)) }
     {
@@ -181,8 +182,8 @@ impl Ctx {
         }
     }
 
-    /// The fact that a name means in the theory `theory`. A plain name `n` is first sought among the
-    /// theory's own facts, then among those of all others; a long name `T.n` among those of `T`
+    /// The fact that a name means in the theory `theory`. A plain name `n` is first sought among
+    /// the theory's own facts, then among those of all others; a long name `T.n` among those of `T`
     /// alone; a name of more parts means none.
     pub fn lookup(&self, theory: &str, name: &str) -> Lookup<'_>
         ensures { told result ≡ looked self.now theory.now name.now }

@@ -10,9 +10,9 @@ use sqlite_items::Items;
 use std::alloc::{AllocError, Global};
 use std::marker::Model;
 
-/// A scope with local facts of its own inside those of another scope, which it borrows. Contracts see
-/// its own local facts, the newest first, apart from the other scope; what is sought goes through
-/// both (`seen`).
+/// A scope with local facts of its own inside those of another scope, which it borrows. Contracts
+/// see its own local facts, the newest first, apart from the other scope; what is sought goes
+/// through both (`seen`).
 #[derive(Drop)]
 pub struct InnerScope<'s, 'a> {
     pub(crate) outer: &'s Scope<'a>,

@@ -28,8 +28,8 @@ pub fn add_law()
         → looked (added x facts) own name ≡ looked facts own name }
 {}
 
-/// A law: a name is ambiguous exactly where it is plain, the own theory has no fact of it, and other
-/// theories have two or more; the first two are told, in the order of their theories' names.
+/// A law: a name is ambiguous exactly where it is plain, the own theory has no fact of it, and
+/// other theories have two or more; the first two are told, in the order of their theories' names.
 pub fn ambiguous_law()
     ensures exactly { (facts : List Fact) (own name one other : List ℕ)
         → (looked facts own name ≡ ambiguous one other)

@@ -34,7 +34,8 @@ pub fn node_law()
 /// fact of the node's theory follows by natural deduction from axioms of these theories.
 pub fn sound_law()
     ensures { (nodes : NodeList) (blobs : BlobList) → AllByRecursion (λ one.
-        AreCleanFrom nodes blobs one.0 → FactsFollow (IsAxiomFrom nodes blobs one.0) (final isar one.1))
+        AreCleanFrom nodes blobs one.0
+            → FactsFollow (IsAxiomFrom nodes blobs one.0) (final isar one.1))
         (scratch isar nodes blobs) }
 {
     kept_law();

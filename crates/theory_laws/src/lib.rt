@@ -1,8 +1,8 @@
 //! Laws of theories as a whole: what their facts rest on.
 //!
-//! Derivations are Gentzen's natural deduction (1935). A theory's axioms are what its commands state
-//! without a proof; that each fact follows from them says that no command, no proof and no import
-//! brings in anything else. The laws are over the definitions of the language's rules and of
+//! Derivations are Gentzen's natural deduction (1935). A theory's axioms are what its commands
+//! state without a proof; that each fact follows from them says that no command, no proof and no
+//! import brings in anything else. The laws are over the definitions of the language's rules and of
 //! documents checked from nothing; they must not know of executions, versions or workers.
 #![tactic(auto)]
 

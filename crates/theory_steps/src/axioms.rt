@@ -50,7 +50,8 @@ fn stated_reports(
     Ok(reports)
 }
 
-/// `axiom`: the theory has the fact. The error is the first that holds: a bad formula, a taken name.
+/// `axiom`: the theory has the fact. The error is the first that holds: a bad formula, a taken
+/// name.
 pub fn axiom_made(
     alloc: Global,
     theory: &Theory,

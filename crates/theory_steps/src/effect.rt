@@ -7,8 +7,8 @@ use report_markup::Report;
 use sqlite_items::Items;
 use std::marker::Model;
 
-/// Where the node's commands have come, what is reported beside the command's word, and whether more
-/// is worked on behind it.
+/// Where the node's commands have come, what is reported beside the command's word, and whether
+/// more is worked on behind it.
 #[derive(Drop)]
 pub struct Effect {
     pub place: Place,

@@ -1,10 +1,10 @@
-//! What the commands of theories make of a place: the next place and what is reported, or the text of
-//! the error.
+//! What the commands of theories make of a place: the next place and what is reported, or the text
+//! of the error.
 //!
-//! Commands are after Isabelle's Isar (Wenzel 1999); what each makes, and its errors in their order,
-//! are those of `isar_rules`. A theory is copied in constant time, and shares all that a command
-//! leaves. It must not know of sources, of tokens, of proofs but their beginning, of documents or of
-//! workers.
+//! Commands are after Isabelle's Isar (Wenzel 1999); what each makes, and its errors in their
+//! order, are those of `isar_rules`. A theory is copied in constant time, and shares all that a
+//! command leaves. It must not know of sources, of tokens, of proofs but their beginning, of
+//! documents or of workers.
 #![tactic(auto)]
 
 mod axioms;

@@ -42,8 +42,8 @@ fn with_all(alloc: Global, theory: &Theory, facts: &[ListedFact]) -> Result<Theo
     Ok(more)
 }
 
-/// `load`, with the text of the blob where there is one. The error is the first that holds: no blob,
-/// a bad line, a taken name.
+/// `load`, with the text of the blob where there is one. The error is the first that holds: no
+/// blob, a bad line, a taken name.
 pub fn load_made(
     alloc: Global,
     blob: Option<&[char]>,

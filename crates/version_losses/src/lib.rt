@@ -3,8 +3,8 @@
 //! version.
 //!
 //! Versions and executions are those of Wenzel, "Asynchronous User Interaction and Tool Integration
-//! in Isabelle/PIDE" (ITP 2014); the lists are this project's own. It must not know a language, what
-//! has happened, tasks or workers.
+//! in Isabelle/PIDE" (ITP 2014); the lists are this project's own. It must not know a language,
+//! what has happened, tasks or workers.
 #![tactic(auto)]
 
 mod leaving;

@@ -17,8 +17,8 @@ pub struct Loss {
     pub lost: Shared<Items<ExecId>>,
 }
 
-/// The live versions with what was lost by them. Contracts see them, oldest first, and the room: how
-/// many more can be pushed without memory.
+/// The live versions with what was lost by them. Contracts see them, oldest first, and the room:
+/// how many more can be pushed without memory.
 #[derive(Drop)]
 pub struct Losses {
     pub(crate) losses: Vec<Loss>,

@@ -49,8 +49,8 @@ module _ {E : Type 0} (says : E → Said) where
 module _ {E J D : Type 0} (part_of : J → Part) (part_done : D → Part) (fits : List E → J → Type 0)
     (answers : List E → D → Type 0) (was_stopped : J → Type 0) where
   -- the run gave what the job's part has to give; or it was stopped, by a yes of its stop, with the
-  -- job as it was; or it met want of memory, and left a job of the same part that fits wherever this
-  -- one did
+  -- job as it was; or it met want of memory, and left a job of the same part that fits wherever
+  -- this one did
   abbrev pub RanSo : ℕ → ℕ → J → Ran J D → Type 0
   RanSo before now job (ran.Done done) =
       (part_done done ≡ part_of job) × ((log : List E) → fits log job → answers log done)

@@ -1,4 +1,5 @@
--- What a caller holds, read off its own entries. The definitions of this crate are this project's own.
+-- What a caller holds, read off its own entries. The definitions of this crate are this project's
+-- own.
 use Rattle.std.specs.Prelude.{List, [], ◌∷◌, Option, None, Some}
 use Rattle.pide_base.specs.declared.part.Part.{Part}
 use Rattle.worker_loop.specs.declared.said.Said.{Said}

@@ -31,7 +31,8 @@ module _ {E : Type 0} (says : E → Said) (sent : List E → List ℕ) where
   -- all bytes that were handed to the caller were pushed, in order
   abbrev pub WritesOn : View E → Holding → View E → Holding → Type 0
   WritesOn v k w l =
-      (bytes : List ℕ) × Handed sent v bytes w × Appends k.contents l.contents bytes × Sends says v w
+      (bytes : List ℕ)
+      × Handed sent v bytes w × Appends k.contents l.contents bytes × Sends says v w
 
   -- the writer has stopped: it has pushed all that it was handed, and all has ended; or the sink
   -- failed in this call, and holds a front of it

@@ -13,7 +13,8 @@ pub struct FlagStop<'a, 'b, G> {
 }
 
 impl<'a, 'b, G: Gate> FlagStop<'a, 'b, G> {
-    /// The stop of a part that the worker of this number has claimed. One that is muted never answers yes.
+    /// The stop of a part that the worker of this number has claimed. One that is muted never
+    /// answers yes.
     pub fn new(
         flag: &'a Flag,
         gate: &'b G,

@@ -1,8 +1,8 @@
 //! Workers, and the writer: who works on a locked state in threads of their own.
 //!
-//! A worker claims the first part that is ready, runs its job without the lock and hands in what the
-//! job gave; the writer takes what is to be sent and pushes it without the lock. All of it is this
-//! project's own. It must not know what a job computes, what a state is, or what is sent.
+//! A worker claims the first part that is ready, runs its job without the lock and hands in what
+//! the job gave; the writer takes what is to be sent and pushes it without the lock. All of it is
+//! this project's own. It must not know what a job computes, what a state is, or what is sent.
 #![tactic(auto)]
 
 mod carry;

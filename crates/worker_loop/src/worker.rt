@@ -19,8 +19,8 @@ pub enum Worked {
     Ended,
     /// The writer's sink failed, and the worker holds nothing.
     WriteFault,
-    /// All has ended, and there was not enough memory for a claim, or for the job of the part that the
-    /// worker still holds.
+    /// All has ended, and there was not enough memory for a claim, or for the job of the part that
+    /// the worker still holds.
     NoMemory,
 }
 

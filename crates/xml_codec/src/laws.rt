@@ -8,7 +8,8 @@ ghost use Rattle.xml_codec.specs.Data.{IsShort, int_body, bool_body, string_body
 ghost use Rattle.xml_codec.specs.Faults.{IsNodesFault, any_number, two, at_most_one};
 ghost use Rattle.xml_codec.specs.Nested.{IsNestable};
 
-/// The body of a value is normal, where its texts are plain and its parts leave room for an element.
+/// The body of a value is normal, where its texts are plain and its parts leave room for an
+/// element.
 pub fn bodies_are_normal()
     ensures int { (n : ℤ) → IsShort n → IsNormal (int_body n) }
     ensures bool { (b : Bool) → IsNormal (bool_body b) }

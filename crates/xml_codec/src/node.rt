@@ -116,8 +116,8 @@ pub fn get_pair(alloc: Global, body: Body) -> Result<(Body, Body), DataFault>
     Ok((first, second))
 }
 
-/// The body of the item of an option, if there is one. The place of a fault is the body itself where
-/// it has more than one child, else the child that is no node.
+/// The body of the item of an option, if there is one. The place of a fault is the body itself
+/// where it has more than one child, else the child that is no node.
 pub fn get_option(alloc: Global, body: Body) -> Result<Option<Body>, DataFault>
     ensures value { IfOk result (λ item. body ≡ option_body item) }
     ensures place { IfErr result (IsNodesFault at_most_one body) }

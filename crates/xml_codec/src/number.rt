@@ -41,7 +41,8 @@ pub fn number_of(text: &str) -> Option<u64>
 
 /// The number of at most 18 digits whose decimal the text is, which has no sign.
 fn unsigned_of(text: &str) -> Option<i64>
-    ensures some { IfSome result (λ n. (m : ℕ) × (n ≡ pos m) × (m < int_end) × (text.now ≡ decimal m)) }
+    ensures some { IfSome result (λ n.
+        (m : ℕ) × (n ≡ pos m) × (m < int_end) × (text.now ≡ decimal m)) }
     ensures none { IfNone result ((m : ℕ) → m < int_end → text.now ≢ decimal m) }
 {
     match number_of(text) {

@@ -83,8 +83,8 @@ fn is_number(text: &str, number: u64) -> bool
     }
 }
 
-/// The number, the attributes' values and the argument's body of the variant whose body this is. The
-/// place of a fault is the body itself where it has not one child, else that child.
+/// The number, the attributes' values and the argument's body of the variant whose body this is.
+/// The place of a fault is the body itself where it has not one child, else that child.
 pub fn get_variant(alloc: Global, body: Body) -> Result<(u64, Items<XmlString>, Body), DataFault>
     ensures value { IfOk result (λ v. body ≡ variant_body v.0 v.1 v.2) }
     ensures place { IfErr result (IsVariantFault body) }

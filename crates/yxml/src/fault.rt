@@ -1,7 +1,7 @@
 use std::alloc::AllocError;
 
-/// Why a text is no YXML. A place counts bytes: it is where the chunk at fault begins, a chunk being
-/// what stands between two bytes 5.
+/// Why a text is no YXML. A place counts bytes: it is where the chunk at fault begins, a chunk
+/// being what stands between two bytes 5.
 #[derive(Clone, Copy, Debug, PartialEq, Eq)]
 pub enum YxmlFault {
     /// A close where no element is open; or, at the text's length, an element that is not closed.

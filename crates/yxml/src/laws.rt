@@ -7,8 +7,8 @@ ghost use Rattle.yxml.specs.Answer.{body_in};
 ghost use Rattle.yxml.specs.Reading.{fault_in};
 ghost use Rattle.yxml.specs.Spelling.{yxml, Spells};
 
-/// What is written for a normal body spells it, so `parse_body` reads it back. Where a text spells a
-/// body, that body is normal, and the text spells no other.
+/// What is written for a normal body spells it, so `parse_body` reads it back. Where a text spells
+/// a body, that body is normal, and the text spells no other.
 pub fn what_is_written_is_read_back()
     ensures written { (body : List Tree) → IsNormal body → Spells (yxml body) body }
     ensures normal { (text : List ℕ) (body : List Tree) → Spells text body → IsNormal body }
@@ -18,7 +18,8 @@ pub fn what_is_written_is_read_back()
 
 /// Each text has one answer: the one body that it spells, or its first fault.
 pub fn each_text_has_one_answer()
-    ensures body { (text : List ℕ) (body : List Tree) → (body_in text ≡ Ok body) ↔ (Spells text body) }
+    ensures body { (text : List ℕ) (body : List Tree)
+        → (body_in text ≡ Ok body) ↔ (Spells text body) }
     ensures fault { (text : List ℕ) (fault : YxmlFault) → (body_in text ≡ Err fault)
         ↔ (fault_in text ≡ Some fault) }
 {}

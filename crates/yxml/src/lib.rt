@@ -2,7 +2,8 @@
 //!
 //! What is written is that of Isabelle's `YXML` (The Isabelle System Manual, "YXML"): bytes 5 and 6
 //! mark up, and everything else stands for itself. How other bytes are read, the faults and the
-//! limit of 200 nested elements are this project's own. The crate knows nothing of what bodies mean.
+//! limit of 200 nested elements are this project's own. The crate knows nothing of what bodies
+//! mean.
 #![tactic(auto)]
 
 mod builder;

@@ -16,8 +16,8 @@ use xml_tree::Body;
 /// At most so many elements are nested.
 const MAX_DEPTH: usize = 200;
 
-/// The body that `text` spells, or the first fault from the left. A text that stands in one piece is
-/// copied once.
+/// The body that `text` spells, or the first fault from the left. A text that stands in one piece
+/// is copied once.
 pub fn parse_body(alloc: Global, text: &str) -> Result<Body, YxmlFault>
     ensures spells { IfOk result (Spells text.now) }
     ensures normal { IfOk result IsNormal }

@@ -1,5 +1,5 @@
-//! A state for the tests: a book of notes, in which each note has the number of its place. A caller is idle while the
-//! book has its own notes alone.
+//! A state for the tests: a book of notes, in which each note has the number of its place. A caller
+//! is idle while the book has its own notes alone.
 ghost use Rattle.std.specs.Prelude.{◌≡◌, ◌<◌, ℕ, ◌++◌, [], ◌∷◌, length, slice_get, Some, MatchOption, IfSome, IsTrue, ◌↔◌};
 ghost use Rattle.std.specs.List.{All};
 
@@ -46,7 +46,9 @@ impl Turn<Book> for Write {
 
     ghost asks = { λ c b. Unit {0} };
 
-    ghost gives = { λ c b n d. MatchOption n (d.notes.items ≡ b.notes.items) (λ n. d.notes.items ≡ b.notes.items ++ record { by = c.by; number = n; text = c.text } ∷ []) };
+    ghost gives = { λ c b n d. MatchOption n (d.notes.items ≡ b.notes.items)
+        (λ n. d.notes.items
+        ≡ b.notes.items ++ record { by = c.by; number = n; text = c.text } ∷ []) };
 
     fn run(self, book: &mut Book) -> Option<u64> {
         let Write { by, text } = self;
@@ -85,7 +87,8 @@ impl Turn<Book> for IsAlone {
 
     ghost asks = { λ c b. Unit {0} };
 
-    ghost gives = { λ c b a d. (d.notes.items ≡ b.notes.items) × (IsTrue a → All (λ m. m.by ≡ c.by) b.notes.items) };
+    ghost gives = { λ c b a d. (d.notes.items ≡ b.notes.items)
+        × (IsTrue a → All (λ m. m.by ≡ c.by) b.notes.items) };
 
     fn run(self, book: &mut Book) -> bool {
         let by = self.by;

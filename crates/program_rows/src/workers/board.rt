@@ -1,4 +1,5 @@
-//! A state for the rows: a board of tasks that are claimed in order. Of each that is finished a byte is sent.
+//! A state for the rows: a board of tasks that are claimed in order. Of each that is finished a
+//! byte is sent.
 ghost use Rattle.std.specs.Prelude.{◌≡◌, ◌++◌, ◌∷◌, [], Some, None, MatchOption, MatchResult, IsTrue, IsFalse};
 ghost use Rattle.std.specs.List.{Contains};
 ghost use Rattle.worker_loop.specs.declared.said.Said.TheVariants as said;
@@ -80,8 +81,10 @@ impl Turn<Board> for Take {
     ghost asks = { λ c b. Unit {0} };
 
     ghost gives = { λ c b a d. MatchResult a
-        (λ t. d.marks.items ≡ b.marks.items ++ record { by = c.by; what = said.Claimed t.part; byte = None } ∷ [])
-        (λ s. (d.marks.items ≡ b.marks.items) × MatchOption s (Unit {0}) (λ m. Contains d.marks.items m)) };
+        (λ t. d.marks.items ≡ b.marks.items
+            ++ record { by = c.by; what = said.Claimed t.part; byte = None } ∷ [])
+        (λ s. (d.marks.items ≡ b.marks.items)
+            × MatchOption s (Unit {0}) (λ m. Contains d.marks.items m)) };
 
     fn run(self, board: &mut Board) -> Result<Task, Option<Mark>> {
         if let Some(mark) = board.last_word() {
@@ -116,7 +119,8 @@ impl Turn<Board> for Add {
 
     ghost asks = { λ c b. Unit {0} };
 
-    ghost gives = { λ c b a d. MatchResult a (λ _. d.marks.items ≡ b.marks.items ++ c.mark ∷ []) (λ back. (d.marks.items ≡ b.marks.items) × (back ≡ c.mark)) };
+    ghost gives = { λ c b a d. MatchResult a (λ _. d.marks.items ≡ b.marks.items ++ c.mark ∷ [])
+        (λ back. (d.marks.items ≡ b.marks.items) × (back ≡ c.mark)) };
 
     fn run(self, board: &mut Board) -> Result<(), Mark> {
         let Add { mark } = self;
@@ -139,8 +143,10 @@ impl Turn<Board> for Send {
     ghost asks = { λ c b. Unit {0} };
 
     ghost gives = { λ c b a d. MatchResult a
-        (λ x. d.marks.items ≡ b.marks.items ++ record { by = c.by; what = said.Sent; byte = Some x } ∷ [])
-        (λ s. (d.marks.items ≡ b.marks.items) × MatchOption s (Unit {0}) (λ m. Contains d.marks.items m)) };
+        (λ x. d.marks.items ≡ b.marks.items
+            ++ record { by = c.by; what = said.Sent; byte = Some x } ∷ [])
+        (λ s. (d.marks.items ≡ b.marks.items)
+            × MatchOption s (Unit {0}) (λ m. Contains d.marks.items m)) };
 
     fn run(self, board: &mut Board) -> Result<u8, Option<Mark>> {
         if board.sent == board.finished() {
@@ -169,7 +175,8 @@ impl Turn<Board> for Look {
 
     ghost asks = { λ c b. Unit {0} };
 
-    ghost gives = { λ c b a d. (d.marks.items ≡ b.marks.items) × MatchOption a (Unit {0}) (λ m. Contains d.marks.items m) };
+    ghost gives = { λ c b a d. (d.marks.items ≡ b.marks.items)
+        × MatchOption a (Unit {0}) (λ m. Contains d.marks.items m) };
 
     fn run(self, board: &mut Board) -> Option<Mark> {
         board.last_word()
@@ -189,7 +196,8 @@ impl Turn<Board> for End {
     ghost asks = { λ c b. Unit {0} };
 
     ghost gives = { λ c b a d. MatchOption a (d.marks.items ≡ b.marks.items)
-        (λ _. d.marks.items ≡ b.marks.items ++ record { by = c.by; what = said.Ended; byte = None } ∷ []) };
+        (λ _. d.marks.items ≡ b.marks.items
+            ++ record { by = c.by; what = said.Ended; byte = None } ∷ []) };
 
     fn run(self, board: &mut Board) -> Option<()> {
         let End { by, tasks } = self;

@@ -37,7 +37,8 @@ impl Outbox<Board> for Pen {
 
     ghost sent = { λ who log. bytes_of (λ m. m.byte) (own (λ m. m.by) who log) };
 
-    ghost others_hand_nothing = { λ who seen more legal begins same. ap (bytes_of (λ m. m.byte)) same };
+    ghost others_hand_nothing = { λ who seen more legal begins same.
+        ap (bytes_of (λ m. m.byte)) same };
 
     fn next<R: Wait>(
         &self,
