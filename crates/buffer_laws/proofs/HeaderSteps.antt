@@ -8,7 +8,6 @@ use Rattle.outer_tokens.specs.Headings.{Word}
 use Rattle.outer_tokens.specs.Stages.{is_this_keyword, after_imports, after_word, after_token, is_ended, end_from}
 use Rattle.outer_tokens.specs.Tokens.{text_of}
 use Rattle.outer_tokens.specs.Words.{same}
-use Rattle.outer_tokens.specs.declared.kind.Kind.{Kind}
 use Rattle.outer_tokens.specs.declared.kind.Kind.TheVariants as kind
 use Rattle.outer_tokens.specs.declared.stage.Stage.{Stage}
 use Rattle.outer_tokens.specs.declared.stage.Stage.TheVariants.{Start, Theory, Name, Imports, Import, Keywords, PairName, Equals, Pair, Ended, Absent}

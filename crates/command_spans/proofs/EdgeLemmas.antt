@@ -19,7 +19,7 @@ use Rattle.command_spans.specs.CutTexts.{boundary_at}
 use Rattle.command_spans.specs.Reparsing.{is_space, is_space_below, moved}
 use Rattle.command_spans.specs.Keeping.{moved_token, IsChange, restaged}
 use Rattle.command_spans.proofs.PlaceLemmas.{between-split, staged-split, first-boundary, text-rising}
-use Rattle.command_spans.proofs.RestartLemmas.{boundary-is}
+use Rattle.command_spans.proofs.ReadOn.{boundary-is}
 use Rattle.command_spans.proofs.KeepLemmas.{space-blank, same-upto, front-renamed, front-kept, back-renamed, back-kept}
 
 other_token : Token

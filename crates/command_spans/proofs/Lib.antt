@@ -3,6 +3,7 @@ mod SpanLaws
 mod RunLemmas
 mod CuttingLemmas
 mod PlaceLemmas
+mod ReadOn
 mod RestartLemmas
 mod MeetingLemmas
 mod ChangeLemmas

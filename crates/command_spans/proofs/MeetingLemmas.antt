@@ -8,7 +8,7 @@ use Rattle.command_spans.specs.CutTexts.{Rising, boundaries, boundary_at}
 use Rattle.command_spans.specs.Reparsing.{moved, is_meeting}
 use Rattle.command_spans.specs.Keeping.{ArePassed}
 use Rattle.command_spans.proofs.PlaceLemmas.{first-boundary}
-use Rattle.command_spans.proofs.RestartLemmas.{boundary-end}
+use Rattle.command_spans.proofs.ReadOn.{boundary-end}
 
 -- a boundary that passes a test is among the boundaries
 any-at : (test : ℕ → Bool) (len : ℕ) (ts : List Token) (n : ℕ) → n ≤ length ts → test (boundary_at len ts n) ≡ true → list_any test (boundaries len ts) ≡ true

@@ -1,13 +1,13 @@
 -- The words that are written out.
 use Rattle.std.proofs.Common.{◌≡◌, ℕ, zero, suc, ◌≤◌, List, [], ◌∷◌, codes, refl, sym, subst, arith}
-use Rattle.std.specs.Prelude.{decimal, Some, None}
-use Rattle.std.specs.Fmt.{digits}
+use Rattle.std.specs.Prelude.{decimal, Some}
 use Rattle.clap.proofs.OnLiterals.{clap_on_literals}
 use Rattle.command_words.specs.declared.request.Request.TheVariants.{Serve, Replay, Check}
 use Rattle.command_words.specs.Asked.{asked}
-use Rattle.command_words.specs.Forms.{AreTaken, AreNotTaken}
+use Rattle.command_words.specs.Forms.{AreTaken}
+use Rattle.command_words.proofs.WrittenNumbers.{written_0, written_1, written_2, written_3, written_4, written_5, written_6, written_7, written_8, written_9, written_10, written_11, written_12, written_13, written_14, written_15, written_16}
 
-serve : asked (codes "serve" ∷ []) ≡ Some (Serve 0)
+pub serve : asked (codes "serve" ∷ []) ≡ Some (Serve 0)
 unfolding clap_on_literals
 serve = refl
 
@@ -15,7 +15,7 @@ replay : asked (codes "replay" ∷ []) ≡ Some Replay
 unfolding clap_on_literals
 replay = refl
 
-check : asked (codes "check" ∷ []) ≡ Some Check
+pub check : asked (codes "check" ∷ []) ≡ Some Check
 unfolding clap_on_literals
 check = refl
 
@@ -23,74 +23,6 @@ check = refl
 taken_as : (n : ℕ) (text : List ℕ) → decimal n ≡ text → asked (codes "serve" ∷ codes "--workers" ∷ text ∷ []) ≡ Some (Serve n)
     → asked (codes "serve" ∷ codes "--workers" ∷ decimal n ∷ []) ≡ Some (Serve n)
 taken_as n text e so = subst (λ (t : List ℕ). asked (codes "serve" ∷ codes "--workers" ∷ t ∷ []) ≡ Some (Serve n)) (sym e) so
-
-written_0 : decimal 0 ≡ codes "0"
-unfolding digits
-written_0 = refl
-
-written_1 : decimal 1 ≡ codes "1"
-unfolding digits
-written_1 = refl
-
-written_2 : decimal 2 ≡ codes "2"
-unfolding digits
-written_2 = refl
-
-written_3 : decimal 3 ≡ codes "3"
-unfolding digits
-written_3 = refl
-
-written_4 : decimal 4 ≡ codes "4"
-unfolding digits
-written_4 = refl
-
-written_5 : decimal 5 ≡ codes "5"
-unfolding digits
-written_5 = refl
-
-written_6 : decimal 6 ≡ codes "6"
-unfolding digits
-written_6 = refl
-
-written_7 : decimal 7 ≡ codes "7"
-unfolding digits
-written_7 = refl
-
-written_8 : decimal 8 ≡ codes "8"
-unfolding digits
-written_8 = refl
-
-written_9 : decimal 9 ≡ codes "9"
-unfolding digits
-written_9 = refl
-
-written_10 : decimal 10 ≡ codes "10"
-unfolding digits
-written_10 = refl
-
-written_11 : decimal 11 ≡ codes "11"
-unfolding digits
-written_11 = refl
-
-written_12 : decimal 12 ≡ codes "12"
-unfolding digits
-written_12 = refl
-
-written_13 : decimal 13 ≡ codes "13"
-unfolding digits
-written_13 = refl
-
-written_14 : decimal 14 ≡ codes "14"
-unfolding digits
-written_14 = refl
-
-written_15 : decimal 15 ≡ codes "15"
-unfolding digits
-written_15 = refl
-
-written_16 : decimal 16 ≡ codes "16"
-unfolding digits
-written_16 = refl
 
 with_0 : asked (codes "serve" ∷ codes "--workers" ∷ codes "0" ∷ []) ≡ Some (Serve 0)
 unfolding clap_on_literals
@@ -182,47 +114,3 @@ workers (suc (suc (suc (suc (suc (suc (suc (suc (suc (suc (suc (suc (suc (suc (s
 
 pub are_taken : AreTaken
 are_taken = record { serve = serve; workers = workers; replay = replay; check = check }
-
-none : asked ([]) ≡ None
-unfolding clap_on_literals
-none = refl
-
-other : asked (codes "server" ∷ []) ≡ None
-unfolding clap_on_literals
-other = refl
-
-many : asked (codes "serve" ∷ codes "--workers" ∷ codes "17" ∷ []) ≡ None
-unfolding clap_on_literals
-many = refl
-
-missing : asked (codes "serve" ∷ codes "--workers" ∷ []) ≡ None
-unfolding clap_on_literals
-missing = refl
-
-letters : asked (codes "serve" ∷ codes "--workers" ∷ codes "two" ∷ []) ≡ None
-unfolding clap_on_literals
-letters = refl
-
-twice : asked (codes "serve" ∷ codes "--workers" ∷ codes "1" ∷ codes "--workers" ∷ codes "1" ∷ []) ≡ None
-unfolding clap_on_literals
-twice = refl
-
-more : asked (codes "check" ∷ codes "A.thy" ∷ []) ≡ None
-unfolding clap_on_literals
-more = refl
-
-help : asked (codes "--help" ∷ []) ≡ None
-unfolding clap_on_literals
-help = refl
-
-pub are_not_taken : AreNotTaken
-are_not_taken = record {
-  none = none;
-  other = other;
-  many = many;
-  missing = missing;
-  letters = letters;
-  twice = twice;
-  more = more;
-  help = help;
-}

@@ -1,4 +1,6 @@
+mod WrittenNumbers
 mod Forms
+mod NotTaken
 mod Numbers
 mod Judged
 mod Settings

@@ -1,12 +1,12 @@
 -- The reports of the language of numbers are of whole sources.
-use Rattle.std.specs.Prelude.{ℕ, Bool, true, false, if◌then◌else◌, List, [], ◌∷◌, ◌++◌, length, Option}
+use Rattle.std.specs.Prelude.{ℕ, Bool, true, false, if◌then◌else◌, List, [], ◌∷◌, ◌++◌}
 use Rattle.std.specs.List.{AllByRecursion}
 use Rattle.std.proofs.Common.{arith, inr, inl}
 use Rattle.report_markup.specs.Ranges.{AreTreelike, IsTreelike}
 use Rattle.report_markup.specs.declared.kind.ReportKind.{ReportKind}
 use Rattle.report_markup.specs.declared.kind.ReportKind.TheVariants as report
 use Rattle.report_markup.specs.declared.report.Report.{Report}
-use Rattle.language.specs.Laws.{AreTidy, LiesIn, reports_of}
+use Rattle.language.specs.Laws.{AreTidy, LiesIn}
 use Rattle.core_rows.specs.Tally.{run, is_forking, whole, about, counting}
 
 -- it lies in the source

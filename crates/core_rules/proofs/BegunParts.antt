@@ -1,5 +1,5 @@
 -- A part that was begun waits for nothing.
-use Rattle.std.proofs.Common.{◌≡◌, ◌⊎◌, inl, inr, ℕ, ◌<◌, ◌≤◌, Bool, true, false, cond, List, [], ◌∷◌, length, Option, Some, None, refl, ap, sym, subst, ◌∙◌, arith}
+use Rattle.std.proofs.Common.{◌≡◌, ◌⊎◌, inl, inr, ℕ, ◌<◌, ◌≤◌, Bool, true, false, cond, List, [], ◌∷◌, length, refl, ap, sym, ◌∙◌}
 use Rattle.std.proofs.lemmas.Bool.{false≢true, cases_lt, and_parts, and_from}
 use Rattle.std.specs.Prelude.{◌&&◌}
 use Rattle.std.specs.Option.{option_map_or}
@@ -11,9 +11,9 @@ use Rattle.exec_rules.specs.declared.home.Home.{Home}
 use Rattle.language.specs.Lang.{Lang}
 use Rattle.core_rules.specs.declared.event.Event.{Event}
 use Rattle.core_rules.specs.declared.event.Event.TheVariants as event
-use Rattle.core_rules.specs.Numbered.{numbered, grown}
+use Rattle.core_rules.specs.Numbered.{grown}
 use Rattle.core_rules.specs.Parts.{same_part, sources_of, waits_by, waits_for, evaluation}
-use Rattle.core_rules.specs.Standing.{Standing, Free, Held, Done, standing, is_done, is_free, is_finished, held}
+use Rattle.core_rules.specs.Standing.{Standing, Free, Held, Done, standing, is_done, is_free, is_finished}
 use Rattle.core_rules.specs.Doc.{doc, assignment_of}
 use Rattle.core_rules.specs.Ready.{is_part, is_wanted, has_inputs, IsFirst}
 use Rattle.core_rules.specs.Legal.{IsLegal}

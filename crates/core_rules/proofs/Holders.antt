@@ -3,12 +3,10 @@ use Rattle.std.proofs.Common.{◌≡◌, ◌≢◌, ◌↔◌, ℕ, Bool, true, 
 use Rattle.std.proofs.lemmas.Bool.{eqb-true, eq-eqb, false≢true, and_parts}
 use Rattle.std.specs.Prelude.{◌==◌}
 use Rattle.pide_base.specs.declared.part.Part.{Part}
-use Rattle.pide_base.specs.declared.part.PartKind.{PartKind}
-use Rattle.pide_base.specs.declared.part.PartKind.TheVariants as kind
 use Rattle.language.specs.Lang.{Lang}
 use Rattle.core_rules.specs.declared.event.Event.{Event}
 use Rattle.core_rules.specs.declared.event.Event.TheVariants as event
-use Rattle.core_rules.specs.Parts.{same_kind, same_part}
+use Rattle.core_rules.specs.Parts.{same_part}
 use Rattle.core_rules.specs.Standing.{Standing, Free, Held, Done, standing, is_free, held}
 use Rattle.core_rules.specs.Doc.{doc}
 use Rattle.core_rules.specs.Ready.{is_part, is_wanted, has_inputs, IsFirst}

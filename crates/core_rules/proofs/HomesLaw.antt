@@ -1,7 +1,7 @@
 -- What executions that live versions assign go by, and those that were not made.
-use Rattle.std.proofs.Common.{◌≡◌, ℕ, ◌<◌, ◌≤◌, Bool, true, false, cond, not, List, [], ◌∷◌, length, map, Some, None, refl, ap, sym, ◌∙◌, arith}
+use Rattle.std.proofs.Common.{◌≡◌, ℕ, ◌<◌, ◌≤◌, Bool, true, false, cond, List, [], ◌∷◌, length, map, Some, refl, ap, sym, ◌∙◌, arith}
 use Rattle.std.proofs.lemmas.Bool.{false≢true, and_parts}
-use Rattle.std.specs.Prelude.{◌&&◌, slice_get}
+use Rattle.std.specs.Prelude.{slice_get}
 use Rattle.std.specs.Option.{option_map_or}
 use Rattle.std.specs.List.{list_any}
 use Rattle.pide_base.specs.declared.part.Part.{Part}
@@ -14,12 +14,11 @@ use Rattle.exec_rules.specs.Listed.{executions}
 use Rattle.language.specs.Lang.{Lang}
 use Rattle.core_rules.specs.declared.event.Event.{Event}
 use Rattle.core_rules.specs.declared.event.Event.TheVariants as event
-use Rattle.core_rules.specs.Numbered.{numbered}
 use Rattle.core_rules.specs.Assigned.{assigns, is_assigned}
 use Rattle.core_rules.specs.Parts.{same_part, forks, kinds_by}
-use Rattle.core_rules.specs.Standing.{Standing, Free, Held, Done, standing, is_free, held}
+use Rattle.core_rules.specs.Standing.{Free, Held, Done, standing}
 use Rattle.core_rules.specs.Doc.{doc, assignment_of}
-use Rattle.core_rules.specs.Ready.{is_part, is_wanted, has_inputs, IsFirst}
+use Rattle.core_rules.specs.Ready.{is_part, IsFirst}
 use Rattle.core_rules.specs.Legal.{IsLegal}
 use Rattle.core_rules.specs.FromScratch.{AllFromScratch}
 use Rattle.core_rules.specs.Sources.{HasHome}
@@ -32,7 +31,7 @@ use Rattle.core_rules.proofs.KnownParts.{part_is}
 use Rattle.core_rules.proofs.Holders.{tells_all}
 use Rattle.core_rules.proofs.RowSources.{has_home}
 use Rattle.core_rules.proofs.FromScratchLaw.{from_scratch}
-use Rattle.core_rules.proofs.PlacedOnce.{tip_sorted}
+use Rattle.core_rules.proofs.OneName.{tip_sorted}
 use Rattle.core_rules.proofs.KnownNamedRows.{found_row, named_once}
 
 module _ {S : Type 0} (facts : Facts) (l : Lang S) (h : List Event) (legal : IsLegal l h) where

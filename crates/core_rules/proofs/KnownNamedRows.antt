@@ -1,12 +1,10 @@
 -- Where executions stand, by the names of nodes.
-use Rattle.std.proofs.Common.{◌≡◌, ◌⊎◌, inl, inr, ℕ, ◌<◌, Bool, true, false, List, [], length, Option, Some, None, refl, ap, sym, subst, ◌∙◌}
-use Rattle.std.proofs.lemmas.Bool.{or_left, or_right, or_cases, eq-eqb, eqb-true, false≢true}
-use Rattle.std.specs.Prelude.{◌==◌, ◌&&◌, slice_get, zip, flat_map}
-use Rattle.std.specs.List.{list_any}
+use Rattle.std.proofs.Common.{◌≡◌, inl, inr, ℕ, true, false, List, [], length, Option, Some, None, refl, ap, sym, ◌∙◌}
+use Rattle.std.proofs.lemmas.Bool.{or_left, or_right, eq-eqb}
+use Rattle.std.specs.Prelude.{◌==◌, slice_get}
 use Rattle.std.specs.Option.{option_map_or, option_and_then}
 use Rattle.import_rounds.specs.Rounds.{has}
 use Rattle.shared_map.specs.Pairs.{IsSorted}
-use Rattle.doc_nodes.specs.declared.node.Entry.{Entry}
 use Rattle.doc_nodes.specs.declared.node.Node.{Node}
 use Rattle.doc_nodes.specs.Names.{in_order}
 use Rattle.doc_nodes.specs.Imports.{place_of}
@@ -15,14 +13,14 @@ use Rattle.exec_rules.specs.declared.row.Row.{Row}
 use Rattle.exec_rules.specs.declared.row.Assigned.{Assigned}
 use Rattle.exec_rules.specs.declared.version.Version.{Version}
 use Rattle.exec_rules.specs.Keys.{nothing}
-use Rattle.exec_rules.specs.Assigning.{entries_at, entries_in, rows_in}
+use Rattle.exec_rules.specs.Assigning.{rows_in}
 use Rattle.exec_rules.specs.Listed.{executions, print_list}
-use Rattle.core_rules.specs.Assigned.{assigns, assigned_commands, is_visible}
+use Rattle.core_rules.specs.Assigned.{assigns}
 use Rattle.language.specs.Lang.{Lang}
 use Rattle.core_rules.specs.Doc.{Doc}
 use Rattle.core_rules.specs.FromScratch.{assigned_to, AllFromScratch}
 use Rattle.core_rules.specs.Placed.{RowOf}
-use Rattle.core_rules.proofs.Places.{FoundAt, place_found, get_within, get_there}
+use Rattle.core_rules.proofs.Places.{place_found}
 use Rattle.core_rules.proofs.AssignedRows.{IsIn, RowAt, assigned_at_row, node_in}
 use Rattle.core_rules.proofs.CoreLaw.{rows_found}
 use Rattle.core_rules.proofs.PlacedOnce.{stands_once}

@@ -1,5 +1,5 @@
 -- Parts that test as the same are.
-use Rattle.std.proofs.Common.{◌≡◌, true, ◌&&◌, refl, ap, ◌∙◌}
+use Rattle.std.proofs.Common.{◌≡◌, true, refl, ap, ◌∙◌}
 use Rattle.std.proofs.lemmas.Bool.{eqb-true, eq-eqb, and_parts, and_from}
 use Rattle.std.specs.Prelude.{◌==◌}
 use Rattle.pide_base.specs.declared.part.Part.{Part}

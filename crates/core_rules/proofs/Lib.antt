@@ -53,8 +53,10 @@ mod AssignedRows
 mod EvalParts
 mod LiveWithin
 mod LegalExample
+mod HandedSources
 mod RowSources
 mod HomesLaw
 mod BegunParts
+mod OneName
 mod PlacedOnce
 pub mod KnownNamedRows

@@ -1,6 +1,6 @@
 -- One node more in an update: what is needed of the nodes before it.
 use Rattle.std.proofs.Common.{◌≡◌, ℕ, zero, suc, ◌<◌, ◌≤◌, Bool, true, false, cond, List, [], ◌∷◌, ◌++◌, length, map, find, Option, Some, None, refl, ap, sym, subst, ◌∙◌, arith}
-use Rattle.std.proofs.lemmas.Bool.{ltb-true, ltb-false, and_parts}
+use Rattle.std.proofs.lemmas.Bool.{and_parts}
 use Rattle.std.specs.Prelude.{slice_get, nat_lt}
 use Rattle.std.specs.List.{list_all, AllByRecursion}
 use Rattle.std.specs.Option.{option_map_or}
@@ -14,7 +14,7 @@ use Rattle.exec_rules.specs.declared.home.Home.{Home}
 use Rattle.exec_rules.specs.Kept.{BlobList}
 use Rattle.exec_rules.specs.Keys.{assigned_at, key_by, key_of}
 use Rattle.exec_rules.specs.Assigning.{Update, Work, greater, rows_in, kept_of, head_at}
-use Rattle.exec_rules.proofs.KnownCounts.{greater_by, greater_least, greater_most, all_or}
+use Rattle.exec_rules.proofs.KnownCounts.{greater_by, all_or}
 use Rattle.core_rules.specs.Numbered.{numbered, grown}
 use Rattle.core_rules.specs.Doc.{Doc, update_of}
 use Rattle.core_rules.specs.FromScratch.{last_by, has_open}

@@ -4,8 +4,10 @@ mod Lists
 mod PrefixLemmas
 mod NameLemmas
 mod WantedLemmas
+mod CleanFolds
 mod FoldLemmas
 mod OrderLaws
 mod WantedLaws
 mod PrefixLaws
+mod TidyAliases
 mod AliasLaws

@@ -15,7 +15,7 @@ use Rattle.message_values.specs.declared.item.BlobChange.{BlobChange}
 use Rattle.message_values.specs.declared.refusal.Refusal.{Refusal}
 use Rattle.message_values.specs.declared.refusal.Refusal.TheVariants.{BlobTwice, UnknownBlob}
 use Rattle.buffer_rules.specs.Trying.{◌>>=◌}
-use Rattle.buffer_rules.specs.Updates.{BlobList, is_among, has_twice, names_twice, removes_none, blob_once, blobs_after}
+use Rattle.buffer_rules.specs.Updates.{BlobList, is_among, names_twice, removes_none, blob_once, blobs_after}
 use Rattle.document_edits.specs.NameSets.{NameSet, AreNames, AreChanged}
 use Rattle.document_edits.specs.BlobSteps.{blob_step}
 

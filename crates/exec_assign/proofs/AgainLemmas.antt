@@ -1,14 +1,12 @@
 -- Rows that fit their commands, made again.
 use Rattle.std.proofs.Common.{◌≡◌, ℕ, zero, suc, ◌≤◌, true, false, cond, List, [], ◌∷◌, ◌++◌, length, map, Option, Some, None, refl, ap, ◌∙◌, arith}
 use Rattle.std.proofs.lemmas.Bool.{eq-eqb}
-use Rattle.std.proofs.lemmas.Map.Text.{is_eq-slice_cmp}
-use Rattle.std.proofs.lemmas.Slice.Eq.{bytes_eq-Decides}
 use Rattle.std.specs.Prelude.{slice_get, is_some, not, ◌&&◌}
 use Rattle.shared_map.specs.Pairs.{found}
 use Rattle.import_rounds.specs.Rounds.{has}
 use Rattle.doc_nodes.specs.declared.node.Entry.{Entry}
 use Rattle.doc_nodes.specs.declared.node.Node.{Node}
-use Rattle.doc_nodes.specs.Names.{in_order, equal}
+use Rattle.doc_nodes.specs.Names.{in_order}
 use Rattle.doc_nodes.proofs.KnownNames.{name_itself}
 use Rattle.exec_rules.specs.declared.row.Row.{Row}
 use Rattle.exec_rules.specs.Kept.{BlobList, Times, agree, same_blob, keeps, kept}

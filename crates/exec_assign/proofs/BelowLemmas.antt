@@ -15,7 +15,8 @@ use Rattle.exec_rules.specs.Rows.{evaluations, live_prints, first_print, print_o
 use Rattle.exec_rules.specs.Assigning.{Update, rows_in, kept_of, greater, given, assignment}
 use Rattle.exec_assign.specs.Telling.{made_by}
 use Rattle.exec_assign.specs.Numbered.{IsBelow, AreBelow}
-use Rattle.exec_assign.proofs.RowLemmas.{behind_rises, behind_first}
+use Rattle.exec_assign.proofs.RowLemmas.{behind_first}
+use Rattle.exec_assign.proofs.RowSteps.{behind_rises}
 use Rattle.exec_assign.proofs.DoneLemmas.{each_assigned}
 use Rattle.exec_assign.proofs.OldLemmas.{front_old, live_old}
 

@@ -1,6 +1,7 @@
 mod KeyLemmas
 mod BlobLemmas
 mod KeptLemmas
+mod RowSteps
 mod RowLemmas
 mod HomeLemmas
 mod AgainLemmas

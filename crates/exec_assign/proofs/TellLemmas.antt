@@ -8,7 +8,7 @@ use Rattle.doc_nodes.specs.declared.node.Entry.{Entry}
 use Rattle.exec_rules.specs.declared.row.Row.{Row}
 use Rattle.exec_rules.specs.Listed.{Told, told, same_by, same_told}
 use Rattle.exec_assign.specs.Told.{told_row}
-use Rattle.exec_assign.proofs.RowLemmas.{drop_one}
+use Rattle.exec_assign.proofs.RowSteps.{drop_one}
 
 abbrev first_of : List Row → Option Row
 first_of [] = None

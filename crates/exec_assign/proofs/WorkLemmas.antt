@@ -17,7 +17,7 @@ use Rattle.exec_rules.specs.Assigning.{Update, Work, rows_in, kept_of, greater, 
 use Rattle.doc_nodes.specs.Wanted.{wanted_at}
 use Rattle.exec_assign.specs.Found.{AreAssigned}
 use Rattle.exec_assign.specs.Work.{HasStood, HaveStood}
-use Rattle.exec_assign.proofs.RowLemmas.{behind_rises}
+use Rattle.exec_assign.proofs.RowSteps.{behind_rises}
 
 pub at_more : (done : List (ℕ × Assigned)) (p q : ℕ) (a : Assigned) (b : Bool) → eqb p q ≡ b
     → assigned_at ((p, a) ∷ done) q ≡ cond b a (assigned_at done q)

@@ -4,5 +4,6 @@ pub mod KnownCounts
 pub mod KnownNumbers
 mod KeptLaws
 mod KeyLaws
+mod RowParts
 mod RowLaws
 mod NumberLaws

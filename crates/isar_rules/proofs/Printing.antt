@@ -1,9 +1,9 @@
 -- The texts of the formulas of the examples, and what else is computed of formulas.
-use Rattle.std.proofs.Common.{◌≡◌, true, [], codes, refl, inl, inr, ◌⊎◌}
+use Rattle.std.proofs.Common.{◌≡◌, true, [], codes, refl}
 use Rattle.nj_formula.specs.declared.formula.Formula.{Formula}
 use Rattle.nj_formula.specs.declared.formula.Formula.TheVariants.{Implies}
 use Rattle.nj_formula.specs.Meaning.{meaning}
-use Rattle.proof_state.specs.Same.{decide, is_first, says_same}
+use Rattle.proof_state.specs.Same.{decide, says_same}
 use Rattle.proof_state.proofs.KnownFirst.{is_first_of}
 use Rattle.formula_texts.specs.Printed.{formula_text}
 use Rattle.suggest_rules.specs.Worked.{swap, peirce}

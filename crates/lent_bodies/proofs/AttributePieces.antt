@@ -1,5 +1,5 @@
 -- The pieces of a tag, each of which is an attribute or none is taken.
-use Rattle.std.proofs.Common.{◌≡◌, ◌≢◌, ℕ, List, [], ◌∷◌, Bool, true, false, IsTrue, ◌↔◌, Option, Some, None, is_some, not, refl, sym, ap, subst, ◌∙◌}
+use Rattle.std.proofs.Common.{◌≡◌, ◌≢◌, ℕ, List, [], ◌∷◌, Bool, true, false, IsTrue, ◌↔◌, Option, Some, None, is_some, not, refl, sym, ap, ◌∙◌}
 use Rattle.std.specs.Borrow.{Bor}
 use Rattle.std.specs.List.{slice_split}
 use Rattle.xml_tree.specs.declared.tree.Attribute.{Attribute}

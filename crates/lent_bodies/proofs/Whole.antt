@@ -1,10 +1,10 @@
 -- A text without fault has one body, which stands at its beginning.
-use Rattle.std.proofs.Common.{◌≡◌, ℕ, ◌+◌, ◌≤◌, List, [], ◌∷◌, ◌++◌, None, Ok, append-nil, refl, sym, subst, ap, ◌∙◌, arith}
+use Rattle.std.proofs.Common.{◌≡◌, ℕ, ◌+◌, ◌≤◌, List, [], ◌++◌, None, Ok, append-nil, sym, subst, ap, ◌∙◌, arith}
 use Rattle.xml_tree.specs.declared.tree.Tree.{Tree}
 use Rattle.xml_tree.specs.Bodies.{body_of, ClosesOpen}
-use Rattle.xml_tree.specs.Marks.{Mark, marks, open_after}
+use Rattle.xml_tree.specs.Marks.{marks, open_after}
 use Rattle.xml_tree.specs.Normal.{IsNormal, height, most_nested}
-use Rattle.xml_tree.proofs.KnownNesting.{IsWithin, Nests-trees, within-closes}
+use Rattle.xml_tree.proofs.KnownNesting.{Nests-trees, within-closes}
 use Rattle.yxml.specs.Answer.{answer_by, body_in}
 use Rattle.yxml.specs.Reading.{marks_in, fault_in}
 use Rattle.yxml.specs.Spelling.{merged, Spells}

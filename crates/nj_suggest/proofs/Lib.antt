@@ -7,5 +7,6 @@ mod SearchLemmas
 mod SeenLemmas
 mod ProvenLemmas
 mod FoundLemmas
+mod FactLemmas
 mod SoundLemmas
 mod TextLemmas

@@ -2,7 +2,8 @@
 ghost use Rattle.std.specs.Prelude.{◌≡◌, ◌≢◌, ◌⊎◌, ℕ, true, false, [], map, reverse};
 ghost use Rattle.pide_base.specs.Faults.{Rose};
 ghost use Rattle.pide_check.specs.Checked.{ChecksWhole, IsChecked};
-ghost use Rattle.pide_serve.specs.Headline.{BadFrameSo, BytesWritten, CompleteSo, CoversSo, DoneSo, EachCall, LongSo, MadeAlone, MessagesRead, OneLegalHistory, ShowsSo, TruncatedSo};
+ghost use Rattle.pide_serve.specs.Causes.{BadFrameSo, CompleteSo, DoneSo, LongSo, TruncatedSo};
+ghost use Rattle.pide_serve.specs.Headline.{BytesWritten, CoversSo, EachCall, MadeAlone, MessagesRead, OneLegalHistory, ShowsSo};
 ghost use Rattle.isar_rules.specs.Isar.{isar};
 ghost use Rattle.pide_program.specs.Words.{is_check, is_serve, is_taken};
 

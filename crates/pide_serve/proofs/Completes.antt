@@ -1,27 +1,18 @@
 -- A run that nothing hinders is done.
-use Rattle.std.proofs.Common.{◌≡◌, ◌≢◌, ◌⊎◌, ◌^◌, ◌<◌, ◌≤◌, [], ◌∷◌, ◌++◌, Bool, true, false, List, ℕ, Option, None, Some, length, refl, sym, ap, ◌∙◌, subst, inl, inr, arith, append-nil, ◌+◌}
+use Rattle.std.proofs.Common.{◌≡◌, ◌≢◌, ◌⊎◌, [], ◌++◌, List, ℕ, Option, None, Some, length, refl, sym, ap, ◌∙◌, subst, inl, inr, arith, append-nil, ◌+◌}
 use Rattle.std.proofs.lemmas.List.{length-append}
-use Rattle.std.specs.Io.KnownBytes.{Appends, Consumes, IsAtEnd}
-use Rattle.std.proofs.KnownBytes.{Appends-nil, Consumes-nil}
+use Rattle.std.specs.Io.KnownBytes.{Consumes, IsAtEnd}
 use Rattle.pide_base.specs.Faults.{Rose}
 use Rattle.pide_base.specs.declared.status.Status.{Status}
 use Rattle.pide_base.specs.declared.status.Status.TheVariants as status
 use Rattle.byte_message.proofs.KnownEndings.{one-reading}
 use Rattle.byte_message.proofs.KnownLonger.{bad-reading}
-use Rattle.byte_message.specs.Feeding.{ending_of}
-use Rattle.byte_message.specs.Kept.{Framing}
 use Rattle.byte_message.specs.Stream.{IsReadAs}
 use Rattle.byte_message.specs.Stream.Ending.{Whole, Bad, Short}
 use Rattle.byte_message.specs.declared.frame_fault.FrameFault.{FrameFault}
 use Rattle.session_core.specs.declared.entry.Entry.{Entry}
-use Rattle.session_core.specs.declared.entry.Entry.TheVariants as entry
-use Rattle.session_core.specs.Legal.{IsLegal}
-use Rattle.session_core.specs.Replies.{replies}
-use Rattle.pide_serve.proofs.Decoding.{all-read, ends-fine}
-use Rattle.pide_serve.proofs.Stopping.{written-ended}
-use Rattle.pide_serve.specs.Headline.{BadFrameSo, CallsSo, CompleteSo, DoneSo, HasEnding, IsRun, TakesSo, TruncatedSo}
-use Rattle.pide_serve.specs.Runs.{EndsWith, Serving, ServesInput, Stopped, StoppedWithin}
-use Rattle.pide_serve.specs.Served.{calls}
+use Rattle.pide_serve.specs.Headline.{IsRun}
+use Rattle.pide_serve.specs.Causes.{CompleteSo, HasEnding, TakesSo}
 
 -- what is taken of known bytes is a front of them
 known-front : (left left' : Option (List ℕ)) (bytes taken : List ℕ) → left ≡ Some bytes → Consumes left left' taken → (rest : List ℕ) × (bytes ≡ taken ++ rest) × (left' ≡ Some rest)

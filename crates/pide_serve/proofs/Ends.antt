@@ -1,17 +1,14 @@
 -- How a run ends.
-use Rattle.std.proofs.Common.{◌≡◌, ◌≢◌, ◌⊎◌, ◌^◌, ◌<◌, ◌≤◌, [], ◌∷◌, ◌++◌, Bool, true, false, List, ℕ, Option, None, Some, length, refl, sym, ap, ◌∙◌, subst, inl, inr, arith, append-nil, ◌+◌}
-use Rattle.std.proofs.lemmas.List.{length-append}
+use Rattle.std.proofs.Common.{◌≡◌, ◌≢◌, ◌⊎◌, ◌^◌, ◌<◌, ◌≤◌, [], ◌∷◌, List, ℕ, Option, None, length, refl, sym, subst, inl, inr, arith}
 use Rattle.std.specs.Io.KnownBytes.{Appends, Consumes, IsAtEnd}
 use Rattle.std.proofs.KnownBytes.{Appends-nil, Consumes-nil}
-use Rattle.pide_base.specs.Faults.{Rose}
 use Rattle.pide_base.specs.declared.status.Status.{Status}
 use Rattle.pide_base.specs.declared.status.Status.TheVariants as status
 use Rattle.byte_message.proofs.KnownEndings.{one-reading}
-use Rattle.byte_message.proofs.KnownLonger.{bad-reading}
 use Rattle.byte_message.specs.Feeding.{ending_of}
 use Rattle.byte_message.specs.Kept.{Framing}
 use Rattle.byte_message.specs.Stream.{IsReadAs}
-use Rattle.byte_message.specs.Stream.Ending.{Whole, Bad, Short}
+use Rattle.byte_message.specs.Stream.Ending.{Whole, Bad}
 use Rattle.byte_message.specs.declared.frame_fault.FrameFault.{FrameFault}
 use Rattle.session_core.specs.declared.entry.Entry.{Entry}
 use Rattle.session_core.specs.declared.entry.Entry.TheVariants as entry
@@ -19,7 +16,8 @@ use Rattle.session_core.specs.Legal.{IsLegal}
 use Rattle.session_core.specs.Replies.{replies}
 use Rattle.pide_serve.proofs.Decoding.{all-read, ends-fine}
 use Rattle.pide_serve.proofs.Stopping.{written-ended}
-use Rattle.pide_serve.specs.Headline.{BadFrameSo, CallsSo, CompleteSo, DoneSo, HasEnding, IsRun, TakesSo, TruncatedSo}
+use Rattle.pide_serve.specs.Headline.{CallsSo, IsRun}
+use Rattle.pide_serve.specs.Causes.{BadFrameSo, DoneSo, HasEnding, TakesSo, TruncatedSo}
 use Rattle.pide_serve.specs.Runs.{EndsWith, Serving, ServesInput, Stopped, StoppedWithin}
 use Rattle.pide_serve.specs.Served.{calls}
 

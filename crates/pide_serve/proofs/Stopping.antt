@@ -11,7 +11,8 @@ use Rattle.session_core.specs.declared.entry.Entry.TheVariants as entry
 use Rattle.session_core.specs.Legal.{IsLegal}
 use Rattle.session_core.specs.Replies.{replies}
 use Rattle.pide_serve.proofs.Decoding.{all-out, all-read, ends-bad, some-read, unread}
-use Rattle.pide_serve.specs.Headline.{ReadFront, place_of}
+use Rattle.pide_serve.specs.Headline.{ReadFront}
+use Rattle.pide_serve.specs.Causes.{place_of}
 use Rattle.pide_serve.specs.Runs.{GoesOn, Serving, Stopped, Stops}
 use Rattle.pide_serve.specs.Served.{calls}
 

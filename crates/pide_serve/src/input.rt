@@ -3,7 +3,8 @@ ghost use Rattle.std.specs.Prelude.{◌≡◌, ◌+◌, ◌<◌, ◌≤◌, ℕ,
 ghost use Rattle.std.specs.Io.KnownBytes.{Consumes};
 ghost use Rattle.pide_base.specs.Faults.{Rose};
 ghost use Rattle.session_core.specs.Legal.{has_ended};
-ghost use Rattle.pide_serve.specs.Headline.{IsRun, too_many};
+ghost use Rattle.pide_serve.specs.Causes.{too_many};
+ghost use Rattle.pide_serve.specs.Headline.{IsRun};
 ghost use Rattle.pide_serve.specs.Runs.{ServesInput, Serving};
 ghost use Rattle.pide_serve.specs.Steps.{StepSo};
 

@@ -3,7 +3,7 @@ ghost use Rattle.std.specs.Prelude.{◌≡◌, ◌≢◌, ◌≤◌, ◌++◌, �
 ghost use Rattle.pide_base.specs.Faults.{Rose};
 ghost use Rattle.byte_message.specs.Feeding.{Continues, ending_of};
 ghost use Rattle.session_core.specs.Legal.{has_ended};
-ghost use Rattle.pide_serve.specs.Headline.{place_of};
+ghost use Rattle.pide_serve.specs.Causes.{place_of};
 ghost use Rattle.pide_serve.specs.Runs.{EndsWith, Serving, Stopped, StoppedWithin};
 
 use crate::serving::{Served, serve_whole};

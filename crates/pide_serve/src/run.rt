@@ -1,7 +1,8 @@
 //! A run: the messages of a source, served to its end.
 ghost use Rattle.std.specs.Prelude.{◌≡◌, ◌≢◌, reverse};
 ghost use Rattle.pide_base.specs.Faults.{Rose};
-ghost use Rattle.pide_serve.specs.Headline.{CompleteSo, CoversSo, EachCall, IsRun, ShowsSo};
+ghost use Rattle.pide_serve.specs.Causes.{CompleteSo};
+ghost use Rattle.pide_serve.specs.Headline.{CoversSo, EachCall, IsRun, ShowsSo};
 
 use crate::input::serve_input;
 use crate::outcome::Outcome;

@@ -1,18 +1,16 @@
 -- The parts of a rule fit its goal.
 use Rattle.std.proofs.lemmas.Bool.{and_parts}
-use Rattle.std.proofs.Common.{◌≡◌, ℕ, Bool, true, false, cond, ◌&&◌, List, Option, Some, None, Result, Ok, Err, refl, sym, ◌∙◌, ap, subst}
+use Rattle.std.proofs.Common.{◌≡◌, ℕ, Bool, true, false, cond, ◌&&◌, List, Ok, refl, ◌∙◌, subst}
 use Rattle.nj_formula.specs.declared.argument.Argument.{Argument}
 use Rattle.nj_formula.specs.declared.argument.Argument.TheVariants.{Free}
 use Rattle.nj_formula.specs.declared.formula.Formula.{Formula, out-Formula, map-Formula, fold_out-Formula}
 use Rattle.nj_formula.specs.declared.formula.Formula.TheOpen.{Formula-F}
 use Rattle.nj_formula.specs.Closed.{is_closed}
 use Rattle.nj_formula.specs.FormulaInstance.{formula_instance}
-use Rattle.nj_formula.specs.Instance.{instance}
 use Rattle.nj_formula.specs.Meaning.{layer_meaning, meaning}
-use Rattle.nj_formula.specs.Statement.{Statement, falsity, neg, conj, disj, implies, every, exists}
+use Rattle.nj_formula.specs.Statement.{Statement}
 use Rattle.nj_formula.proofs.KnownInstance.{instance_says}
 use Rattle.nj_formula.proofs.KnownMeaning.{meaning-False, meaning-Not, meaning-And, meaning-Or, meaning-Implies}
-use Rattle.proof_terms.specs.declared.fault.TermFault.{TermFault}
 use Rattle.proof_terms.specs.declared.term.Term.{Term}
 use Rattle.proof_terms.specs.declared.term.Term.TheOpen.{Term-F}
 use Rattle.nj_kernel.specs.declared.rule.Rule.{Rule}

@@ -13,10 +13,9 @@ use Rattle.proof_checks.specs.declared.halt.Halt.TheVariants.{Wrong, Stopped, No
 use Rattle.proof_checks.specs.declared.step.Part.{Part}
 use Rattle.proof_checks.specs.declared.step.Step.{Step}
 use Rattle.proof_checks.specs.declared.step.Step.TheVariants.{Cited, One, Two, Three}
-use Rattle.proof_checks.specs.declared.step.Unary.{Unary}
 use Rattle.proof_checks.specs.declared.step.Binary.{Binary}
 use Rattle.proof_checks.specs.Answers.{Gives, Enters}
-use Rattle.proof_checks.specs.Checks.{Found, and_then, by_one, by_two, by_three, of_part, of_step, step_within, checked_within}
+use Rattle.proof_checks.specs.Checks.{Found, and_then, by_two, by_three, of_part, of_step, step_within, checked_within}
 use Rattle.proof_checks.specs.Fits.{Fits, IsWithin}
 use Rattle.proof_checks.specs.Rows.{Planned}
 use Rattle.proof_checks.specs.Scopes.{inside, remaining}

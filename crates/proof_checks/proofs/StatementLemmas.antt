@@ -1,7 +1,6 @@
 -- Tests on statements and lists of them.
-use Rattle.std.proofs.Common.{◌≡◌, ◌≢◌, ◌⊎◌, ◌↔◌, ℕ, Bool, true, false, not, cond, IsTrue, List, [], ◌∷◌, refl, sym, ◌∙◌, ap, subst, inl, inr, ⊎_elim}
+use Rattle.std.proofs.Common.{◌≡◌, ◌≢◌, ◌⊎◌, ◌↔◌, ℕ, Bool, true, false, not, cond, IsTrue, List, [], ◌∷◌, refl, sym, ◌∙◌, subst, inl, inr, ⊎_elim}
 use Rattle.std.proofs.lemmas.Bool.{or_parts, or_from}
-use Rattle.std.specs.List.{list_any}
 use Rattle.nj_formula.specs.Statement.{Statement}
 use Rattle.nj_formula.specs.Free.{is_free}
 use Rattle.nj_kernel.specs.Sets.{members, ◌∖◌, Lists, IsFreshIn}

@@ -2,9 +2,9 @@
 use Rattle.std.proofs.Common.{◌≡◌, ◌≢◌, ◌⊎◌, List, [], ◌∷◌, ◌++◌, sym, ◌∙◌, inl, inr, ⊎_elim}
 use Rattle.nj_formula.specs.Statement.{Statement}
 use Rattle.nj_kernel.specs.Nj.{Nj, assume, same_set, conj_i, conj_e2}
-use Rattle.nj_kernel.specs.Sets.{members, ◌∪◌, ◌∖◌, Lists}
+use Rattle.nj_kernel.specs.Sets.{members, ◌∖◌, Lists}
 use Rattle.proof_state.specs.Same.{decide}
-use Rattle.proof_state.proofs.KnownSets.{in_left, in_right, in_either, lists_both}
+use Rattle.proof_state.proofs.KnownSets.{in_left, in_either, lists_both}
 
 one_more : (a : Statement) (s : List Statement) (f : Statement) → Nj s f → Nj (a ∷ s) f
 one_more a s f d = conj_e2 (conj_i (lists_both (a ∷ []) s) (assume {a = a}) d)

@@ -1,8 +1,7 @@
 -- The one answer to each text.
-use Rattle.std.proofs.Common.{◌≡◌, ℕ, List, [], ◌∷◌, ◌++◌, Option, Some, None, Result, Ok, Err, refl, ap, sym, subst, ◌∙◌}
+use Rattle.std.proofs.Common.{◌≡◌, ℕ, List, [], ◌∷◌, Some, Result, Ok, Err, ap, sym, subst, ◌∙◌}
 use Rattle.std.proofs.lemmas.List.{append-nil}
 use Rattle.proof_terms.specs.declared.fault.TermFault.{TermFault}
-use Rattle.proof_terms.specs.declared.fault.TermFault.TheVariants.{Malformed}
 use Rattle.proof_terms.specs.declared.mark.Mark.{Mark}
 use Rattle.proof_terms.specs.declared.term.Term.{Term}
 use Rattle.proof_terms.specs.Slots.{proof}
@@ -11,7 +10,8 @@ use Rattle.proof_terms.specs.Faults.{in_slot, first_fault}
 use Rattle.proof_terms.specs.Reading.{Read, whole, read_term}
 use Rattle.proof_terms.proofs.CompleteLemmas.{term_read}
 use Rattle.proof_terms.proofs.SoundLemmas.{term_front}
-use Rattle.proof_terms.proofs.JudgedLemmas.{after, term_judged}
+use Rattle.proof_terms.proofs.JudgedLemmas.{term_judged}
+use Rattle.proof_terms.proofs.JudgedParts.{after}
 
 -- of terms in which at most so many rules are nested
 abbrev pub AnswersTo : ℕ → List Mark → Result Term TermFault → Type 0

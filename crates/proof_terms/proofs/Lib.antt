@@ -1,7 +1,9 @@
 mod StepLemmas
 mod QuotedLemmas
 mod CompleteLemmas
+mod TakenMarks
 mod SoundLemmas
+mod JudgedParts
 mod JudgedLemmas
 mod AnsweredLemmas
 mod GivenLemmas

@@ -21,7 +21,7 @@ use Rattle.prover_core.specs.Kept.{Tables, IsKept, IsBehind}
 use Rattle.exec_lists.specs.Parts.{is_unfinished}
 use Rattle.prover_core.specs.Settling.{IsLeft, IsSettled}
 use Rattle.version_losses.specs.Losses.{number_of}
-use Rattle.prover_core.proofs.LossesKept.{behind_of}
+use Rattle.prover_core.proofs.LossesBehind.{behind_of}
 use Rattle.prover_core.proofs.TipLive.{Laws, laws_of}
 use Rattle.prover_core.proofs.NodeShown.{found_assigns}
 use Rattle.prover_core.proofs.LiveIds.{live_place}

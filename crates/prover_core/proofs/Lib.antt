@@ -61,6 +61,7 @@ mod StuckMarks
 mod SettledParts
 mod OldestReady
 mod LeftParts
+mod LossesBehind
 mod LossesKept
 mod BehindSettled
 mod PlanSources

@@ -1,64 +1,16 @@
 -- What live versions had and later ones have not, and the numbers that came next when they were made.
-use Rattle.std.proofs.Common.{◌≡◌, ℕ, ◌<◌, ◌≤◌, Bool, true, false, cond, not, ◌&&◌, ◌||◌, List, [], ◌∷◌, ◌++◌, Some, refl, ap, sym, subst, ◌∙◌, arith}
+use Rattle.std.proofs.Common.{◌≡◌, ℕ, ◌<◌, ◌≤◌, Bool, true, false, not, ◌&&◌, ◌||◌, List, [], ◌∷◌, ◌++◌, refl, ap, sym, ◌∙◌, arith}
 use Rattle.std.proofs.lemmas.Bool.{false≢true, lt-ltb, ltb-true}
-use Rattle.std.specs.Prelude.{◌==◌, nat_lt, find}
-use Rattle.std.specs.Option.{option_map}
+use Rattle.std.specs.Prelude.{nat_lt}
 use Rattle.std.specs.Cmp.{first_so}
-use Rattle.std.proofs.Math.Bool.{or-true}
 use Rattle.import_rounds.specs.Rounds.{has}
 use Rattle.doc_versions.specs.declared.versions.Live.{Live}
-use Rattle.doc_versions.specs.Live.{version_of}
 use Rattle.exec_rules.specs.declared.version.Version.{Version}
-use Rattle.core_rules.specs.Numbered.{next_number}
 use Rattle.core_rules.specs.Assigned.{assigns, is_assigned}
-use Rattle.core_rules.specs.Doc.{Doc}
 use Rattle.version_losses.specs.declared.losses.Loss.{Loss}
-use Rattle.version_losses.specs.Losses.{number_of, is_lost, IsLoss, AreLosses}
-use Rattle.prover_core.specs.Kept.{IsBehind}
+use Rattle.version_losses.specs.Losses.{is_lost, AreLosses}
 use Rattle.prover_core.proofs.UpdatedDoc.{pushed}
-
--- each number is at most the next one
-bounded : (tip : Version) (top n : ℕ) (losses : List Loss) (live : List (Live Version)) → AreLosses tip top n losses live → n ≤ top
-bounded tip top n [] [] are = are.within
-bounded tip top n [] (one ∷ live) are = absurd are
-bounded tip top n (loss ∷ later) [] are = absurd are
-bounded tip top n (loss ∷ later) (one ∷ live) are = omega (arith, are.0.after, bounded tip top loss.next later live are.1)
-
-module _ (d : Doc) where
-  abbrev IsThere : List Loss → ℕ → Version → Type 0
-  IsThere losses i v = (m : ℕ) × (number_of losses i ≡ Some m) × IsBehind d v m
-
-  -- the number of a live version tells what of the tip it has
-  own_behind : (n : ℕ) (loss : Loss) (later : List Loss) (one : Live Version) (live : List (Live Version))
-      → IsLoss d.tip n loss later one live → loss.next ≤ next_number d.homes → IsBehind d one.version loss.next
-  own_behind n loss later one live is le = record {
-    within = le;
-    above = λ e has_it. ltb-true e loss.next (first_so (nat_lt e loss.next) _ (sym (is.has_so e) ∙ has_it));
-    still = λ e in_tip lt. is.has_so e ∙ ap (λ b. b && (is_lost later e || assigns d.tip e)) (lt-ltb e loss.next lt)
-        ∙ ap (λ b. is_lost later e || b) in_tip ∙ or-true (is_lost later e);
-  }
-
-  pub behind_of : (n : ℕ) (losses : List Loss) (live : List (Live Version)) → AreLosses d.tip (next_number d.homes) n losses live
-      → (i : ℕ) (v : Version) → version_of live i ≡ Some v → IsThere losses i v
-  behind_of n [] [] are i v at = absurd (cc)
-  behind_of n [] (one ∷ live) are i v at = absurd are
-  behind_of n (loss ∷ later) [] are i v at = absurd are
-  behind_of n (loss ∷ later) (one ∷ live) are i v at = go (one.id == i) refl at (behind_of loss.next later live are.1 i v)
-    where
-      here : (b : Bool) → (one.id == i) ≡ b → number_of (loss ∷ later) i ≡ option_map (λ (x : Loss). x.next) (cond b (Some loss) (find (λ (x : Loss). x.id == i) later))
-      here b is = ap (λ b. option_map (λ (x : Loss). x.next) (cond b (Some loss) (find (λ (x : Loss). x.id == i) later)))
-          (ap (λ id. id == i) are.0.same ∙ is)
-
-      go : (b : Bool) → (one.id == i) ≡ b → option_map (λ (x : Live Version). x.version) (cond b (Some one) (find (λ (x : Live Version). x.id == i) live)) ≡ Some v
-          → (version_of live i ≡ Some v → IsThere later i v) → IsThere (loss ∷ later) i v
-      go true is at rest =
-          let same : one.version ≡ v = cc in (
-            loss.next,
-            here true is,
-            subst (λ w. IsBehind d w loss.next) same
-                (own_behind n loss later one live are.0 (bounded d.tip (next_number d.homes) loss.next later live are.1)),
-          )
-      go false is at rest = let there = rest at in (there.0, here false is ∙ there.1, there.2)
+use Rattle.prover_core.proofs.LossesBehind.{bounded}
 
 -- one version more, which drops what the tip had and it has not
 module _ (old new : Version) (top now : ℕ) (dropped : List ℕ) (id : ℕ) (le : top ≤ now)

@@ -3,8 +3,8 @@ use Rattle.std.proofs.Common.{◌≡◌, ℕ, List, ap, sym, ◌∙◌}
 use Rattle.nj_formula.specs.declared.argument.Argument.{Argument}
 use Rattle.nj_formula.specs.declared.formula.Formula.{Formula, out-Formula, out-roll-Formula}
 use Rattle.nj_formula.specs.declared.formula.Formula.TheOpen.{Formula-F}
-use Rattle.nj_formula.specs.declared.formula.Formula.TheVariants.{False, Atom, Not, And, Or}
-use Rattle.nj_formula.specs.declared.formula.Formula.TheVariants.{rolls-False, rolls-Atom, rolls-Not, rolls-And, rolls-Or}
+use Rattle.nj_formula.specs.declared.formula.Formula.TheVariants.{False, Atom, And}
+use Rattle.nj_formula.specs.declared.formula.Formula.TheVariants.{rolls-False, rolls-Atom, rolls-And}
 
 pub out-False : out-Formula False ≡ Formula-F.False
 out-False = ap out-Formula (sym rolls-False) ∙ out-roll-Formula Formula-F.False

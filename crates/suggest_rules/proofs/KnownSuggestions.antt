@@ -1,15 +1,13 @@
 -- The suggestions of small goals, computed.
-use Rattle.std.proofs.Common.{◌≡◌, ℕ, List, [], ◌∷◌, codes, Option, Some, None, refl, ap, ◌∙◌}
+use Rattle.std.proofs.Common.{◌≡◌, [], ◌∷◌, codes, Some, None}
 use Rattle.std.specs.Fmt.{digits}
-use Rattle.nj_formula.specs.declared.formula.Formula.{Formula}
-use Rattle.nj_formula.specs.declared.formula.Formula.TheVariants.{Atom, And, Implies}
 use Rattle.nj_formula.proofs.KnownMeaning.{meaning-Atom, meaning-And, meaning-Implies}
 use Rattle.nj_formula.proofs.KnownFormulas.{out-Implies}
 use Rattle.proof_terms.proofs.KnownTerms.{fold-Fact, fold-ImpI, fold-ConjI, fold-ConjE1, fold-ConjE2}
 use Rattle.formula_texts.specs.Printed.{formula_text}
 use Rattle.formula_texts.proofs.KnownSpoken.{says_atom}
 use Rattle.suggest_rules.specs.Search.{found_by, found_within, suggested}
-use Rattle.suggest_rules.specs.TermText.{term_text, by_text}
+use Rattle.suggest_rules.specs.TermText.{by_text}
 use Rattle.suggest_rules.specs.Worked.{prop, swap, peirce, swapped_by}
 use Rattle.suggest_rules.proofs.FormLemmas.{out-Atom, out-And}
 use Rattle.suggest_rules.proofs.TestLemmas.{itself, conj_atom, atom_conj, implies_atom, atom_implies, p_q, swapped, nested}

@@ -1,11 +1,10 @@
 -- Names and suggestions of small goals, computed (this project's own).
-use Rattle.std.specs.Prelude.{◌≡◌, ℕ, List, [], ◌∷◌, ◌++◌, map, replicate, codes, Option, Some, None}
+use Rattle.std.specs.Prelude.{◌≡◌, ℕ, List, [], ◌∷◌, ◌++◌, map, replicate, codes, Some, None}
 use Rattle.nj_formula.specs.declared.formula.Formula.{Formula}
 use Rattle.nj_formula.specs.declared.formula.Formula.TheVariants.{Atom, And, Implies}
 use Rattle.theory_ctx.specs.declared.local.Local.{Local}
 use Rattle.proof_terms.specs.declared.term.Term.{Term}
 use Rattle.proof_terms.specs.declared.term.Term.TheVariants.{Fact, ImpI, ConjI, ConjE1, ConjE2}
-use Rattle.suggest_rules.specs.declared.names.Names.{Names}
 use Rattle.suggest_rules.specs.Names.{citable, next_name}
 use Rattle.suggest_rules.specs.Search.{suggested}
 use Rattle.suggest_rules.specs.TermText.{by_text}

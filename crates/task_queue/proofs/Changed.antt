@@ -1,9 +1,9 @@
 -- The order of parts, and how they stand where one of them changes.
-use Rattle.std.proofs.Common.{◌≡◌, ◌≢◌, ℕ, Bool, true, false, Option, Some, None, eqb, refl, sym, arith}
+use Rattle.std.proofs.Common.{◌≡◌, ◌≢◌, ℕ, true, false, Option, arith}
 use Rattle.task_queue.specs.declared.priority.Priority.{Priority}
 use Rattle.task_queue.specs.declared.task.Standing.{Standing}
-use Rattle.task_queue.specs.Order.{height, goes_before}
-use Rattle.task_queue.specs.Ready.{Standings, priority_of, comes_first, with_standing}
+use Rattle.task_queue.specs.Order.{goes_before}
+use Rattle.task_queue.specs.Ready.{Standings, with_standing}
 
 -- of two executions one is taken before the other
 pub either_first : (p q : Priority) (e f : ℕ) → e ≢ f → goes_before p e q f ≡ false → goes_before q f p e ≡ true

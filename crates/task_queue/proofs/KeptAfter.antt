@@ -1,9 +1,8 @@
 -- A queue is kept after a change of one execution's part.
-use Rattle.std.proofs.Common.{◌≡◌, ◌≢◌, ◌⊎◌, ℕ, ◌≤◌, ◌<◌, List, length, get_or, true, false, Option, Some, None, IsSome, inl, inr, sym, ◌∙◌, ap, refl, subst, arith}
+use Rattle.std.proofs.Common.{◌≡◌, ◌≢◌, ◌⊎◌, ℕ, ◌≤◌, length, get_or, true, false, Option, Some, IsSome, inl, inr, sym, ◌∙◌, ap, refl, subst}
 use Rattle.std.specs.HashMap.{hash_map_len}
 use Rattle.std.specs.List.{All, AllPairs}
 use Rattle.std.proofs.lemmas.Bool.{cases_eq}
-use Rattle.pide_base.specs.declared.part.Part.{Part}
 use Rattle.task_queue.specs.declared.queue.TaskQueue.TheInside.{Inside}
 use Rattle.task_queue.specs.declared.task.Standing.{Standing}
 use Rattle.task_queue.specs.Deque.{capacity_of}

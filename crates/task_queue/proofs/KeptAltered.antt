@@ -1,5 +1,5 @@
 -- A queue is kept where the part of one execution stands otherwise, leaves or comes.
-use Rattle.std.proofs.Common.{◌≡◌, ◌≢◌, ◌⊎◌, ℕ, ◌≤◌, true, false, option_map, Option, Some, None, inl, inr, sym, ◌∙◌, ap, refl, subst, arith}
+use Rattle.std.proofs.Common.{◌≡◌, ◌≢◌, ◌⊎◌, ℕ, ◌≤◌, true, false, option_map, Option, Some, None, inl, inr, sym, ◌∙◌, ap, refl, subst}
 use Rattle.std.specs.HashMap.{hash_map_len}
 use Rattle.std.specs.Option.{option_map_or}
 use Rattle.std.proofs.lemmas.Bool.{cases_eq}
@@ -9,11 +9,11 @@ use Rattle.task_queue.specs.declared.waiters.Waiters.{Waiters}
 use Rattle.task_queue.specs.Deque.{capacity_of}
 use Rattle.task_queue.specs.Tasks.{standing, has, is_ready}
 use Rattle.task_queue.specs.Waiters.{Waits, HasAll}
-use Rattle.task_queue.specs.Ready.{Standings, AreReady, with_standing}
+use Rattle.task_queue.specs.Ready.{AreReady, with_standing}
 use Rattle.task_queue.specs.Changes.{taken, nobody_waits}
 use Rattle.task_queue.specs.Kept.{looked, seen, IsKept}
 use Rattle.task_queue.proofs.Changed.{here, elsewhere}
-use Rattle.task_queue.proofs.ReadyLemmas.{IsUnready}
+use Rattle.task_queue.proofs.Unready.{IsUnready}
 use Rattle.task_queue.proofs.KeptAfter.{changed_kept}
 
 -- what an altered standing was before

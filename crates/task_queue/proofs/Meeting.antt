@@ -1,5 +1,5 @@
 -- What is ready where a task waits no more for an execution.
-use Rattle.std.proofs.Common.{◌≡◌, ◌≢◌, ◌⊎◌, ℕ, zero, suc, ◌+◌, ◌≤◌, ◌<◌, Bool, true, false, not, ◌&&◌, List, [], ◌∷◌, length, get_or, option_map, Option, Some, None, IsSome, sym, ◌∙◌, ap, refl, subst, eqb, arith}
+use Rattle.std.proofs.Common.{◌≡◌, ◌≢◌, ℕ, zero, suc, ◌+◌, ◌≤◌, ◌<◌, Bool, true, false, not, ◌&&◌, List, [], ◌∷◌, length, get_or, option_map, Option, Some, None, IsSome, sym, ◌∙◌, ap, refl, subst, eqb, arith}
 use Rattle.std.specs.List.{All, AllPairs}
 use Rattle.std.specs.Map.{lookup}
 use Rattle.std.specs.Option.{option_map_or}
@@ -10,11 +10,11 @@ use Rattle.task_queue.specs.declared.task.Standing.{Standing}
 use Rattle.task_queue.specs.Tasks.{has, is_ready}
 use Rattle.task_queue.specs.Ready.{Standings, AreReady, IsPlaceFor, with_standing, priority_of, comes_first}
 use Rattle.task_queue.specs.Changes.{without, kind_if_ready, released}
-use Rattle.task_queue.proofs.Changed.{here, elsewhere}
 use Rattle.task_queue.proofs.KeptAlike.{ready_alike}
 use Rattle.task_queue.proofs.Links.{few_parts}
-use Rattle.task_queue.proofs.Places.{put_in}
-use Rattle.task_queue.proofs.ReadyLemmas.{IsUnready, unready_changed, ready_put_in, other_exec}
+use Rattle.task_queue.proofs.PutIn.{put_in}
+use Rattle.task_queue.proofs.ReadyLemmas.{ready_put_in}
+use Rattle.task_queue.proofs.Unready.{IsUnready, unready_changed, other_exec}
 use Rattle.task_queue.proofs.Sets.{removed_none}
 use Rattle.task_queue.proofs.KnownOrder.{not_itself}
 

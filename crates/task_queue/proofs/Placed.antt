@@ -12,11 +12,13 @@ use Rattle.task_queue.specs.declared.task.Standing.{Standing}
 use Rattle.task_queue.specs.Order.{goes_before}
 use Rattle.task_queue.specs.Tasks.{is_ready}
 use Rattle.task_queue.specs.Ready.{Standings, AreReady, IsReadyPart, IsPlaceFor, with_standing, priority_of}
-use Rattle.task_queue.specs.Changes.{kind_if_ready, ready_kind, with_priority}
+use Rattle.task_queue.specs.Changes.{ready_kind, with_priority}
 use Rattle.task_queue.proofs.Changed.{here, elsewhere}
 use Rattle.task_queue.proofs.KeptAlike.{ready_alike}
-use Rattle.task_queue.proofs.Places.{put_in, taken_out, length-taken_out, below-taken_out, above-taken_out}
-use Rattle.task_queue.proofs.ReadyLemmas.{IsUnready, other_exec, unready_changed, ready_put_in, ready_taken_out, place_is}
+use Rattle.task_queue.proofs.PutIn.{put_in, taken_out, length-taken_out, below-taken_out, above-taken_out}
+use Rattle.task_queue.proofs.ReadyLemmas.{ready_put_in, ready_taken_out}
+use Rattle.task_queue.proofs.Unready.{IsUnready, other_exec, unready_changed}
+use Rattle.task_queue.proofs.LastReady.{place_is}
 use Rattle.task_queue.proofs.Meeting.{told_ready, told_unready}
 
 -- what has no kind to be told is not ready

@@ -1,41 +1,8 @@
 -- A list with an element put in at a place, or taken out.
-use Rattle.std.proofs.Common.{◌≡◌, ◌≢◌, ◌⊎◌, ℕ, ◌+◌, ◌-◌, ◌<◌, ◌≤◌, List, ◌∷◌, ◌++◌, length, take, drop, get_or, inl, inr, sym, ◌∙◌, rules, arith}
+use Rattle.std.proofs.Common.{◌≡◌, ◌≢◌, ◌⊎◌, ℕ, ◌+◌, ◌-◌, ◌<◌, ◌≤◌, List, length, get_or, inl, inr, ◌∙◌, arith}
 use Rattle.std.specs.List.{All, Contains, AllPairs}
 use Rattle.std.proofs.lemmas.Bool.{cases_lt}
-use Rattle.std.proofs.lemmas.List.{places}
-
-abbrev pub put_in : {X : Type 0} → List X → ℕ → X → List X
-put_in xs i x = take i xs ++ x ∷ drop i xs
-
-abbrev pub taken_out : {X : Type 0} → List X → ℕ → List X
-taken_out xs i = take i xs ++ drop (i + 1) xs
-
-pub length-put_in : {X : Type 0} (xs : List X) (i : ℕ) (x : X) → i ≤ length xs
-    → length (put_in xs i x) ≡ length xs + 1
-length-put_in xs i x within = search (rules, places)
-
-pub below-put_in : {X : Type 0} (xs : List X) (i k : ℕ) (x d : X) → i ≤ length xs → k < i
-    → get_or (put_in xs i x) k d ≡ get_or xs k d
-below-put_in xs i k x d within low = grind (arith, places)
-
-pub at-put_in : {X : Type 0} (xs : List X) (i : ℕ) (x d : X) → i ≤ length xs → get_or (put_in xs i x) i d ≡ x
-at-put_in xs i x d within = grind (arith, places)
-
-pub above-put_in : {X : Type 0} (xs : List X) (i k : ℕ) (x d : X) → i ≤ length xs → i ≤ k
-    → get_or (put_in xs i x) (k + 1) d ≡ get_or xs k d
-above-put_in xs i k x d within high = grind (arith, places)
-
-pub length-taken_out : {X : Type 0} (xs : List X) (i : ℕ) → i < length xs
-    → length (taken_out xs i) + 1 ≡ length xs
-length-taken_out xs i within = search (rules, places)
-
-pub below-taken_out : {X : Type 0} (xs : List X) (i k : ℕ) (d : X) → i < length xs → k < i
-    → get_or (taken_out xs i) k d ≡ get_or xs k d
-below-taken_out xs i k d within low = grind (arith, places)
-
-pub above-taken_out : {X : Type 0} (xs : List X) (i k : ℕ) (d : X) → i < length xs → i ≤ k
-    → get_or (taken_out xs i) k d ≡ get_or xs (k + 1) d
-above-taken_out xs i k d within high = grind (arith, places)
+use Rattle.task_queue.proofs.PutIn.{put_in, taken_out, length-put_in, below-put_in, at-put_in, above-put_in, length-taken_out, below-taken_out, above-taken_out}
 
 -- where a place is to the one that is put in
 pub data Spot (i k : ℕ) : Type 0 where

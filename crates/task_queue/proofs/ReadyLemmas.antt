@@ -1,72 +1,20 @@
 -- What is ready where one execution's part changes.
-use Rattle.std.proofs.Common.{◌≡◌, ◌≢◌, ℕ, ◌+◌, ◌<◌, ◌≤◌, Bool, true, false, List, [], ◌∷◌, ◌++◌, length, get_or, Option, Some, None, sym, ◌∙◌, ap, subst, arith, refl, ◌⊎◌, inl, inr, rules}
-use Rattle.std.specs.List.{All, Contains, AllPairs}
+use Rattle.std.proofs.Common.{◌≡◌, ◌≢◌, ℕ, ◌+◌, ◌<◌, ◌≤◌, true, false, List, [], ◌∷◌, ◌++◌, length, get_or, Option, Some, sym, ◌∙◌, ap, subst, arith, refl, ◌⊎◌, inl, inr, rules}
+use Rattle.std.specs.List.{Contains}
 use Rattle.std.specs.Option.{option_map_or}
 use Rattle.std.proofs.lemmas.Bool.{cases_eq, cases_lt}
-use Rattle.std.proofs.lemmas.List.{get_or_default, places, same_lists}
+use Rattle.std.proofs.lemmas.List.{get_or_default, places}
 use Rattle.pide_base.specs.declared.part.Part.{Part}
 use Rattle.task_queue.specs.declared.priority.Priority.TheVariants as priority
 use Rattle.task_queue.specs.declared.task.Standing.{Standing}
-use Rattle.task_queue.specs.Order.{goes_before}
 use Rattle.task_queue.specs.Tasks.{is_ready}
-use Rattle.task_queue.specs.Ready.{Standings, priority_of, comes_first, IsReadyPart, AreReady, IsNext, IsPlaceFor, with_standing}
-use Rattle.task_queue.proofs.Changed.{either_first, here, elsewhere}
-use Rattle.task_queue.proofs.Places.{put_in, taken_out, All-put_in, Contains-put_in, Contains-new, AllPairs-put_in, All-taken_out, AllPairs-taken_out, Contains-taken_out}
-use Rattle.task_queue.proofs.KnownOrder.{not_itself, not_both}
-
--- what stands there is not ready
-abbrev pub IsUnready : Option Standing → Type 0
-IsUnready s = (r : Standing) → s ≡ Some r → is_ready r ≡ false
-
--- so a ready part is another execution's
-pub other_exec : (all : Standings) (e : ℕ) (part : Part) → IsUnready (all e) → IsReadyPart all part → part.exec ≢ e
-other_exec all e part unready (r, is, kind, ready) same =
-    let no_r : is_ready r ≡ false = unready r (ap all (sym same) ∙ is) in
-    let clash : false ≡ true = sym no_r ∙ ready in cc
-
--- a part stays ready where its execution's part stands as before
-pub moves_ready : (all more : Standings) (part : Part) → more part.exec ≡ all part.exec
-    → IsReadyPart all part → IsReadyPart more part
-moves_ready all more part same (r, is, kind, ready) = (r, same ∙ is, kind, ready)
-
-same_order : (all more : Standings) (e f : ℕ) → more e ≡ all e → more f ≡ all f
-    → comes_first all e f ≡ true → comes_first more e f ≡ true
-same_order all more e f a b before = rw (a, b) before
-
-module _ (all : Standings) (parts : List Part) (e : ℕ) (s : Option Standing) where
-  -- a part of another execution stands as before
-  stays : (p : Part) → p.exec ≢ e → with_standing all e s p.exec ≡ all p.exec
-  stays p differ = elsewhere all e p.exec s differ
-
-  back : (part : Part) → part.exec ≢ e → IsReadyPart (with_standing all e s) part → IsReadyPart all part
-  back part differ is = moves_ready (with_standing all e s) all part (sym (stays part differ)) is
-
-  still : (part : Part) → part.exec ≢ e → IsReadyPart all part → IsReadyPart (with_standing all e s) part
-  still part differ is = moves_ready all (with_standing all e s) part (stays part differ) is
-
-  -- nothing changes where the part was not ready, but perhaps is
-  sound_still : IsUnready (all e) → AreReady all parts → All (IsReadyPart (with_standing all e s)) parts
-  sound_still old r k d low =
-      still (get_or parts k d) (other_exec all e (get_or parts k d) old (r.sound k d low)) (r.sound k d low)
-
-  order_still : IsUnready (all e) → AreReady all parts
-      → AllPairs (λ p q. comes_first (with_standing all e s) q.exec p.exec ≡ true) parts
-  order_still old r i j d low high =
-      let p = get_or parts i d in let q = get_or parts j d in
-      let first : IsReadyPart all p = r.sound i d (omega (arith, low, high)) in
-      same_order all (with_standing all e s) q.exec p.exec
-      (stays q (other_exec all e q old (r.sound j d high)))
-      (stays p (other_exec all e p old first)) (r.order i j d low high)
-
-  pub unready_changed : IsUnready (all e) → IsUnready s → AreReady all parts → AreReady (with_standing all e s) parts
-  unready_changed old new r = record {
-    sound = sound_still old r;
-    complete = λ part is.
-        let differ : part.exec ≢ e = other_exec (with_standing all e s) e part
-        (λ x h. new x (sym (here all e s) ∙ h)) is in
-        r.complete part (back part differ is);
-    order = order_still old r;
-  }
+use Rattle.task_queue.specs.Ready.{Standings, priority_of, comes_first, IsReadyPart, AreReady, IsPlaceFor, with_standing}
+use Rattle.task_queue.proofs.Changed.{either_first, here}
+use Rattle.task_queue.proofs.Places.{All-put_in, Contains-put_in, Contains-new, AllPairs-put_in, All-taken_out, AllPairs-taken_out, Contains-taken_out}
+use Rattle.task_queue.proofs.PutIn.{put_in, taken_out}
+use Rattle.task_queue.proofs.KnownOrder.{not_itself}
+use Rattle.task_queue.proofs.LastReady.{all_but_last}
+use Rattle.task_queue.proofs.Unready.{IsUnready, other_exec, same_order, stays, back, still, sound_still, order_still}
 
 -- a part becomes ready
 pub ready_put_in : (all : Standings) (parts : List Part) (e : ℕ) (s : Standing) (i : ℕ)
@@ -159,61 +107,6 @@ ready_taken_out all parts e s i d within is_e new r = record {
         Contains-taken_out parts i part within at.0 (λ same. apart (
         ap (λ (p : Part). p.exec) (sym at.2) ∙ ap (λ k. (get_or parts k part).exec) same
         ∙ ap (λ (p : Part). p.exec) (get_or_default parts i part d within) ∙ is_e)) at.1 at.2
-
--- the last of the ready parts is taken next
-pub last_is_next : (all : Standings) (parts : List Part) (part : Part) → AreReady all (parts ++ part ∷ [])
-    → IsNext all part
-last_is_next all parts part r = record { ready = ready; first = first }
-  where
-    n : length (parts ++ part ∷ []) ≡ length parts + 1
-    n = search (rules, places)
-
-    last : (d : Part) → get_or (parts ++ part ∷ []) (length parts) d ≡ part
-    last d = grind (arith, places)
-
-    ready : IsReadyPart all part
-    ready = rw (last part) at (r.sound (length parts) part (omega (arith, n)))
-
-    first : (other : Part) → IsReadyPart all other → comes_first all other.exec part.exec ≡ false
-    first other is = go (r.complete other is)
-      where
-        go : Contains (parts ++ part ∷ []) other → comes_first all other.exec part.exec ≡ false
-        go (k, low, at) = by (cases_lt k (length parts))
-          where
-            by : (k < length parts) ⊎ (length parts ≤ k) → comes_first all other.exec part.exec ≡ false
-            by (inl before) =
-                let pair : comes_first all (get_or (parts ++ part ∷ []) (length parts) other).exec
-                (get_or (parts ++ part ∷ []) k other).exec ≡ true = r.order k (length parts) other before (omega (arith, n)) in
-                let sooner : comes_first all part.exec other.exec ≡ true = rw (last other, at) at pair in
-                not_both (priority_of all part.exec) (priority_of all other.exec) part.exec other.exec sooner
-            by (inr high) =
-                let e : k ≡ length parts = omega (arith, high, low, n) in
-                let same : part ≡ other = sym (last other) ∙ ap (λ m. get_or (parts ++ part ∷ []) m other) (sym e) ∙ at in
-                let P : Part → Type 0 = λ q. comes_first all q.exec part.exec ≡ false in
-                subst P same (not_itself (priority_of all part.exec) part.exec)
-
--- what is left without the last
-pub all_but_last : (parts : List Part) (part : Part) → taken_out (parts ++ part ∷ []) (length parts) ≡ parts
-all_but_last parts part = same_lists _ _ (search (rules, places)) (λ k d h. grind (arith, places))
-
--- the place of a part that is there
-pub place_is : (all : Standings) (parts : List Part) (e i k : ℕ) (d : Part) → AreReady all parts
-    → IsPlaceFor all (priority_of all e) e parts i → k < length parts → (get_or parts k d).exec ≡ e → i ≡ k
-place_is all parts e i k d r place low is = go (cases_lt i k) (cases_lt k i)
-  where
-    itself : goes_before (priority_of all e) e (priority_of all (get_or parts k d).exec) (get_or parts k d).exec ≡ false
-    itself = rw is (not_itself (priority_of all e) e)
-
-    go : (i < k) ⊎ (k ≤ i) → (k < i) ⊎ (i ≤ k) → i ≡ k
-    go (inl less) _ =
-        let pair : comes_first all (get_or parts k d).exec (get_or parts i d).exec ≡ true = r.order i k d less low in
-        let one : goes_before (priority_of all e) e (priority_of all (get_or parts i d).exec) (get_or parts i d).exec ≡ true = rw is at pair in
-        let other = place.sooner i d (omega arith) (omega (arith, less, low)) in
-        let clash : true ≡ false = sym one ∙ other in cc
-    go (inr _) (inl more) =
-        let one = place.later k d more in
-        let clash : true ≡ false = sym one ∙ itself in cc
-    go (inr a) (inr b) = omega (arith, a, b)
 
 -- the last of the ready parts is ready no more
 pub last_taken : (all : Standings) (parts : List Part) (part : Part) (s : Option Standing) → IsUnready s

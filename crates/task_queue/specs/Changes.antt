@@ -1,6 +1,6 @@
 -- What calls of a queue change.
 use Rattle.std.specs.Prelude.{◌≡◌, ℕ, ◌==◌, true, false, List, [], ◌∷◌, Option, Some, None, if◌then◌else◌}
-use Rattle.std.specs.Option.{option_map, option_map_or}
+use Rattle.std.specs.Option.{option_map_or}
 use Rattle.pide_base.specs.declared.part.PartKind.{PartKind}
 use Rattle.task_queue.specs.declared.priority.Priority.{Priority}
 use Rattle.task_queue.specs.declared.task.Standing.{Standing}

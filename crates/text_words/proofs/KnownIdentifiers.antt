@@ -1,5 +1,5 @@
 -- What a run of identifier parts tells of the longest identifier, and that the test of identifiers is right.
-use Rattle.std.proofs.Common.{◌≡◌, ℕ, suc, zero, ◌||◌, ◌&&◌, ◌==◌, ◌+◌, ◌<◌, ◌≤◌, Bool, true, false, List, [], ◌∷◌, length, get_or, take, sym, refl, ap, ◌∙◌, subst, ⊎_elim, arith, length-take-le, get_or-take, rules}
+use Rattle.std.proofs.Common.{◌≡◌, ℕ, suc, zero, ◌||◌, ◌==◌, ◌+◌, ◌<◌, ◌≤◌, Bool, true, false, List, [], ◌∷◌, length, get_or, take, sym, refl, ap, ◌∙◌, subst, ⊎_elim, arith, length-take-le, get_or-take, rules}
 use Rattle.std.specs.List.{prefix_len, AllPass, list_all}
 use Rattle.std.specs.Char.{is_ascii_alphabetic}
 use Rattle.std.specs.Int.{is_in_range}

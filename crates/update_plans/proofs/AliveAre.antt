@@ -15,10 +15,7 @@ use Rattle.exec_rules.specs.Kept.{BlobList}
 use Rattle.exec_rules.specs.Rows.{live_print}
 use Rattle.exec_rules.specs.Assigning.{rows_in}
 use Rattle.exec_assign.specs.Untouched.{IsAlive, AreUntouched}
-use Rattle.exec_rules.specs.Listed.{executions}
-use Rattle.core_rules.specs.Assigned.{assigns}
 use Rattle.core_rules.proofs.KnownNamedRows.{there_row}
-use Rattle.import_rounds.specs.Rounds.{has}
 use Rattle.update_plans.specs.Cancelled.{is_cancelled, cancelled_in, IsQuiet}
 use Rattle.update_plans.specs.Alive.{is_alive, lives, HaveCommands}
 use Rattle.update_plans.proofs.KnownCancelled.{has_cancelled}

@@ -1,6 +1,6 @@
 use Rattle.std.proofs.Common.{ap, sym, ◌∙◌}
 use Rattle.std.specs.Option.{option_copied}
-use Rattle.command_spans.proofs.RestartLemmas.{boundary-got, boundary-none}
+use Rattle.command_spans.proofs.ReadOn.{boundary-got, boundary-none}
 use Rattle.command_spans.proofs.edited.boundary_at.Goals as goal
 
 pub returns-in-Some : goal.returns-in-Some

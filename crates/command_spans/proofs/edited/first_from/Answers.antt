@@ -1,5 +1,5 @@
 use Rattle.std.proofs.Common.{arith}
-use Rattle.command_spans.proofs.RestartLemmas.{no_token, boundary-is, boundary-end}
+use Rattle.command_spans.proofs.ReadOn.{no_token, boundary-is, boundary-end}
 use Rattle.command_spans.proofs.edited.first_from.Goals as goal
 
 pub returns-else-tokens-number-clause-reached : goal.returns-else-tokens-number-clause-reached

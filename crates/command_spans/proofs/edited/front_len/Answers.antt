@@ -5,7 +5,8 @@ use Rattle.command_spans.specs.Spans.{Is}
 use Rattle.command_spans.specs.CutTexts.{Rising, boundary_at}
 use Rattle.command_spans.specs.Reparsing.{before, is_space, is_space_below, restart}
 use Rattle.command_spans.proofs.PlaceLemmas.{first-boundary, before-at, rising-split}
-use Rattle.command_spans.proofs.RestartLemmas.{no_token, restart_from, restart-late, space-below, space-other, step-space, step-other, same-got, boundary-is}
+use Rattle.command_spans.proofs.RestartLemmas.{restart_from, restart-late, step-space, step-other, same-got}
+use Rattle.command_spans.proofs.ReadOn.{no_token, space-below, space-other, boundary-is}
 use Rattle.command_spans.proofs.edited.front_len.Goals as goal
 use Rattle.command_spans.proofs.edited.front_len.Goals.{then-is_space, else-is_space}
 

@@ -2,7 +2,7 @@ use Rattle.std.proofs.Common.{◌≡◌, sym, subst, ⊎_elim}
 use Rattle.outer_tokens.specs.Stages.{after_tokens}
 use Rattle.outer_tokens.specs.declared.stage.Stage.{Stage}
 use Rattle.outer_tokens.specs.declared.stage.Stage.TheVariants.{Ended, Absent}
-use Rattle.command_spans.proofs.RestartLemmas.{ended-after, absent-after}
+use Rattle.command_spans.proofs.ReadOn.{ended-after, absent-after}
 use Rattle.command_spans.proofs.edited.is_over.Goals as goal
 
 pub returns-in-Ended : goal.returns-in-Ended

@@ -6,7 +6,7 @@ use Rattle.outer_tokens.specs.declared.token.Token.{Token}
 use Rattle.outer_tokens.specs.declared.stage.Stage.TheVariants.{Start}
 use Rattle.outer_tokens.proofs.KnownLexing.{after-push}
 use Rattle.std.proofs.lemmas.List.{take_more}
-use Rattle.command_spans.proofs.RestartLemmas.{no_token, read-on}
+use Rattle.command_spans.proofs.ReadOn.{no_token, read-on}
 use Rattle.command_spans.proofs.edited.read_before.Goals as goal
 
 pub returns-then-is_over-clause-read : goal.returns-then-is_over-clause-read

@@ -1,4 +1,4 @@
-use Rattle.command_words.proofs.Forms.{are_not_taken}
+use Rattle.command_words.proofs.NotTaken.{are_not_taken}
 use Rattle.command_words.proofs.laws.other_words.Goals as goal
 
 pub returns : goal.returns

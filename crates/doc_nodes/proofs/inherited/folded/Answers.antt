@@ -4,7 +4,8 @@ use Rattle.std.specs.List.{flat_map}
 use Rattle.doc_headers.specs.declared.parts.KeywordPair.{KeywordPair}
 use Rattle.doc_nodes.specs.declared.inherited.NodeAliases.{NodeAliases}
 use Rattle.doc_nodes.specs.Aliases.{no_aliases, folded, pairs_from}
-use Rattle.doc_nodes.proofs.FoldLemmas.{folded-append, first_same, paired}
+use Rattle.doc_nodes.proofs.FoldLemmas.{first_same, paired}
+use Rattle.doc_nodes.proofs.CleanFolds.{folded-append}
 use Rattle.doc_nodes.proofs.inherited.folded.Goals as goal
 
 pub returns-in_ok-copy-in-Some-first : goal.returns-in_ok-copy-in-Some-first

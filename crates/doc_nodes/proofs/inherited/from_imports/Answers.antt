@@ -1,4 +1,4 @@
-use Rattle.doc_nodes.proofs.FoldLemmas.{folded_import}
+use Rattle.doc_nodes.proofs.CleanFolds.{folded_import}
 use Rattle.doc_nodes.proofs.inherited.from_imports.Goals as goal
 
 pub imports-preserved : goal.imports-preserved

@@ -1,4 +1,5 @@
-use Rattle.doc_nodes.proofs.AliasLaws.{aliases_are, aliases_tidy}
+use Rattle.doc_nodes.proofs.AliasLaws.{aliases_are}
+use Rattle.doc_nodes.proofs.TidyAliases.{aliases_tidy}
 use Rattle.doc_nodes.proofs.laws.aliases_law.Goals as goal
 
 pub returns-clause-fold : goal.returns-clause-fold

@@ -1,6 +1,6 @@
 use Rattle.std.proofs.Common.{ap, sym, ◌∙◌, ◌+◌, ◌++◌, ◌∷◌, [], List, ℕ, arith, append_assoc}
 use Rattle.std.specs.List.{range_with_len}
-use Rattle.exec_assign.proofs.RowLemmas.{range_more}
+use Rattle.exec_assign.proofs.RowSteps.{range_more}
 use Rattle.exec_assign.proofs.evaluating.add_numbered.Goals as goal
 
 pub numbers-preserved : goal.numbers-preserved

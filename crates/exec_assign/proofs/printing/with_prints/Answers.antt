@@ -1,6 +1,7 @@
 use Rattle.std.proofs.Common.{◌<◌, ◌+◌, ◌++◌, length, drop, ap, sym, ◌∙◌, arith, rules, append-nil}
 use Rattle.exec_rules.specs.Rows.{with_prints, behind_prints}
-use Rattle.exec_assign.proofs.RowLemmas.{with_next, behind_next, behind_first, behind_over_next, with_over, behind_over}
+use Rattle.exec_assign.proofs.RowLemmas.{with_next, behind_next, behind_first, behind_over_next}
+use Rattle.exec_assign.proofs.RowSteps.{with_over, behind_over}
 use Rattle.exec_assign.proofs.printing.with_prints.Goals as goal
 
 pub returns-in_err-print-clause-limit : goal.returns-in_err-print-clause-limit

@@ -1,7 +1,8 @@
 use Rattle.std.proofs.Common.{refl}
 use Rattle.doc_nodes.specs.Prefix.{wanted_prefix}
 use Rattle.exec_rules.specs.Assigning.{rows_in, kept_of}
-use Rattle.exec_rules.proofs.RowLaws.{keeps_at, next_at, covers, none_at, rows_print, rows_keep, live_front}
+use Rattle.exec_rules.proofs.RowLaws.{keeps_at, next_at, covers, none_at}
+use Rattle.exec_rules.proofs.RowParts.{rows_print, rows_keep, live_front}
 use Rattle.exec_rules.proofs.laws.rows_law.Goals as goal
 
 pub returns-clause-keeps : goal.returns-clause-keeps

@@ -1,6 +1,6 @@
 use Rattle.std.proofs.Common.{sym, ◌∙◌}
 use Rattle.std.specs.Arc.{arc_value}
-use Rattle.markup_tree.proofs.SearchLemmas.{first_before, first_here, first_behind}
+use Rattle.markup_tree.proofs.InnermostLemmas.{first_before, first_here, first_behind}
 use Rattle.markup_tree.proofs.search.+first_crossing.Goals as goal
 
 pub returns-in-Some : goal.returns-in-Some

@@ -1,7 +1,7 @@
 use Rattle.std.proofs.Common.{sym, ◌∙◌, inl, inr}
 use Rattle.std.specs.Arc.{arc_value}
 use Rattle.markup_tree.proofs.BoundLemmas.{none_around}
-use Rattle.markup_tree.proofs.SearchLemmas.{inner_behind, inner_here, inner_before}
+use Rattle.markup_tree.proofs.InnermostLemmas.{inner_behind, inner_here, inner_before}
 use Rattle.markup_tree.proofs.search.+innermost.Goals as goal
 use Rattle.markup_tree.proofs.search.+innermost.Goals.{then-bounds-place-via-then-bounds-place, then-bounds-place-via-else-bounds-place+then-bounds-place-2}
 

@@ -1,11 +1,10 @@
-use Rattle.std.proofs.Common.{rules, arith, ◌≡◌, ℕ, ap, sym, ◌∙◌, subst, List, Option, Some, None}
+use Rattle.std.proofs.Common.{arith, ℕ, sym, subst, List}
 use Rattle.pide_base.specs.declared.part.Part.{Part}
 use Rattle.task_queue.specs.declared.priority.Priority.{Priority}
-use Rattle.task_queue.specs.Ready.{AreReady, IsPlaceFor, priority_of, with_standing}
-use Rattle.task_queue.specs.Changes.{without, released}
+use Rattle.task_queue.specs.Ready.{AreReady, IsPlaceFor, priority_of}
 use Rattle.task_queue.specs.Kept.{looked}
 use Rattle.task_queue.proofs.KeptAlike.{ready_alike}
-use Rattle.task_queue.proofs.Places.{put_in}
+use Rattle.task_queue.proofs.PutIn.{put_in}
 use Rattle.task_queue.proofs.Meeting.{met_some, met_none, one_more}
 use Rattle.task_queue.proofs.queue.meet.Goals as goal
 

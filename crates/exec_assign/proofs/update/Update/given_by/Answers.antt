@@ -2,7 +2,7 @@ use Rattle.std.proofs.Common.{◌+◌, ◌-◌, ◌<◌, length, ap, ◌∙◌, 
 use Rattle.pide_base.specs.Ids.{id_end}
 use Rattle.exec_rules.specs.Rows.{evaluations, live_prints}
 use Rattle.exec_rules.specs.Assigning.{rows_in}
-use Rattle.exec_assign.proofs.RowLemmas.{behind_rises}
+use Rattle.exec_assign.proofs.RowSteps.{behind_rises}
 use Rattle.exec_assign.proofs.update.Update.given_by.Goals as goal
 
 pub returns-in_err-made-clause-limit : goal.returns-in_err-made-clause-limit

@@ -16,7 +16,7 @@ use Rattle.version_losses.specs.Losses.{number_of}
 use Rattle.prover_core.specs.Looked.{looked}
 use Rattle.prover_core.specs.Settling.{IsLeft, IsSettled}
 use Rattle.prover_core.proofs.BehindSettled.{ready_is_left, held_is_left, is_settled_so, settled_with}
-use Rattle.prover_core.proofs.LossesKept.{behind_of}
+use Rattle.prover_core.proofs.LossesBehind.{behind_of}
 use Rattle.prover_core.proofs.EndedKept.{on_err}
 use Rattle.prover_core.proofs.prover.Core.settled.Goals as goal
 

@@ -1,4 +1,4 @@
-use Rattle.std.proofs.Common.{arith, ◌≡◌, ℕ, List, Some, None, ap, sym, ◌∙◌, subst}
+use Rattle.std.proofs.Common.{arith, ◌≡◌, List, Some, None, ap, sym, ◌∙◌, subst}
 use Rattle.std.specs.HashMap.{hash_map_len}
 use Rattle.pide_base.specs.declared.part.Part.{Part}
 use Rattle.task_queue.specs.declared.queue.TaskQueue.TheInside.{Inside}
@@ -7,7 +7,8 @@ use Rattle.task_queue.specs.Tasks.{Queue, standing}
 use Rattle.task_queue.specs.Ready.{AreReady, IsPlaceFor, priority_of, with_standing}
 use Rattle.task_queue.specs.Changes.{ready_kind}
 use Rattle.task_queue.specs.Kept.{seen}
-use Rattle.task_queue.proofs.ReadyLemmas.{IsUnready, unready_changed, ready_taken_out}
+use Rattle.task_queue.proofs.ReadyLemmas.{ready_taken_out}
+use Rattle.task_queue.proofs.Unready.{IsUnready, unready_changed}
 use Rattle.task_queue.proofs.Placed.{stands_at, unready_if_untold}
 use Rattle.task_queue.proofs.KeptAltered.{gone_joined}
 use Rattle.task_queue.proofs.queue.TaskQueue.cancel_group.Goals as goal

@@ -4,7 +4,8 @@ use Rattle.task_queue.specs.Tasks.{Queue, standing}
 use Rattle.task_queue.specs.Ready.{AreReady, IsNext, IsReadyPart, with_standing}
 use Rattle.task_queue.specs.Changes.{taken}
 use Rattle.task_queue.specs.Kept.{seen, looked}
-use Rattle.task_queue.proofs.ReadyLemmas.{last_is_next, last_taken}
+use Rattle.task_queue.proofs.ReadyLemmas.{last_taken}
+use Rattle.task_queue.proofs.LastReady.{last_is_next}
 use Rattle.task_queue.proofs.KeptAltered.{altered_kept, taken_unready}
 use Rattle.task_queue.proofs.queue.TaskQueue.dequeue.Goals as goal
 

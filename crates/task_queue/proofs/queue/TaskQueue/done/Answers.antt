@@ -1,15 +1,14 @@
-use Rattle.std.proofs.Common.{arith, ◌≡◌, ◌≢◌, ◌∙◌, ℕ, List, Some, None, true, false, option_map, ap, sym, subst, refl, Option}
+use Rattle.std.proofs.Common.{arith, ◌≡◌, ◌∙◌, ℕ, Some, None, false, option_map, ap, sym, subst, refl}
 use Rattle.std.specs.Option.{option_map_or}
-use Rattle.task_queue.specs.declared.task.Standing.{Standing}
 use Rattle.task_queue.specs.declared.queue.TaskQueue.TheInside.{Inside}
-use Rattle.task_queue.specs.Tasks.{Queue, standing, has, is_ready}
-use Rattle.task_queue.specs.Ready.{AreReady, with_standing}
+use Rattle.task_queue.specs.Tasks.{Queue, standing, has}
 use Rattle.task_queue.specs.Changes.{without, IsHeld}
 use Rattle.task_queue.specs.Kept.{seen, looked}
 use Rattle.task_queue.proofs.Changed.{here}
 use Rattle.task_queue.proofs.KeptAlike.{ready_alike}
-use Rattle.task_queue.proofs.ReadyLemmas.{IsUnready, unready_changed}
-use Rattle.task_queue.proofs.Doing.{none_told, one_told, all_told, done_kept, all_free, stays_gone, held_unready}
+use Rattle.task_queue.proofs.Unready.{unready_changed}
+use Rattle.task_queue.proofs.Doing.{none_told, done_kept, all_free, stays_gone, held_unready}
+use Rattle.task_queue.proofs.Telling.{one_told, all_told}
 use Rattle.task_queue.proofs.queue.TaskQueue.done.Goals as goal
 
 -- the part was held, so it was not ready

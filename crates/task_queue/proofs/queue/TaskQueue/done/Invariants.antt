@@ -1,5 +1,5 @@
 use Rattle.task_queue.specs.Waiters.{count_of}
-use Rattle.task_queue.proofs.Doing.{IsDoing}
+use Rattle.task_queue.proofs.Telling.{IsDoing}
 use Rattle.task_queue.proofs.queue.TaskQueue.done.Given as goal
 
 abbrev pub invariant-loop-waiter : goal.invariant-loop-waiter

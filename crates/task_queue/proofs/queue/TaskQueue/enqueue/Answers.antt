@@ -1,4 +1,4 @@
-use Rattle.std.proofs.Common.{rules, arith, ◌≡◌, ℕ, List, Some, None, true, false, ap, subst, sym, ◌∙◌}
+use Rattle.std.proofs.Common.{arith, ◌≡◌, ℕ, List, Some, None, true, false, ap, subst, sym, ◌∙◌}
 use Rattle.std.specs.Option.{option_map_or}
 use Rattle.std.specs.HashMap.{hash_map_len}
 use Rattle.pide_base.specs.declared.part.Part.{Part}
@@ -9,7 +9,8 @@ use Rattle.task_queue.specs.Tasks.{Queue, standing, is_ready}
 use Rattle.task_queue.specs.Ready.{AreReady, with_standing, IsPlaceFor}
 use Rattle.task_queue.specs.Changes.{waiting, nobody_waits}
 use Rattle.task_queue.specs.Kept.{seen, looked}
-use Rattle.task_queue.proofs.ReadyLemmas.{IsUnready, unready_changed, ready_put_in}
+use Rattle.task_queue.proofs.ReadyLemmas.{ready_put_in}
+use Rattle.task_queue.proofs.Unready.{IsUnready, unready_changed}
 use Rattle.task_queue.proofs.KeptAfter.{few_ready}
 use Rattle.task_queue.proofs.KeptAltered.{joined}
 use Rattle.task_queue.proofs.queue.TaskQueue.enqueue.Goals as goal

@@ -7,9 +7,8 @@ use Rattle.task_queue.specs.Tasks.{Queue, standing}
 use Rattle.task_queue.specs.Ready.{AreReady, IsPlaceFor, priority_of, with_standing}
 use Rattle.task_queue.specs.Changes.{ready_kind, with_priority}
 use Rattle.task_queue.specs.Kept.{seen}
-use Rattle.task_queue.proofs.Places.{taken_out, put_in, length-taken_out}
-use Rattle.task_queue.proofs.Placed.{stands_at, ranked_ready, ranked_unready, place_left, place_behind}
-use Rattle.task_queue.proofs.KeptAfter.{few_ready}
+use Rattle.task_queue.proofs.PutIn.{taken_out, put_in, length-taken_out}
+use Rattle.task_queue.proofs.Placed.{stands_at, ranked_ready, ranked_unready, place_behind}
 use Rattle.task_queue.proofs.KeptAltered.{altered_joined}
 use Rattle.task_queue.proofs.queue.TaskQueue.set_priority.Goals as goal
 use Rattle.task_queue.proofs.queue.TaskQueue.set_priority.Goals.{in-Some, in_default}
