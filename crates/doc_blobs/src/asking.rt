@@ -1,8 +1,6 @@
 //! The blob that a command asks for.
 ghost use Rattle.std.specs.Prelude.{◌≡◌, codes, IfOk};
 ghost use Rattle.std.specs.Option.{option_and_then};
-ghost use Rattle.std.specs.String.{string_bytes};
-ghost use Rattle.std.specs.Str.{encode_utf8_all};
 ghost use Rattle.doc_nodes.specs.Names.{equal};
 ghost use Rattle.doc_blobs.specs.Needs.{is_load, asked_by, named_by, just_two, needs};
 
@@ -10,6 +8,7 @@ use doc_nodes::{Aliases, BlobName};
 use outer_tokens::{Kind, Token, content, lex_under, one_list, proper_ones, scalars};
 use std::alloc::{AllocError, Global};
 use std::cmp::Ordering;
+use text_words::text_of;
 
 /// The name of the blob that the command of this source, in scalars, asks for: the source is the
 /// command `load`, or an alias of it, and a string that contains a blob's name. Else it is None.
@@ -97,17 +96,4 @@ fn named_by(alloc: Global, content: &[char]) -> Result<Option<BlobName>, AllocEr
         Ok(name) => Ok(Some(name)),
         Err(_) => Ok(None),
     }
-}
-
-/// The scalars as a text.
-fn text_of(alloc: Global, scalars: &[char]) -> Result<String, AllocError>
-    ensures { IfOk result (λ text. string_bytes text ≡ encode_utf8_all scalars.now) }
-{
-    let mut text = String::new(alloc);
-    let mut rest = scalars;
-    'scalars: while let [scalar, more @ ..] = rest {
-        text.push(*scalar)?;
-        rest = more;
-    }
-    Ok(text)
 }

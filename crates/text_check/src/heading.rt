@@ -1,7 +1,5 @@
 //! What the commands of a text go by besides its text.
 ghost use Rattle.std.specs.Prelude.{◌≡◌, [], codes, IfOk};
-ghost use Rattle.std.specs.String.{string_bytes};
-ghost use Rattle.std.specs.Str.{encode_utf8_all};
 ghost use Rattle.markup_lines.specs.OneText.{named};
 ghost use Rattle.text_check.specs.Headings.{alone, begins, bare, heading_of, headed, imports_of};
 
@@ -12,6 +10,7 @@ use pide_base::NodeName;
 use sqlite_items::Items;
 use std::alloc::{AllocError, Global};
 use text_edits::Text;
+use text_words::text_of;
 
 /// The name of a text's node, the first of its imports, which is no node, and its aliases.
 #[derive(Drop)]
@@ -63,23 +62,10 @@ fn scratch(alloc: Global) -> Result<NodeName, AllocError>
 fn named(alloc: Global, name: &[char]) -> Result<NodeName, AllocError>
     ensures { IfOk result (λ found. found ≡ named name.now) }
 {
-    match NodeName::new(spelled(alloc, name)?) {
+    match NodeName::new(text_of(alloc, name)?) {
         Ok(name) => Ok(name),
         Err(_) => scratch(alloc),
     }
-}
-
-/// The scalars as a text.
-fn spelled(alloc: Global, scalars: &[char]) -> Result<String, AllocError>
-    ensures { IfOk result (λ text. string_bytes text ≡ encode_utf8_all scalars.now) }
-{
-    let mut text = String::new(alloc);
-    let mut rest = scalars;
-    'scalars: while let [scalar, more @ ..] = rest {
-        text.push(*scalar)?;
-        rest = more;
-    }
-    Ok(text)
 }
 
 /// The value in memory that can be shared.

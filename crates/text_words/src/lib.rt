@@ -7,7 +7,9 @@
 mod blank;
 mod identifier;
 mod laws;
+mod scalars;
 
 pub use blank::is_blank;
 pub use identifier::{identifier_front, is_identifier, is_identifier_part};
 pub use laws::{one_longest_front, test_of_identifiers, tiles_join};
+pub use scalars::text_of;

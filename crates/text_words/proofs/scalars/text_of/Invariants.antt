@@ -1,7 +1,7 @@
 use Rattle.std.proofs.Common.{◌≡◌, ◌++◌, length}
 use Rattle.std.specs.String.{string_bytes}
 use Rattle.std.specs.Str.{encode_utf8_all}
-use Rattle.doc_blobs.proofs.asking.text_of.Given as goal
+use Rattle.text_words.proofs.scalars.text_of.Given as goal
 
 abbrev pub invariant-scalars : goal.invariant-scalars
 invariant-scalars l = string_bytes l.text ++ encode_utf8_all l.rest ≡ encode_utf8_all l.fn.scalars
