@@ -39,7 +39,7 @@ mod FirstReady
 mod FirstLaw
 mod NotCancelled
 mod CancelledLaw
-mod Marks
+pub mod KnownMarks
 mod RowEvals
 mod Blocked
 mod RestLaw

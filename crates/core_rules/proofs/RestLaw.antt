@@ -31,7 +31,7 @@ use Rattle.core_rules.proofs.SoundDoc.{IsSoundDoc, doc_sound}
 use Rattle.core_rules.proofs.FromScratchLaw.{from_scratch}
 use Rattle.core_rules.proofs.ShownLaw.{IsEval}
 use Rattle.core_rules.proofs.KnownParts.{part_itself}
-use Rattle.core_rules.proofs.Marks.{sources_below, marked_at}
+use Rattle.core_rules.proofs.KnownMarks.{sources_below, marked_at}
 use Rattle.core_rules.proofs.AssignedRows.{EvalRow, eval_assigned}
 use Rattle.core_rules.proofs.RowEvals.{sources_evals}
 use Rattle.core_rules.proofs.EvalParts.{made, eval_input, eval_parts, eval_part, waits_so}

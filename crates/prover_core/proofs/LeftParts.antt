@@ -18,6 +18,7 @@ use Rattle.core_rules.specs.Doc.{Doc, doc}
 use Rattle.core_rules.specs.Ready.{is_part, is_wanted, has_inputs, is_ready_in}
 use Rattle.core_rules.specs.Sources.{HasHome}
 use Rattle.core_rules.specs.Stuck.{is_marked, is_stuck, is_settled}
+use Rattle.core_rules.proofs.KnownMarks.{marks}
 use Rattle.prover_core.specs.Progress.{next_of}
 use Rattle.prover_core.specs.Tasks.{present_kind}
 use Rattle.prover_core.specs.Kept.{Tables, IsKept, IsBehind}
@@ -26,7 +27,7 @@ use Rattle.prover_core.proofs.NextParts.{next_is_part}
 use Rattle.prover_core.proofs.ReadyParts.{part_of, ready_sound, ready_whole}
 use Rattle.prover_core.proofs.TipLive.{Laws, in_tip}
 use Rattle.prover_core.proofs.HeldTasks.{wanted_held, there_wanted}
-use Rattle.prover_core.proofs.StuckMarks.{marks, none_marked}
+use Rattle.prover_core.proofs.StuckMarks.{none_marked}
 use Rattle.prover_core.proofs.SettledParts.{version_settled}
 
 module _ {S : Type 0} (l : Lang S) (h : List Event) (t : Tables S) (k : IsKept l h t) (laws : Laws l h)

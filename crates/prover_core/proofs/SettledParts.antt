@@ -21,10 +21,11 @@ use Rattle.core_rules.specs.Doc.{Doc, doc}
 use Rattle.core_rules.specs.Ready.{is_part, has_inputs}
 use Rattle.core_rules.specs.Sources.{is_evaluation, IsSource, HasHome}
 use Rattle.core_rules.specs.Stuck.{is_marked, is_stuck, is_over, is_settled}
+use Rattle.core_rules.proofs.KnownMarks.{marks}
 use Rattle.prover_core.specs.Progress.{part}
 use Rattle.prover_core.proofs.KindsNext.{among_kinds}
 use Rattle.prover_core.proofs.PartKinds.{all_kinds, fork_evaluates, evaluation_among}
-use Rattle.prover_core.proofs.StuckMarks.{AllBelow, marks, marked_at}
+use Rattle.prover_core.proofs.StuckMarks.{AllBelow, marked_at}
 
 module _ {S : Type 0} (l : Lang S) (h : List Event) (v : Version) (homes : (e : ℕ) → assigns v e ≡ true → HasHome l (doc l h) v e)
     (lost : (p : Part) → assigns v p.exec ≡ true → is_part l (doc l h).homes p ≡ true → is_finished h p ≡ false

@@ -1,5 +1,5 @@
 -- The words of kinds of reports are plain, and each is one kind's.
-use Rattle.std.proofs.Common.{◌≡◌, ℕ, Bool, true, ◌==◌, ◌||◌, not, List, ◌∷◌, ◌++◌, Some, refl, sym, ap, ◌∙◌, arith}
+use Rattle.std.proofs.Common.{◌≡◌, ℕ, Bool, true, ◌==◌, ◌||◌, not, List, ◌∷◌, ◌++◌, Some, refl, arith}
 use Rattle.std.specs.List.{list_all}
 use Rattle.xml_tree.specs.Normal.{Lacks, IsPlain}
 use Rattle.report_markup.specs.declared.kind.ReportKind.{ReportKind}
@@ -42,9 +42,6 @@ kind_is_named Ref = refl
 kind_is_named State = refl
 kind_is_named Loaded = refl
 kind_is_named Suggest = refl
-
-pub one_kind : (k j : ReportKind) → kind_word k ≡ kind_word j → k ≡ j
-one_kind k j e = let same : Some k ≡ Some j = sym (kind_is_named k) ∙ ap report_kind_named e ∙ kind_is_named j in cc
 
 -- no byte 5
 abbrev no_x : ℕ → Bool

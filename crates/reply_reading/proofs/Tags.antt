@@ -11,12 +11,13 @@ use Rattle.report_markup.specs.declared.property.Property.{Property}
 use Rattle.report_markup.specs.declared.property.PropertyKey.{PropertyKey}
 use Rattle.report_markup.specs.declared.property.PropertyKey.TheVariants as key
 use Rattle.report_markup.specs.Words.{kind_word, key_word}
+use Rattle.report_markup.proofs.KnownKinds.{kind_told}
 use Rattle.reply_reading.specs.declared.tag.Tag.{Tag}
 use Rattle.reply_reading.specs.Fits.{IsWide, FitsProperty}
 use Rattle.reply_reading.specs.Marks.{Begins}
 use Rattle.reply_reading.specs.Tags.{property_bytes, properties_bytes, tag_bytes, FitsTag}
 use Rattle.reply_reading.proofs.Cuts.{differ, one_cut}
-use Rattle.reply_reading.proofs.KindWords.{plain, no_x_in, kind_is_plain, one_kind}
+use Rattle.reply_reading.proofs.KindWords.{plain, no_x_in, kind_is_plain}
 use Rattle.reply_reading.proofs.Numbers.{decimal_lacks}
 
 key_is_plain : (k : PropertyKey) → IsPlain (key_word k)
@@ -79,7 +80,7 @@ one_tag t u ft fu e =
     let first = one_cut 6 (kind_word t.kind) (kind_word u.kind) _ _ (kind_is_plain t.kind).1 (kind_is_plain u.kind).1 refl refl e in
     let second = one_offset (6 ∷ codes "offset=") t.range.start u.range.start _ _ ft.0.0 fu.0.0 refl refl first.1 in
     let third = one_offset (6 ∷ codes "end_offset=") t.range.stop u.range.stop _ _ ft.0.1 fu.0.1 (properties_begin t.properties) (properties_begin u.properties) second.1 in
-    same_tag t u (one_kind t.kind u.kind first.0) second.0 third.0 (one_properties t.properties u.properties ft.1 fu.1 third.1)
+    same_tag t u (kind_told t.kind u.kind first.0) second.0 third.0 (one_properties t.properties u.properties ft.1 fu.1 third.1)
 
 properties_lack : (ps : List Property) → AllByRecursion FitsProperty ps → Lacks 5 (properties_bytes ps)
 properties_lack [] fits = tt

@@ -6,38 +6,14 @@ use Rattle.std.specs.Cmp.Lexicographic.{slice_cmp}
 use Rattle.std.specs.Ordering.{ordering_then}
 use Rattle.std.proofs.lemmas.Map.Lookups.{CmpEqualImpliesEq, exact_unsigned, exact_bytes}
 use Rattle.report_markup.specs.declared.kind.ReportKind.{ReportKind}
-use Rattle.report_markup.specs.declared.kind.ReportKind.TheVariants.{Command, Theory, Import, Def, Formula, Error, Proved, Ref, State, Loaded, Suggest}
 use Rattle.report_markup.specs.declared.property.PropertyKey.{PropertyKey}
 use Rattle.report_markup.specs.declared.property.PropertyKey.TheVariants.{Theory as TheoryKey, Name}
 use Rattle.report_markup.specs.declared.property.Property.{Property}
 use Rattle.report_markup.specs.declared.report.Report.{Report}
-use Rattle.report_markup.specs.Words.{kind_word, key_word}
+use Rattle.report_markup.specs.Words.{key_word}
 use Rattle.report_markup.specs.PropertyOrder.{property_cmp}
 use Rattle.report_markup.specs.Order.{report_cmp}
-
-kind_of : List ℕ → ReportKind
-kind_of w = if bytes_eq w (codes "command") then Command else if bytes_eq w (codes "theory") then Theory
-    else if bytes_eq w (codes "import") then Import else if bytes_eq w (codes "def") then Def
-    else if bytes_eq w (codes "formula") then Formula else if bytes_eq w (codes "error") then Error
-    else if bytes_eq w (codes "proved") then Proved else if bytes_eq w (codes "ref") then Ref
-    else if bytes_eq w (codes "state") then State else if bytes_eq w (codes "loaded") then Loaded else Suggest
-
-kind_of-word : (k : ReportKind) → kind_of (kind_word k) ≡ k
-unfolding kind_of
-kind_of-word Command = refl
-kind_of-word Theory = refl
-kind_of-word Import = refl
-kind_of-word Def = refl
-kind_of-word Formula = refl
-kind_of-word Error = refl
-kind_of-word Proved = refl
-kind_of-word Ref = refl
-kind_of-word State = refl
-kind_of-word Loaded = refl
-kind_of-word Suggest = refl
-
-kind_told : (j k : ReportKind) → kind_word j ≡ kind_word k → j ≡ k
-kind_told j k e = sym (kind_of-word j) ∙ ap kind_of e ∙ kind_of-word k
+use Rattle.report_markup.proofs.KnownKinds.{kind_told}
 
 key_of : List ℕ → PropertyKey
 key_of w = if bytes_eq w (codes "name") then Name else TheoryKey

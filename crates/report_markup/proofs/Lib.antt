@@ -1,5 +1,6 @@
 pub mod KnownPieces
 pub mod KnownOrders
+pub mod KnownKinds
 mod Exact
 pub mod KnownNumbers
 mod Ordered

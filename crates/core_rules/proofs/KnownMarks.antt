@@ -31,11 +31,11 @@ sources_below (h ∷ hs) e home older at = go (e == suc (length hs)) refl (sourc
     go false eq rest at = rest at
 
 module _ (h : List Event) (cancelled : List ℕ) where
-  abbrev marks : List Home → List Bool
+  abbrev pub marks : List Home → List Bool
   marks homes = stuck_marks h cancelled homes
 
   -- an execution is stuck, by what older ones are
-  abbrev stuck_by : List Bool → ℕ → Home → Bool
+  abbrev pub stuck_by : List Bool → ℕ → Home → Bool
   stuck_by ms e home = not (is_finished h (evaluation e))
       && (has cancelled e || list_any (is_marked ms) (sources_of home.input))
 
@@ -43,7 +43,8 @@ module _ (h : List Event) (cancelled : List ℕ) where
   length_marks [] = refl
   length_marks (home ∷ homes) = ap suc (length_marks homes)
 
-  marked_more : (ms : List Bool) (b : Bool) (e : ℕ) → e ≤ length ms → is_marked (b ∷ ms) e ≡ is_marked ms e
+  -- one mark more leaves the others as they are
+  pub marked_more : (ms : List Bool) (b : Bool) (e : ℕ) → e ≤ length ms → is_marked (b ∷ ms) e ≡ is_marked ms e
   marked_more ms b e le = ap (λ o. option_map_or (λ x. x) o false) (numbered_more ms b e le)
 
   any_more : (ms : List Bool) (b : Bool) (n : ℕ) (xs : List ℕ) → n ≤ length ms → AtMost n xs
