@@ -13,12 +13,12 @@ use Rattle.outer_tokens.specs.Brackets.{opening, IsEnclosed}
 use Rattle.outer_tokens.specs.Forms.{dotted, IsSpace, IsLongIdent, IsOpened}
 use Rattle.outer_tokens.specs.Rows.{HasForm, rank, IsFirstRow}
 use Rattle.outer_tokens.specs.declared.bracket.Bracket.{Bracket}
-use Rattle.outer_tokens.specs.declared.bracket.Bracket.TheVariants.{Comment, String, Cartouche}
 use Rattle.outer_tokens.specs.declared.row.Row.{Row}
 use Rattle.outer_tokens.specs.declared.row.Row.TheVariants.{Space, Enclosed, Error, Symbol, LongIdent, Word, Sym}
 use Rattle.outer_tokens.proofs.EnclosedLemmas.{opens-whole}
 use Rattle.outer_tokens.proofs.CrossLemmas.{named-inner, blank-outer, is_word, identifier-word, dotted-word}
 use Rattle.outer_tokens.proofs.OpeningLemmas.{one-enclosed, blank-word, opening-solid, blank-solid, one-opening}
+use Rattle.outer_tokens.proofs.RowLemmas.{rank-top}
 
 -- two texts that begin alike, up to a blank
 module _ (front u v : List ℕ) (k : ℕ) (size : length front ≡ suc k) (blank : is_blank (get_or front k 0) ≡ true) where
@@ -111,17 +111,7 @@ module _ (front u v : List ℕ) (k : ℕ) (size : length front ≡ suc k) (blank
     lower-none Symbol low m longer within form = no-symbol m longer within form
     lower-none LongIdent low m longer within form = no-long m longer within form
     lower-none Word low m longer within form = no-words m longer within (identifier-word (take m (front ++ v)) form)
-    lower-none Sym low m longer within form = omega (arith, low, top row) where
-      top : (r : Row) → rank r ≤ 8
-      top Space = omega arith
-      top (Enclosed Comment) = omega arith
-      top (Enclosed String) = omega arith
-      top (Enclosed Cartouche) = omega arith
-      top Error = omega arith
-      top Symbol = omega arith
-      top LongIdent = omega arith
-      top Word = omega arith
-      top Sym = omega arith
+    lower-none Sym low m longer within form = omega (arith, low, rank-top row)
 
     no-longer : (r : Row) → row ≡ r → (m : ℕ) → suc k < m → m ≤ length (front ++ v) → HasForm r (take m (front ++ v)) → ⊥
     no-longer Space is m longer within form =

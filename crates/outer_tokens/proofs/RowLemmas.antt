@@ -53,3 +53,15 @@ single text some = record {
   fits = length-take-le 1 text (omega arith);
   longest = λ m within one. omega (arith, length-take-le m text within, one);
 }
+
+-- no row has a greater rank
+pub rank-top : (r : Row) → rank r ≤ 8
+rank-top Space = omega arith
+rank-top (Enclosed Comment) = omega arith
+rank-top (Enclosed String) = omega arith
+rank-top (Enclosed Cartouche) = omega arith
+rank-top Error = omega arith
+rank-top Symbol = omega arith
+rank-top LongIdent = omega arith
+rank-top Word = omega arith
+rank-top Sym = omega arith

@@ -2,6 +2,7 @@
 use Rattle.std.proofs.Common.{◌≡◌, ℕ, ◌≤◌, Bool, true, false, cond, not, ◌&&◌, ◌||◌, List, ◌∷◌, Option, Some, None, refl, ap, sym, subst, ◌∙◌, arith}
 use Rattle.std.proofs.lemmas.Bool.{eqb-true, eq-eqb, false≢true}
 use Rattle.std.specs.Prelude.{◌==◌}
+use Rattle.std.proofs.Math.Bool.{or-false, or-true}
 use Rattle.import_rounds.specs.Rounds.{has}
 use Rattle.pide_base.specs.declared.part.PartKind.{PartKind}
 use Rattle.exec_table.specs.declared.execution.Execution.{Execution}
@@ -48,22 +49,14 @@ module _ {S : Type 0} (l : Lang S) (h : List Event) (t : Tables S) (k : IsKept l
           → has (cond b (e ∷ d.cancelled) d.cancelled) f ≡ has d.cancelled f
       go false x same y = refl
       go true x false y = ap (λ b. b || has d.cancelled f) y
-      go true x true y = ap (λ b. b || has d.cancelled f) y ∙ sym (ap (has d.cancelled) (eqb-true f e y) ∙ or_none (has d.cancelled e) x)
-        where
-          or_none : (b : Bool) → (b || false) ≡ true → b ≡ true
-          or_none true z = refl
-          or_none false z = absurd (cc)
+      go true x true y = ap (λ b. b || has d.cancelled f) y ∙ sym (ap (has d.cancelled) (eqb-true f e y) ∙ sym (or-false (has d.cancelled e)) ∙ x)
 
   marked : (f : ℕ) → (has d.cancelled e || not opened) ≡ false → has (doc l more).cancelled f ≡ ((f == e) || has d.cancelled f)
   marked f is = go opened is
     where
       go : (b : Bool) → (has d.cancelled e || not b) ≡ false → has (cond b (e ∷ d.cancelled) d.cancelled) f ≡ ((f == e) || has d.cancelled f)
       go true x = refl
-      go false x = absurd (by (has d.cancelled e) x)
-        where
-          by : (b : Bool) → (b || true) ≡ false → ⊥
-          by true z = absurd (cc)
-          by false z = absurd (cc)
+      go false x = absurd (false≢true (sym x ∙ or-true (has d.cancelled e)))
 
   homed : (f : ℕ) → is_assigned d.live f ≡ true → IsKnown l (doc l more).homes f
   homed f live = k.known f live

@@ -3,6 +3,7 @@ use Rattle.std.proofs.Common.{◌≡◌, ◌↔◌, ℕ, Bool, true, false, cond
 use Rattle.std.specs.Prelude.{is_some}
 use Rattle.std.specs.Option.{IsSome, option_map}
 use Rattle.std.proofs.lemmas.Bool.{and_parts}
+use Rattle.std.proofs.lemmas.Option.{same_Some}
 use Rattle.doc_nodes.specs.Imports.{NodeList}
 use Rattle.import_rounds.specs.Rounds.{has}
 use Rattle.pide_base.specs.declared.part.Part.{Part}
@@ -49,9 +50,6 @@ module _ {S : Type 0} (l : Lang S) (h : List Event) (t : Tables S) (k : IsKept l
       let inputs = (and_parts (is_free (standing h p)) (has_inputs h (doc l h).homes p) b.1).1 in
       job_found l h t k (tip_live l h t k) begun p (homes p.exec assigned) assigned inputs
 
-  same_home : (o : Option Home) (x y : Home) → o ≡ Some x → o ≡ Some y → x ≡ y
-  same_home o x y a b = cc
-
   abbrev known : ℕ → Option S
   known f = state_of (t.rows f)
 
@@ -61,7 +59,7 @@ module _ {S : Type 0} (l : Lang S) (h : List Event) (t : Tables S) (k : IsKept l
   job_there p is nodes same home at =
       let job = first_job p is in
       ap is_some (ap (λ ns. found_input l ns known home.input) (same ∙ ap (λ (v : Version). v.nodes) k.tip)
-      ∙ ap (λ (x : Home). found_input l (doc l h).tip.nodes known x.input) (same_home (t.homes p.exec) home job.home at job.known)
+      ∙ ap (λ (x : Home). found_input l (doc l h).tip.nodes known x.input) (same_Some home job.home (sym at ∙ job.known))
       ∙ job.found)
 
   same_input : (o : Option (Taken S)) (x y : Taken S) → o ≡ Some x → o ≡ Some y → x ≡ y
@@ -73,7 +71,7 @@ module _ {S : Type 0} (l : Lang S) (h : List Event) (t : Tables S) (k : IsKept l
       ≡ Some (setting_of l (record { part = p; source = home.source; blob = home.blob; input = x }))
   job_right p is nodes same home at x found =
       let job = first_job p is in
-      let it : job.home ≡ home = same_home (t.homes p.exec) job.home home job.known at in
+      let it : job.home ≡ home = same_Some job.home home (sym job.known ∙ at) in
       let input : job.input ≡ x = same_input (found_input l nodes known home.input) job.input x
       (ap (λ ns. found_input l ns known home.input) (same ∙ ap (λ (v : Version). v.nodes) k.tip)
       ∙ ap (λ (y : Home). found_input l (doc l h).tip.nodes known y.input) (sym it) ∙ job.found) found in

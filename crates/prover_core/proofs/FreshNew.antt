@@ -1,6 +1,7 @@
 -- The new executions of a plan can be put into the tables.
 use Rattle.std.proofs.Common.{◌≡◌, ℕ, suc, ◌<◌, Bool, true, false, cond, List, ◌∷◌, length, Option, Some, None, refl, ap, sym, ◌∙◌, arith}
 use Rattle.std.specs.Option.{option_map, option_map_or}
+use Rattle.std.proofs.lemmas.Option.{same_Some}
 use Rattle.import_rounds.specs.Rounds.{has}
 use Rattle.import_rounds.proofs.KnownHas.{each_has}
 use Rattle.doc_nodes.specs.Imports.{NodeList}
@@ -41,15 +42,12 @@ module _ {S : Type 0} (l : Lang S) (h : List Event) (t : Tables S) (k : IsKept l
   abbrev now : Doc
   now = doc l (Update id nodes blobs ∷ h)
 
-  same_home : (o : Option Home) (x y : Home) → o ≡ Some x → o ≡ Some y → x ≡ y
-  same_home o x y a b = cc
-
   older : (e : ℕ) (x : Home) → length d.homes < e → numbered (grown d.homes (homes_in fresh)) e ≡ Some x → (q : ℕ)
       → has (sources_of x.input) q ≡ true → q < e
   older e x past at q is =
       let there : numbered now.homes e ≡ Some x = ap (λ hs. numbered (grown d.homes hs) e) (sym homes_are) ∙ at in
       let own = laws.homes e (laws.given e past (numbered_within now.homes e x there)) in
-      let it : own.home ≡ x = same_home (numbered now.homes e) own.home x own.homed there in
+      let it : own.home ≡ x = same_Some own.home x (sym own.homed ∙ there) in
       (each_has (IsSource now (version_of nodes blobs (assignment_of d nodes blobs)) e) (sources_of own.home.input) q own.sources
       (ap (λ (y : Home). has (sources_of y.input) q) it ∙ is)).older
 

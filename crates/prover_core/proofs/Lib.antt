@@ -36,6 +36,7 @@ mod UpdatedRows
 mod TasksOver
 mod LastOf
 mod UpdatedTasks
+mod NextMade
 mod UpdatedKept
 mod GivenNumbers
 mod NewFacts

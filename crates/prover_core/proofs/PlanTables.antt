@@ -1,5 +1,5 @@
 -- The tables of executions that a planned update leaves are those of the document with the new version.
-use Rattle.std.proofs.Common.{◌≡◌, ℕ, suc, ◌<◌, ◌≤◌, true, false, cond, not, ◌&&◌, List, ◌∷◌, length, Option, Some, None, refl, ap, ◌∙◌}
+use Rattle.std.proofs.Common.{◌≡◌, ℕ, suc, true, cond, not, ◌&&◌, List, ◌∷◌, length, Option, Some, refl, ap, ◌∙◌}
 use Rattle.std.specs.Option.{option_map_or}
 use Rattle.import_rounds.specs.Rounds.{has}
 use Rattle.doc_nodes.specs.Imports.{NodeList}
@@ -13,7 +13,6 @@ use Rattle.exec_rules.specs.Kept.{BlobList}
 use Rattle.language.specs.Lang.{Lang}
 use Rattle.core_rules.specs.declared.event.Event.{Event}
 use Rattle.core_rules.specs.declared.event.Event.TheVariants.{Update}
-use Rattle.core_rules.specs.Numbered.{numbered}
 use Rattle.core_rules.specs.Assigned.{assigns, is_assigned}
 use Rattle.core_rules.specs.Doc.{Doc, doc, assignment_of, version_of}
 use Rattle.core_rules.specs.Sources.{HasHome}
@@ -21,14 +20,14 @@ use Rattle.core_jobs.specs.declared.done.Done.{Done}
 use Rattle.update_plans.specs.declared.beginning.Fresh.{Fresh}
 use Rattle.update_plans.specs.Begun.{first_kind}
 use Rattle.prover_core.specs.Plans.{begun, begun_as, AreTasksFor}
-use Rattle.prover_core.specs.Fresh.{fresh_at, with_fresh}
+use Rattle.prover_core.specs.Fresh.{with_fresh}
 use Rattle.prover_core.specs.Kept.{Tables, IsKept}
-use Rattle.prover_core.proofs.FreshPlan.{homes_in, tasks_in, Found}
+use Rattle.prover_core.proofs.FreshPlan.{homes_in, tasks_in}
 use Rattle.prover_core.proofs.UpdatedDoc.{NewLaws}
 use Rattle.prover_core.proofs.UpdatedRows.{AreRows}
 use Rattle.prover_core.proofs.UpdatedKept.{AreHomes}
 use Rattle.prover_core.proofs.UpdateTables.{no_row, no_home}
-use Rattle.prover_core.proofs.PlanFresh.{fresh_none as at_none, fresh_behind as at_none_behind, beyond_old as behind_old, fresh_found as found_new, not_dropped as new_kept}
+use Rattle.prover_core.proofs.PlanFresh.{fresh_none, fresh_behind, beyond_old, fresh_found, not_dropped}
 
 begun_same : {R : Type 0} (i : Input) → begun_as {R = R} (first_kind i) ≡ begun i
 begun_same (input.First head) = refl
@@ -54,21 +53,6 @@ module _ {S : Type 0} (l : Lang S) (h : List Event) (t : Tables S) (k : IsKept l
   abbrev new : Version
   new = version_of nodes blobs (assignment_of d nodes blobs)
 
-  fresh_none : (e : ℕ) → e ≤ length d.homes → fresh_at fresh e ≡ None
-  fresh_none = at_none l h t k id nodes blobs laws tip_live tip_homes dropped drops fresh are homes_are
-
-  fresh_behind : (e : ℕ) → length now.homes < e → fresh_at fresh e ≡ None
-  fresh_behind = at_none_behind l h t k id nodes blobs laws tip_live tip_homes dropped drops fresh are homes_are
-
-  beyond_old : (e : ℕ) → length now.homes < e → length d.homes < e
-  beyond_old = behind_old l h t k id nodes blobs laws tip_live tip_homes dropped drops fresh are homes_are
-
-  fresh_found : (e : ℕ) (x : Home) → length d.homes < e → numbered now.homes e ≡ Some x → Found h fresh e x
-  fresh_found = found_new l h t k id nodes blobs laws tip_live tip_homes dropped drops fresh are homes_are
-
-  not_dropped : (e : ℕ) → length d.homes < e → has dropped e ≡ false
-  not_dropped = new_kept l h t k id nodes blobs laws tip_live tip_homes dropped drops fresh are homes_are
-
   module _ (rows1 rows2 : ℕ → Option (Execution (Done S)))
       (drop : (e : ℕ) → rows1 e ≡ cond (has dropped e) (after_cancelling (t.rows e)) (t.rows e))
       (add : (e : ℕ) → rows2 e ≡ with_fresh (λ (one : Fresh). begun_as one.task.part.kind) fresh rows1 e) where
@@ -77,16 +61,16 @@ module _ {S : Type 0} (l : Lang S) (h : List Event) (t : Tables S) (k : IsKept l
 
     pub rows_are : AreRows l h t k id nodes blobs laws tip_live rows2
     rows_are = record {
-      old = λ e le. add e ∙ ap (λ o. put o (rows1 e)) (fresh_none e le) ∙ drop e
+      old = λ e le. add e ∙ ap (λ o. put o (rows1 e)) (fresh_none l h t k id nodes blobs laws tip_live tip_homes dropped drops fresh are homes_are e le) ∙ drop e
           ∙ ap (λ b. cond b (after_cancelling (t.rows e)) (t.rows e)) (drops e);
       fresh = λ e x past at.
-          let one = fresh_found e x past at in
+          let one = fresh_found l h t k id nodes blobs laws tip_live tip_homes dropped drops fresh are homes_are e x past at in
           add e ∙ ap (λ o. put o (rows1 e)) one.at
           ∙ ap (λ y. Some (begun_as y)) one.task.same_kind
           ∙ ap (λ y. Some y) (begun_same x.input);
-      others = λ e past. add e ∙ ap (λ o. put o (rows1 e)) (fresh_behind e past) ∙ drop e
-          ∙ ap (λ b. cond b (after_cancelling (t.rows e)) (t.rows e)) (not_dropped e (beyond_old e past))
-          ∙ no_row l h t k laws.within tip_live tip_homes e (beyond_old e past);
+      others = λ e past. add e ∙ ap (λ o. put o (rows1 e)) (fresh_behind l h t k id nodes blobs laws tip_live tip_homes dropped drops fresh are homes_are e past) ∙ drop e
+          ∙ ap (λ b. cond b (after_cancelling (t.rows e)) (t.rows e)) (not_dropped l h t k id nodes blobs laws tip_live tip_homes dropped drops fresh are homes_are e (beyond_old l h t k id nodes blobs laws tip_live tip_homes dropped drops fresh are homes_are e past))
+          ∙ no_row l h t k laws.within tip_live tip_homes e (beyond_old l h t k id nodes blobs laws tip_live tip_homes dropped drops fresh are homes_are e past);
     }
 
   module _ (homes : ℕ → Option Home) (add : (e : ℕ) → homes e ≡ with_fresh (λ (one : Fresh). one.known.home) fresh t.homes e) where
@@ -95,10 +79,10 @@ module _ {S : Type 0} (l : Lang S) (h : List Event) (t : Tables S) (k : IsKept l
 
     pub homes_then : AreHomes l h t k id nodes blobs laws tip_live homes
     homes_then = record {
-      old = λ e le. add e ∙ ap (λ o. put_home o (t.homes e)) (fresh_none e le);
+      old = λ e le. add e ∙ ap (λ o. put_home o (t.homes e)) (fresh_none l h t k id nodes blobs laws tip_live tip_homes dropped drops fresh are homes_are e le);
       fresh = λ e x past at.
-          let one = fresh_found e x past at in
+          let one = fresh_found l h t k id nodes blobs laws tip_live tip_homes dropped drops fresh are homes_are e x past at in
           add e ∙ ap (λ o. put_home o (t.homes e)) one.at ∙ ap (λ y. Some y) one.home;
-      others = λ e past. add e ∙ ap (λ o. put_home o (t.homes e)) (fresh_behind e past)
-          ∙ no_home l h t k laws.within tip_live tip_homes e (beyond_old e past);
+      others = λ e past. add e ∙ ap (λ o. put_home o (t.homes e)) (fresh_behind l h t k id nodes blobs laws tip_live tip_homes dropped drops fresh are homes_are e past)
+          ∙ no_home l h t k laws.within tip_live tip_homes e (beyond_old l h t k id nodes blobs laws tip_live tip_homes dropped drops fresh are homes_are e past);
     }

@@ -22,13 +22,13 @@ use Rattle.update_plans.specs.Begun.{first_kind}
 use Rattle.prover_core.specs.Progress.{next_of}
 use Rattle.prover_core.specs.Tasks.{IsTaskOf, AreTasks}
 use Rattle.prover_core.specs.Plans.{ranked, AreTasksFor}
-use Rattle.prover_core.specs.Fresh.{fresh_at, with_fresh}
+use Rattle.prover_core.specs.Fresh.{with_fresh}
 use Rattle.prover_core.specs.Kept.{Tables, IsKept}
 use Rattle.prover_core.proofs.FreshPlan.{homes_in, tasks_in, Found}
 use Rattle.prover_core.proofs.UpdatedDoc.{NewLaws}
 use Rattle.prover_core.proofs.UpdatedTasks.{AreTasksThen}
 use Rattle.prover_core.proofs.UpdateTables.{no_task}
-use Rattle.prover_core.proofs.PlanFresh.{fresh_none as at_none, fresh_behind as at_none_behind, beyond_old as behind_old, fresh_found as found_new, not_dropped as new_kept}
+use Rattle.prover_core.proofs.PlanFresh.{fresh_none, fresh_behind, beyond_old, fresh_found, not_dropped}
 use Rattle.prover_core.proofs.FirstTask.{plain_task, seen_task}
 
 module _ {S : Type 0} (l : Lang S) (h : List Event) (t : Tables S) (k : IsKept l h t) (id : ℕ) (nodes : NodeList) (blobs : BlobList)
@@ -49,21 +49,6 @@ module _ {S : Type 0} (l : Lang S) (h : List Event) (t : Tables S) (k : IsKept l
 
   abbrev new : Version
   new = version_of nodes blobs (assignment_of d nodes blobs)
-
-  fresh_none : (e : ℕ) → e ≤ length d.homes → fresh_at fresh e ≡ None
-  fresh_none = at_none l h t k id nodes blobs laws tip_live tip_homes dropped drops fresh are homes_are
-
-  fresh_behind : (e : ℕ) → length now.homes < e → fresh_at fresh e ≡ None
-  fresh_behind = at_none_behind l h t k id nodes blobs laws tip_live tip_homes dropped drops fresh are homes_are
-
-  beyond_old : (e : ℕ) → length now.homes < e → length d.homes < e
-  beyond_old = behind_old l h t k id nodes blobs laws tip_live tip_homes dropped drops fresh are homes_are
-
-  fresh_found : (e : ℕ) (x : Home) → length d.homes < e → numbered now.homes e ≡ Some x → Found h fresh e x
-  fresh_found = found_new l h t k id nodes blobs laws tip_live tip_homes dropped drops fresh are homes_are
-
-  not_dropped : (e : ℕ) → length d.homes < e → has dropped e ≡ false
-  not_dropped = new_kept l h t k id nodes blobs laws tip_live tip_homes dropped drops fresh are homes_are
 
   module _ (seen : ℕ → Bool) (tasks1 tasks2 tasks3 : ℕ → Option Task)
       (drop : (e : ℕ) → tasks1 e ≡ cond (has dropped e) None (t.tasks e))
@@ -105,7 +90,7 @@ module _ {S : Type 0} (l : Lang S) (h : List Event) (t : Tables S) (k : IsKept l
         go false x = outside e x
 
     stays : (e : ℕ) → e ≤ length d.homes → assigns new e ≡ true → tasks2 e ≡ t.tasks e
-    stays e le is = add e ∙ ap (λ o. put_task o (tasks1 e)) (fresh_none e le) ∙ drop e
+    stays e le is = add e ∙ ap (λ o. put_task o (tasks1 e)) (fresh_none l h t k id nodes blobs laws tip_live tip_homes dropped drops fresh are homes_are e le) ∙ drop e
         ∙ ap (λ b. cond b None (t.tasks e)) (drops e ∙ ap (λ b. assigns d.tip e && not b) is ∙ and-false (assigns d.tip e))
 
     new_task : (e : ℕ) (x : Home) → length d.homes < e → numbered now.homes e ≡ Some x
@@ -113,7 +98,7 @@ module _ {S : Type 0} (l : Lang S) (h : List Event) (t : Tables S) (k : IsKept l
     new_task e x past at = go (seen e) refl
       where
         one : Found h fresh e x
-        one = fresh_found e x past at
+        one = fresh_found l h t k id nodes blobs laws tip_live tip_homes dropped drops fresh are homes_are e x past at
 
         put_in : tasks2 e ≡ Some (waiting one.one.task)
         put_in = add e ∙ ap (λ o. put_task o (tasks1 e)) one.at
@@ -143,13 +128,13 @@ module _ {S : Type 0} (l : Lang S) (h : List Event) (t : Tables S) (k : IsKept l
 
     pub tasks_then : AreTasksThen l h t k id nodes blobs laws tip_live tasks3
     tasks_then = record {
-      dropped = λ e le is. see e ∙ ap (with_sight e (seen e)) (add e ∙ ap (λ o. put_task o (tasks1 e)) (fresh_none e le) ∙ gone e is)
+      dropped = λ e le is. see e ∙ ap (with_sight e (seen e)) (add e ∙ ap (λ o. put_task o (tasks1 e)) (fresh_none l h t k id nodes blobs laws tip_live tip_homes dropped drops fresh are homes_are e le) ∙ gone e is)
           ∙ none_seen e (seen e) ∙ sym (without e is);
       ranked = old_task;
       fresh = new_task;
       others = λ e past. see e
-          ∙ ap (with_sight e (seen e)) (add e ∙ ap (λ o. put_task o (tasks1 e)) (fresh_behind e past) ∙ drop e
-          ∙ ap (λ b. cond b None (t.tasks e)) (not_dropped e (beyond_old e past))
-          ∙ no_task l h t k laws.within tip_live tip_homes e (beyond_old e past))
+          ∙ ap (with_sight e (seen e)) (add e ∙ ap (λ o. put_task o (tasks1 e)) (fresh_behind l h t k id nodes blobs laws tip_live tip_homes dropped drops fresh are homes_are e past) ∙ drop e
+          ∙ ap (λ b. cond b None (t.tasks e)) (not_dropped l h t k id nodes blobs laws tip_live tip_homes dropped drops fresh are homes_are e (beyond_old l h t k id nodes blobs laws tip_live tip_homes dropped drops fresh are homes_are e past))
+          ∙ no_task l h t k laws.within tip_live tip_homes e (beyond_old l h t k id nodes blobs laws tip_live tip_homes dropped drops fresh are homes_are e past))
           ∙ none_seen e (seen e);
     }

@@ -1,9 +1,8 @@
 -- What is kept once an update is made.
 use Rattle.std.proofs.Common.{◌≡◌, ◌⊎◌, inl, inr, ℕ, ◌<◌, ◌≤◌, Bool, true, false, cond, not, ◌&&◌, List, [], ◌∷◌, ◌++◌, length, Option, Some, None, refl, ap, sym, subst, ◌∙◌, arith}
 use Rattle.std.proofs.lemmas.Bool.{cases_lt}
-use Rattle.std.specs.Option.{option_map_or, option_and_then}
+use Rattle.std.specs.Option.{option_map_or}
 use Rattle.pide_base.specs.Ids.{id_end}
-use Rattle.pide_base.specs.declared.part.PartKind.{PartKind}
 use Rattle.doc_nodes.specs.Imports.{NodeList}
 use Rattle.doc_versions.specs.declared.versions.Live.{Live}
 use Rattle.doc_versions.specs.Live.{History, newest}
@@ -21,13 +20,12 @@ use Rattle.core_rules.specs.Numbered.{numbered, next_number}
 use Rattle.core_rules.specs.Assigned.{assigns, is_assigned}
 use Rattle.import_rounds.specs.Rounds.{has}
 use Rattle.core_rules.specs.Settings.{setting}
-use Rattle.core_rules.specs.Parts.{forks}
 use Rattle.core_rules.specs.Doc.{Doc, doc, assignment_of, version_of}
 use Rattle.core_rules.specs.Legal.{IsLegal}
 use Rattle.core_jobs.specs.declared.done.Done.{Done}
 use Rattle.version_losses.specs.declared.losses.Loss.{Loss}
 use Rattle.version_losses.specs.Losses.{AreLosses}
-use Rattle.prover_core.specs.Progress.{completed_in, next_kind, next_of, row_by, row_of}
+use Rattle.prover_core.specs.Progress.{completed_in, row_by, row_of}
 use Rattle.prover_core.specs.Kept.{Tables, IsKept, home_of}
 use Rattle.core_rules.proofs.KnownNumbers.{numbered_within, length_grown}
 use Rattle.prover_core.proofs.LossesKept.{pushed_losses}
@@ -36,6 +34,7 @@ use Rattle.prover_core.proofs.UpdatedRows.{AreRows, known_now, beyond, stays_row
 use Rattle.prover_core.proofs.UpdatedTasks.{AreTasksThen, tasks_now}
 use Rattle.prover_core.proofs.TasksOver.{next_old}
 use Rattle.prover_core.proofs.LastOf.{last_is}
+use Rattle.prover_core.proofs.NextMade.{made_next}
 
 module _ {S : Type 0} (l : Lang S) (h : List Event) (t : Tables S) (k : IsKept l h t) (id : ℕ) (nodes : NodeList) (blobs : BlobList)
     (laws : NewLaws l h id nodes blobs) (tip_live : (e : ℕ) → assigns (doc l h).tip e ≡ true → is_assigned (doc l h).live e ≡ true) where
@@ -94,14 +93,6 @@ module _ {S : Type 0} (l : Lang S) (h : List Event) (t : Tables S) (k : IsKept l
           ∙ sym (ap (λ b. cond b (numbered now.homes e) None) (old_live l h id nodes blobs laws tip_live e le)
           ∙ ap (λ o. cond (is_assigned d.live e) o None) (same_home l h id nodes blobs laws tip_live e le))
 
-  made_next : (e : ℕ) (x : PartKind) → next_of l h d e ≡ Some x → e ≤ length d.homes
-  made_next e x is = go (numbered d.homes e) refl is
-    where
-      go : (o : Option Home) → numbered d.homes e ≡ o
-          → option_and_then (λ (y : Home). next_kind y.input (forks l d.homes e) (completed_in h e)) o ≡ Some x → e ≤ length d.homes
-      go None at is = absurd (cc)
-      go (Some y) at is = numbered_within d.homes e y at
-
   pub updated_kept : IsLegal l more → (versions : History Version) → versions.start ≡ t.versions.start
       → versions.live ≡ t.versions.live ++ record { id = id; version = new } ∷ [] → RowsFit new
       → (next : ℕ) → next ≡ next_number now.homes → next ≤ id_end
@@ -144,7 +135,7 @@ module _ {S : Type 0} (l : Lang S) (h : List Event) (t : Tables S) (k : IsKept l
     holders = k.holders;
     held_next = λ who p is.
         let was = k.held_next who p is in
-        next_old l h t k id nodes blobs laws tip_live p.exec (made_next p.exec p.kind was) ∙ was;
+        next_old l h t k id nodes blobs laws tip_live p.exec (made_next l h p.exec p.kind was) ∙ was;
     tasks = tasks_now l h t k id nodes blobs laws tip_live tasks are_tasks;
     ended = k.ended;
     quiet = λ is. not_cancelled l h id nodes blobs laws tip_live;

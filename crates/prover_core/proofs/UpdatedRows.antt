@@ -1,6 +1,7 @@
 -- How far executions are after an update, and what they go by.
 use Rattle.std.proofs.Common.{◌≡◌, ◌⊎◌, inl, inr, ℕ, ◌<◌, ◌≤◌, Bool, true, false, cond, not, ◌&&◌, ◌||◌, List, ◌∷◌, length, Option, Some, None, refl, ap, sym, ◌∙◌, arith}
-use Rattle.std.proofs.lemmas.Bool.{cases_lt, and_parts}
+use Rattle.std.proofs.lemmas.Bool.{cases_lt, and_parts, false_from_ne_true}
+use Rattle.std.proofs.lemmas.Option.{same_Some}
 use Rattle.import_rounds.specs.Rounds.{has}
 use Rattle.doc_nodes.specs.Imports.{NodeList}
 use Rattle.exec_table.specs.declared.execution.Execution.{Execution}
@@ -131,19 +132,12 @@ module _ {S : Type 0} (l : Lang S) (h : List Event) (t : Tables S) (k : IsKept l
       (not_cancelled l h id nodes blobs laws tip_live e given)
       ∙ ap (λ c. Some (execution_by l false e c known.home known.works_on)) (nothing_done l h id nodes blobs laws tip_live e past)
       ∙ ap (λ z. Some z) (begins_with e known.home known.works_on)
-      ∙ ap (λ (y : Home). Some (begun y.input)) (same (numbered now.homes e) known.home x known.homed at))
-    where
-      same : (o : Option Home) (a b : Home) → o ≡ Some a → o ≡ Some b → a ≡ b
-      same o a b p q = cc
+      ∙ ap (λ (y : Home). Some (begun y.input)) (same_Some known.home x (sym known.homed ∙ at)))
 
   pub beyond : (e : ℕ) → length now.homes < e → is_assigned now.live e ≡ false
-  beyond e past = go (is_assigned now.live e) refl
-    where
-      go : (b : Bool) → is_assigned now.live e ≡ b → b ≡ false
-      go false is = refl
-      go true is =
-          let x = known_now e is in
-          let le = numbered_within now.homes e x.home x.homed in absurd (omega (arith, past, le))
+  beyond e past = false_from_ne_true (is_assigned now.live e) (λ is.
+      let x = known_now e is in
+      let le = numbered_within now.homes e x.home x.homed in omega (arith, past, le))
 
   -- rows of an update: those that are dropped are cancelled, and new ones begin
   pub record AreRows (rows : ℕ → Option (Execution (Done S))) : Type 0 where
