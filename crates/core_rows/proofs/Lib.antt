@@ -1,2 +1,3 @@
+mod Quiet
 mod Moved
 mod Prepared

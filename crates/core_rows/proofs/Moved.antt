@@ -1,7 +1,7 @@
 -- What holds of a desk once an event more has happened, and other jobs are held.
 use Rattle.std.proofs.Common.{◌≡◌, ℕ, ◌<◌, Bool, true, false, cond, List, ◌∷◌, Option, Some, None, refl, ap, sym, subst, ◌∙◌}
 use Rattle.std.proofs.lemmas.Bool.{eqb-true}
-use Rattle.std.specs.Prelude.{◌==◌, if◌then◌else◌, ⊤}
+use Rattle.std.specs.Prelude.{◌==◌, if◌then◌else◌}
 use Rattle.pide_base.specs.declared.part.Part.{Part}
 use Rattle.exec_rules.specs.declared.version.Version.{Version}
 use Rattle.language.specs.Lang.{Lang}
@@ -9,9 +9,8 @@ use Rattle.core_jobs.specs.Jobs.{JobContent}
 use Rattle.core_jobs.specs.Fits.{IsJobOf}
 use Rattle.core_rules.specs.declared.event.Event.{Event}
 use Rattle.core_rules.specs.declared.event.Event.TheVariants as event
-use Rattle.core_rules.specs.Standing.{held, held_by}
+use Rattle.core_rules.specs.Standing.{held}
 use Rattle.core_rules.specs.Doc.{Doc, doc}
-use Rattle.core_rules.proofs.KnownStays.{setting_stays}
 use Rattle.exec_table.specs.declared.execs.Cancelling.{Cancelling}
 use Rattle.exec_table.specs.declared.execs.Cancelling.TheVariants as cancelling
 use Rattle.doc_versions.specs.declared.versions.Removing.{Removing}
@@ -21,27 +20,7 @@ use Rattle.prover_core.specs.Removal.{with_removal}
 use Rattle.buffer_rules.specs.Preparing.{Buffer}
 use Rattle.buffer_laws.specs.Fitting.{Agrees}
 use Rattle.core_rows.specs.Desk.{Holds, IsDesk}
-
--- the event is none of this worker's
-abbrev pub IsOther : ℕ → Event → Type 0
-IsOther w (event.Claimed v p) = (v == w) ≡ false
-IsOther w (event.Finished v p) = (v == w) ≡ false
-IsOther w (event.Dropped v p) = (v == w) ≡ false
-IsOther w e = ⊤
-
--- the event makes no version
-abbrev pub IsQuiet : Event → Type 0
-IsQuiet (event.Update id nodes blobs) = ⊥
-IsQuiet e = ⊤
-
-held_on : (e : Event) (w : ℕ) (o : Option Part) → IsOther w e → held_by e w o ≡ o
-held_on (event.Update id nodes blobs) w o other = refl
-held_on (event.Cancel x) w o other = refl
-held_on (event.Remove ids) w o other = refl
-held_on (event.Claimed v p) w o other = ap (λ b. cond b (Some p) o) other
-held_on (event.Finished v p) w o other = ap (λ b. cond b None o) other
-held_on (event.Dropped v p) w o other = ap (λ b. cond b None o) other
-held_on event.Ended w o other = refl
+use Rattle.core_rows.proofs.Quiet.{IsOther, IsQuiet, holds_on, tip_on, commands_on, last_on}
 
 agrees_on : (b : Buffer) (d e : Doc) → e.tip ≡ d.tip → e.commands ≡ d.commands → Agrees b d → Agrees b e
 agrees_on b d e tip commands a = record {
@@ -54,40 +33,6 @@ agrees_on b d e tip commands a = record {
 }
 
 module _ {S : Type 0} (l : Lang S) where
-  pub holds_on : (h : List Event) (e : Event) (w : ℕ) (job : JobContent S) → IsOther w e → Holds l h w job
-      → Holds l (e ∷ h) w job
-  holds_on h e w job other k = record {
-    part = held_on e w (held h w) other ∙ k.part;
-    right = setting_stays l e h job.part.exec _ k.right;
-  }
-
-  tip_on : (h : List Event) (e : Event) → IsQuiet e → (doc l (e ∷ h)).tip ≡ (doc l h).tip
-  tip_on h (event.Update id nodes blobs) quiet = absurd quiet
-  tip_on h (event.Cancel x) quiet = refl
-  tip_on h (event.Remove ids) quiet = refl
-  tip_on h (event.Claimed v p) quiet = refl
-  tip_on h (event.Finished v p) quiet = refl
-  tip_on h (event.Dropped v p) quiet = refl
-  tip_on h event.Ended quiet = refl
-
-  commands_on : (h : List Event) (e : Event) → IsQuiet e → (doc l (e ∷ h)).commands ≡ (doc l h).commands
-  commands_on h (event.Update id nodes blobs) quiet = absurd quiet
-  commands_on h (event.Cancel x) quiet = refl
-  commands_on h (event.Remove ids) quiet = refl
-  commands_on h (event.Claimed v p) quiet = refl
-  commands_on h (event.Finished v p) quiet = refl
-  commands_on h (event.Dropped v p) quiet = refl
-  commands_on h event.Ended quiet = refl
-
-  last_on : (h : List Event) (e : Event) → IsQuiet e → (doc l (e ∷ h)).last ≡ (doc l h).last
-  last_on h (event.Update id nodes blobs) quiet = absurd quiet
-  last_on h (event.Cancel x) quiet = refl
-  last_on h (event.Remove ids) quiet = refl
-  last_on h (event.Claimed v p) quiet = refl
-  last_on h (event.Finished v p) quiet = refl
-  last_on h (event.Dropped v p) quiet = refl
-  last_on h event.Ended quiet = refl
-
   -- the same in other words
   pub told_as : (b now : Buffer) (h later : List Event) (last newest : ℕ) (jobs : ℕ → Option (JobContent S)) → now ≡ b → later ≡ h
       → newest ≡ last → IsDesk l b h last jobs → IsDesk l now later newest jobs
@@ -110,15 +55,15 @@ module _ {S : Type 0} (l : Lang S) where
     pub moved : (e : Event) (now : ℕ → Option (JobContent S)) → IsQuiet e
         → ((w : ℕ) (job : JobContent S) → now w ≡ Some job → Holds l (e ∷ h) w job) → IsDesk l b (e ∷ h) last now
     moved e now quiet holds = record {
-      agrees = agrees_on b (doc l h) (doc l (e ∷ h)) (tip_on h e quiet) (commands_on h e quiet) k.agrees;
-      blobs = ap (λ (v : Version). v.blobs) (tip_on h e quiet) ∙ k.blobs;
-      last_is = k.last_is ∙ sym (last_on h e quiet);
+      agrees = agrees_on b (doc l h) (doc l (e ∷ h)) (tip_on l h e quiet) (commands_on l h e quiet) k.agrees;
+      blobs = ap (λ (v : Version). v.blobs) (tip_on l h e quiet) ∙ k.blobs;
+      last_is = k.last_is ∙ sym (last_on l h e quiet);
       holds = holds;
     }
 
     -- one that is no worker's
     pub moved_on : (e : Event) → IsQuiet e → ((w : ℕ) → IsOther w e) → IsDesk l b (e ∷ h) last jobs
-    moved_on e quiet other = moved e jobs quiet (λ w job at. holds_on h e w job (other w) (k.holds w job at))
+    moved_on e quiet other = moved e jobs quiet (λ w job at. holds_on l h e w job (other w) (k.holds w job at))
 
     without_by : (v w : ℕ) (c : Bool) (job : JobContent S) → (v == w) ≡ c → cond c None (jobs w) ≡ Some job
         → ((v == w) ≡ false) × (jobs w ≡ Some job)
@@ -138,7 +83,7 @@ module _ {S : Type 0} (l : Lang S) where
     pub ended : (v : ℕ) (e : Event) (now : ℕ → Option (JobContent S)) → IsQuiet e → ((w : ℕ) → (v == w) ≡ false → IsOther w e)
         → ((w : ℕ) → now w ≡ (if v == w then None else jobs w)) → IsDesk l b (e ∷ h) last now
     ended v e now quiet others are = moved e now quiet (λ w job at.
-        let so = without v now are w job at in holds_on h e w job (others w so.0) (k.holds w job so.1))
+        let so = without v now are w job at in holds_on l h e w job (others w so.0) (k.holds w job so.1))
 
     taken_by : (v w : ℕ) (c : Bool) (one job : JobContent S) → (v == w) ≡ c → IsJobOf l (doc l h).homes one
         → cond c (Some one) (jobs w) ≡ Some job → Holds l (event.Claimed v one.part ∷ h) w job
@@ -146,7 +91,7 @@ module _ {S : Type 0} (l : Lang S) where
         let same : one ≡ job = cc in
         subst (Holds l (event.Claimed v one.part ∷ h) w) same
         (record { part = ap (λ c. cond c (Some one.part) (held h w)) is; right = right })
-    taken_by v w false one job is right at = holds_on h (event.Claimed v one.part) w job is (k.holds w job at)
+    taken_by v w false one job is right at = holds_on l h (event.Claimed v one.part) w job is (k.holds w job at)
 
     -- a part is taken
     pub taken : (v : ℕ) (one : JobContent S) (now : ℕ → Option (JobContent S)) → IsJobOf l (doc l h).homes one
@@ -164,7 +109,7 @@ module _ {S : Type 0} (l : Lang S) where
             let same : v ≡ w = eqb-true v w is in
             let none : held h w ≡ None = subst (λ x. held h x ≡ None) same idle in
             let some = holds.part in absurd (cc)
-        by w job false is holds = holds_on h (event.Claimed v p) w job is holds
+        by w job false is holds = holds_on l h (event.Claimed v p) w job is holds
 
     goes_by : (v w : ℕ) (c : Bool) (one back job : JobContent S) (o : Option (JobContent S)) → (v == w) ≡ c → Holds l h v one → back ≡ one
         → (o ≡ Some job → Holds l h w job) → cond c (Some back) o ≡ Some job → Holds l h w job
@@ -201,5 +146,5 @@ module _ {S : Type 0} (l : Lang S) where
     agrees = agrees;
     blobs = refl;
     last_is = refl;
-    holds = λ w job at. holds_on h (event.Update id b'.nodes b'.document.blobs) w job tt (k.holds w job at);
+    holds = λ w job at. holds_on l h (event.Update id b'.nodes b'.document.blobs) w job tt (k.holds w job at);
   }

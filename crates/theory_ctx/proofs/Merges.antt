@@ -7,7 +7,8 @@ use Rattle.std.proofs.lemmas.Option.{none-some}
 use Rattle.shared_map.specs.Pairs.{Each, IsSorted, has_key}
 use Rattle.shared_map.specs.Changes.{united}
 use Rattle.shared_map.proofs.KnownSorted.{IsSorted-united}
-use Rattle.shared_map.proofs.KnownFound.{find_united, same_pairs}
+use Rattle.shared_map.proofs.KnownFound.{find_united}
+use Rattle.shared_map.proofs.KnownAlike.{same_pairs}
 use Rattle.theory_ctx.specs.declared.fact_name.FactName.{FactName}
 use Rattle.theory_ctx.specs.Facts.{Fact, is_called, fact_of}
 use Rattle.theory_ctx.specs.Order.{by_name, by_name_total}

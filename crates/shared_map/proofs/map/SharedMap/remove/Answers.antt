@@ -4,7 +4,8 @@ use Rattle.shared_map.specs.Pairs.{IsSorted, found}
 use Rattle.shared_map.specs.Cuts.{before, at_key}
 use Rattle.shared_map.specs.Changes.{without}
 use Rattle.shared_map.proofs.KnownSorted.{IsSorted-without}
-use Rattle.shared_map.proofs.KnownFound.{found_without, without_none, none_of, some_of}
+use Rattle.shared_map.proofs.KnownFound.{found_without, without_none}
+use Rattle.shared_map.proofs.LentFinds.{none_of, some_of}
 use Rattle.shared_map.proofs.map.SharedMap.remove.Goals as goal
 
 pub returns-then-is_none-clause-ok : goal.returns-then-is_none-clause-ok
