@@ -1,183 +1,80 @@
 -- The events of a legal history are legal for the core.
-use Rattle.std.proofs.Common.{◌≡◌, ℕ, ◌<◌, ◌≤◌, Bool, true, false, List, [], ◌∷◌, length, Result, Ok, Err, refl, sym, ap, subst, ◌∙◌, arith}
-use Rattle.std.proofs.lemmas.Bool.{ltb-true, ltb-false}
-use Rattle.std.specs.Prelude.{if◌then◌else◌, nat_lt, is_some, ◌||◌}
+use Rattle.std.proofs.Common.{◌≡◌, Bool, true, false, List, [], ◌∷◌, Result, Ok, Err, refl, subst}
+use Rattle.std.specs.Prelude.{if◌then◌else◌, is_some, ◌||◌}
 use Rattle.std.specs.Option.{is_none}
-use Rattle.pide_base.specs.Ids.{id_end}
-use Rattle.doc_versions.specs.declared.versions.Removing.{Removing}
-use Rattle.doc_versions.specs.declared.versions.Removing.TheVariants as answer
-use Rattle.doc_versions.specs.Removal.{removing}
 use Rattle.exec_rules.specs.declared.version.Version.{Version}
 use Rattle.language.specs.Lang.{Lang}
 use Rattle.message_values.specs.declared.editor_message.EditorMessage.{EditorMessage}
 use Rattle.message_values.specs.declared.editor_message.EditorMessage.TheVariants as asks
 use Rattle.message_values.specs.declared.refusal.Refusal.{Refusal}
-use Rattle.message_values.specs.declared.refusal.Refusal.TheVariants.{VersionNotHigher, UnknownExecution, ProtocolFixed, NothingToStep, Limit}
-use Rattle.buffer_laws.specs.Fitting.{Agrees, start_doc}
+use Rattle.message_values.specs.declared.refusal.Refusal.TheVariants.{ProtocolFixed, NothingToStep}
 use Rattle.buffer_rules.specs.Trying.{◌>>=◌}
-use Rattle.buffer_rules.specs.Updates.{Asked}
-use Rattle.buffer_rules.specs.Preparing.{Buffer, prepared}
-use Rattle.buffer_rules.specs.Preparing as buffer
-use Rattle.core_rules.specs.declared.event.Event.{Event}
 use Rattle.core_rules.specs.declared.event.Event.TheVariants as event
-use Rattle.core_rules.specs.Assigned.{is_assigned}
-use Rattle.core_rules.specs.Doc.{Doc, doc, assignment_of, updated}
-use Rattle.core_rules.specs.Doc as core
-use Rattle.core_rules.specs.Legal.{IsLegal as IsLegalList, MayFollow as MayFollowList}
 use Rattle.core_rules.specs.Ready.{first_ready}
-use Rattle.core_rules.specs.Standing.{held, has_ended, is_open}
-use Rattle.core_rules.specs.Updates.{FitsUpdate}
+use Rattle.core_rules.specs.Standing.{held, has_ended}
 use Rattle.session_rules.specs.declared.service.Service.{Service}
 use Rattle.session_rules.specs.Heard.{Heard, Message, Claimed, Finished, Dropped, Ended}
-use Rattle.session_rules.specs.Session.{Session, document, with_event, answered}
-use Rattle.session_rules.specs.Updating.{runs_out, with_buffer, removed_by}
-use Rattle.session_rules.specs.Updating as updating
+use Rattle.session_rules.specs.Session.{Session, answered}
 use Rattle.session_rules.specs.Looking.{Looked, looked_at, settles}
 use Rattle.session_rules.specs.Accepting.{accepted, taken}
 use Rattle.session_rules.specs.History.{session}
 use Rattle.session_rules.specs.Legal.{IsLegal}
-
--- the laws on updates
-pub record FitLaws : Type 0 where
-  pub fits : (b b' : Buffer) (d : Doc) (live id : ℕ) (asked : Asked) → Agrees b d → prepared b live asked ≡ Ok b' → d.last < id
-      → (assignment_of d b'.nodes b'.document.blobs).next ≤ id_end → FitsUpdate d id b'.nodes b'.document.blobs
-  pub kept : (b b' : Buffer) (d : Doc) (live id : ℕ) (asked : Asked) (opened : ℕ → Bool) → Agrees b d → prepared b live asked ≡ Ok b'
-      → Agrees b' (updated opened d id b'.nodes b'.document.blobs (assignment_of d b'.nodes b'.document.blobs))
-  pub begins : Agrees buffer.empty start_doc
+use Rattle.session_rules.proofs.SoundSteps.{FitLaws, IsSound, still, update_sound, cancel_sound, remove_sound, other_sound}
 
 module _ {S : Type 0} (l : Lang S) (laws : FitLaws) where
-  -- a session's events are legal, and both documents agree
-  pub record IsSound (s : Session) : Type 0 where
-    pub legal : IsLegalList l s.events
-    pub agree : Agrees s.buffer (document l s)
-
-  -- an event that changes neither the tip nor the ids of commands
-  Stays : Session → Event → Type 0
-  Stays s e = ((doc l (e ∷ s.events)).tip ≡ (doc l s.events).tip) × ((doc l (e ∷ s.events)).commands ≡ (doc l s.events).commands)
-
-  still : (s : Session) (e : Event) → IsSound s → MayFollowList l s.events e → Stays s e → IsSound (with_event s e)
-  unfolding Stays
-  still s e sound may stays = record {
-    legal = (sound.legal, may);
-    agree = record {
-      names = sound.agree.names;
-      nodes = ap (λ (v : Version). v.nodes) stays.0 ∙ sound.agree.nodes;
-      differ = sound.agree.differ;
-      below = sound.agree.below;
-      first = omega (arith, stays.1, sound.agree.first);
-      headers = sound.agree.headers;
-    };
-  }
-
-  update_sound : (s after : Session) (version : ℕ) (asked : Asked) → has_ended s.events ≡ false → IsSound s
-      → updating.updated l s version asked ≡ Ok after → IsSound after
-  update_sound s after version asked open_ sound e = go (nat_lt (document l s).last version) refl e
-    where
-      made : (b : Buffer) → prepared s.buffer (length (document l s).live) asked ≡ Ok b → (document l s).last < version
-          → (over : Bool) → runs_out (document l s) b ≡ over
-          → ◌≡◌ {A = Result Session Refusal} (if over then Err Limit else Ok (with_buffer s version b)) (Ok after) → IsSound after
-      made b is newer true over e = absurd (cc)
-      made b is newer false over e =
-          let same : with_buffer s version b ≡ after = cc in
-          let numbers : (assignment_of (document l s) b.nodes b.document.blobs).next ≤ id_end = ltb-false id_end _ over in
-          subst IsSound same (record {
-            legal = (sound.legal, (open_, laws.fits s.buffer b (document l s) (length (document l s).live) version asked sound.agree is newer numbers));
-            agree = laws.kept s.buffer b (document l s) (length (document l s).live) version asked
-                (is_open l s.events (document l s).homes) sound.agree is;
-          })
-
-      prep : (o : Result Buffer Refusal) → prepared s.buffer (length (document l s).live) asked ≡ o → (document l s).last < version
-          → (o >>= λ b. if runs_out (document l s) b then Err Limit else Ok (with_buffer s version b)) ≡ Ok after → IsSound after
-      prep (Err reason) is newer e = absurd (cc)
-      prep (Ok b) is newer e = made b is newer (runs_out (document l s) b) refl e
-
-      go : (b : Bool) → nat_lt (document l s).last version ≡ b
-          → ◌≡◌ {A = Result Session Refusal} (if b then (prepared s.buffer (length (document l s).live) asked >>= λ b.
-          if runs_out (document l s) b then Err Limit else Ok (with_buffer s version b)) else Err VersionNotHigher) (Ok after) → IsSound after
-      go false newer e = absurd (cc)
-      go true newer e = prep (prepared s.buffer (length (document l s).live) asked) refl (ltb-true (document l s).last version newer) e
-
-  cancel_sound : (s after : Session) (exec : ℕ) → has_ended s.events ≡ false → IsSound s → updating.cancelled l s exec ≡ Ok after → IsSound after
-  unfolding Stays
-  cancel_sound s after exec open_ sound e = go (is_assigned (document l s).live exec) refl e
-    where
-      go : (b : Bool) → is_assigned (document l s).live exec ≡ b
-          → ◌≡◌ {A = Result Session Refusal} (if b then Ok (with_event s (event.Cancel exec)) else Err UnknownExecution) (Ok after) → IsSound after
-      go false is e = absurd (cc)
-      go true is e =
-          let same : with_event s (event.Cancel exec) ≡ after = cc in subst IsSound same (still s (event.Cancel exec) sound (open_, is) (refl, refl))
-
-  remove_sound : (s after : Session) (ids : List ℕ) → has_ended s.events ≡ false → IsSound s → updating.removed l s ids ≡ Ok after → IsSound after
-  unfolding Stays
-  remove_sound s after ids open_ sound e = go (removing (document l s).live ids) refl e
-    where
-      go : (r : Removing) → removing (document l s).live ids ≡ r → removed_by s ids r ≡ Ok after → IsSound after
-      go (answer.Unknown id) is e = absurd (cc)
-      go answer.Tip is e = absurd (cc)
-      go answer.Removed is e =
-          let same : with_event s (event.Remove ids) ≡ after = cc in subst IsSound same (still s (event.Remove ids) sound (open_, is) (refl, refl))
-
-  -- a session that changes in other things alone
-  other_sound : (s after : Session) → IsSound s → after.events ≡ s.events → after.buffer ≡ s.buffer → IsSound after
-  other_sound s after sound events same = record {
-    legal = subst (IsLegalList l) (sym events) sound.legal;
-    agree = subst (λ b. Agrees b (document l after)) (sym same) (subst (λ h. Agrees s.buffer (doc l h)) (sym events) sound.agree);
-  }
-
-  accepted_sound : (service : Service) (s after : Session) (m : EditorMessage) → has_ended s.events ≡ false → IsSound s
-      → accepted l service s m ≡ Ok after → IsSound after
+  accepted_sound : (service : Service) (s after : Session) (m : EditorMessage) → has_ended s.events ≡ false → IsSound l laws s
+      → accepted l service s m ≡ Ok after → IsSound l laws after
   accepted_sound service s after (asks.Update version items blobs) open_ sound e =
-      update_sound s after version (record { items = items; blobs = blobs }) open_ sound e
+      update_sound l laws s after version (record { items = items; blobs = blobs }) open_ sound e
   accepted_sound service s after (asks.Snapshot version node edits) open_ sound e = go (looked_at l s version node edits) e
     where
-      go : (o : Result Looked Refusal) → (o >>= λ looked. Ok s) ≡ Ok after → IsSound after
+      go : (o : Result Looked Refusal) → (o >>= λ looked. Ok s) ≡ Ok after → IsSound l laws after
       go (Err reason) e = absurd (cc)
-      go (Ok looked) e = let same : s ≡ after = cc in subst IsSound same sound
-  accepted_sound service s after (asks.Cancel exec) open_ sound e = cancel_sound s after exec open_ sound e
-  accepted_sound service s after (asks.RemoveVersions versions) open_ sound e = remove_sound s after versions open_ sound e
+      go (Ok looked) e = let same : s ≡ after = cc in subst (IsSound l laws) same sound
+  accepted_sound service s after (asks.Cancel exec) open_ sound e = cancel_sound l laws s after exec open_ sound e
+  accepted_sound service s after (asks.RemoveVersions versions) open_ sound e = remove_sound l laws s after versions open_ sound e
   accepted_sound service s after (asks.Settle version) open_ sound e = go (settles l service s version) e
     where
-      go : (o : Result Version Refusal) → (o >>= λ settling. Ok s) ≡ Ok after → IsSound after
+      go : (o : Result Version Refusal) → (o >>= λ settling. Ok s) ≡ Ok after → IsSound l laws after
       go (Err reason) e = absurd (cc)
-      go (Ok settling) e = let same : s ≡ after = cc in subst IsSound same sound
+      go (Ok settling) e = let same : s ≡ after = cc in subst (IsSound l laws) same sound
   accepted_sound service s after (asks.Protocol protocol) open_ sound e = go s.called e
     where
-      go : (b : Bool) → ◌≡◌ {A = Result Session Refusal} (if b then Err ProtocolFixed else Ok (record s { protocol = protocol })) (Ok after) → IsSound after
+      go : (b : Bool) → ◌≡◌ {A = Result Session Refusal} (if b then Err ProtocolFixed else Ok (record s { protocol = protocol })) (Ok after) → IsSound l laws after
       go true e = absurd (cc)
-      go false e = let same : record s { protocol = protocol } ≡ after = cc in subst IsSound same (other_sound s (record s { protocol = protocol }) sound refl refl)
+      go false e = let same : record s { protocol = protocol } ≡ after = cc in subst (IsSound l laws) same (other_sound l laws s (record s { protocol = protocol }) sound refl refl)
   accepted_sound service s after (asks.Claim w) open_ sound e = go (is_some (held s.events w) || is_none (first_ready l s.events)) e
     where
-      go : (b : Bool) → ◌≡◌ {A = Result Session Refusal} (if b then Err NothingToStep else Ok s) (Ok after) → IsSound after
+      go : (b : Bool) → ◌≡◌ {A = Result Session Refusal} (if b then Err NothingToStep else Ok s) (Ok after) → IsSound l laws after
       go true e = absurd (cc)
-      go false e = let same : s ≡ after = cc in subst IsSound same sound
+      go false e = let same : s ≡ after = cc in subst (IsSound l laws) same sound
   accepted_sound service s after (asks.Finish w) open_ sound e = go (is_some (held s.events w)) e
     where
-      go : (b : Bool) → ◌≡◌ {A = Result Session Refusal} (if b then Ok s else Err NothingToStep) (Ok after) → IsSound after
-      go true e = let same : s ≡ after = cc in subst IsSound same sound
+      go : (b : Bool) → ◌≡◌ {A = Result Session Refusal} (if b then Ok s else Err NothingToStep) (Ok after) → IsSound l laws after
+      go true e = let same : s ≡ after = cc in subst (IsSound l laws) same sound
       go false e = absurd (cc)
   accepted_sound service s after (asks.Theory node text) open_ sound e = absurd (cc)
 
-  answered_sound : (s : Session) (o : Result Session Refusal) → IsSound s → ((after : Session) → o ≡ Ok after → IsSound after) → IsSound (answered s o)
-  answered_sound s (Ok after) sound each = let is = each after refl in other_sound after (record after { called = true }) is refl refl
-  answered_sound s (Err reason) sound each = other_sound s (record s { called = true }) sound refl refl
+  answered_sound : (s : Session) (o : Result Session Refusal) → IsSound l laws s → ((after : Session) → o ≡ Ok after → IsSound l laws after) → IsSound l laws (answered s o)
+  answered_sound s (Ok after) sound each = let is = each after refl in other_sound l laws after (record after { called = true }) is refl refl
+  answered_sound s (Err reason) sound each = other_sound l laws s (record s { called = true }) sound refl refl
 
-  taken_sound : (service : Service) (s after : Session) (read : Result EditorMessage Refusal) → has_ended s.events ≡ false → IsSound s
-      → taken l service s read ≡ Ok after → IsSound after
+  taken_sound : (service : Service) (s after : Session) (read : Result EditorMessage Refusal) → has_ended s.events ≡ false → IsSound l laws s
+      → taken l service s read ≡ Ok after → IsSound l laws after
   taken_sound service s after (Ok m) open_ sound e = accepted_sound service s after m open_ sound e
   taken_sound service s after (Err reason) open_ sound e = absurd (cc)
 
-  pub all_legal : (service : Service) (h : List Heard) → IsLegal l service h → IsSound (session l service h)
-  unfolding Stays
+  pub all_legal : (service : Service) (h : List Heard) → IsLegal l service h → IsSound l laws (session l service h)
   all_legal service [] legal = record { legal = tt; agree = laws.begins }
   all_legal service (Message read ∷ h) legal =
       let s = session l service h in
       let sound = all_legal service h legal.0 in
       answered_sound s (taken l service s read) sound (λ after e. taken_sound service s after read legal.1.0 sound e)
   all_legal service (Claimed who part ∷ h) legal =
-      still (session l service h) (event.Claimed who part) (all_legal service h legal.0) legal.1.0 (refl, refl)
+      still l laws (session l service h) (event.Claimed who part) (all_legal service h legal.0) legal.1.0 (refl, refl)
   all_legal service (Finished who part ∷ h) legal =
-      still (session l service h) (event.Finished who part) (all_legal service h legal.0) (legal.1.0, legal.1.1) (refl, refl)
+      still l laws (session l service h) (event.Finished who part) (all_legal service h legal.0) (legal.1.0, legal.1.1) (refl, refl)
   all_legal service (Dropped who part ∷ h) legal =
-      still (session l service h) (event.Dropped who part) (all_legal service h legal.0) (legal.1.0, legal.1.1) (refl, refl)
+      still l laws (session l service h) (event.Dropped who part) (all_legal service h legal.0) (legal.1.0, legal.1.1) (refl, refl)
   all_legal service (Ended ∷ h) legal =
-      still (session l service h) event.Ended (all_legal service h legal.0) legal.1.0 (refl, refl)
+      still l laws (session l service h) event.Ended (all_legal service h legal.0) legal.1.0 (refl, refl)

@@ -1,1 +1,2 @@
+mod SoundSteps
 mod Events
