@@ -4,17 +4,14 @@ use Rattle.nj_kernel.specs.declared.rule.Rule.{Rule}
 use Rattle.proof_terms.specs.declared.fault.TermFault.TheVariants.{ProofTooDeep}
 use Rattle.proof_terms.specs.declared.mark.Mark.{Mark}
 use Rattle.proof_terms.specs.declared.mark.Mark.TheVariants.{Opens, Closes, Name, Quoted}
-use Rattle.proof_terms.specs.declared.reader.Start.{Start}
-use Rattle.proof_terms.specs.declared.reader.Start.TheVariants as S
 use Rattle.proof_terms.specs.declared.term.Cite.{Cite}
 use Rattle.proof_terms.specs.declared.term.Term.{Term}
-use Rattle.proof_terms.specs.declared.term.Term.TheVariants.{Fact}
 use Rattle.proof_terms.specs.RuleNames.{rule_of}
 use Rattle.proof_terms.specs.Slots.{Slot, formula, object, named, proof, slots, Part, a_formula, an_object, a_name, a_proof, built}
-use Rattle.proof_terms.specs.Grammar.{IsTerm, fact, ruled, AreParts, none, then_formula, then_object, then_name, then_proof}
-use Rattle.proof_terms.specs.Reading.{Read, and_then, read_start, read_name, read_close, read_formula, read_object, read_part, read_parts, made, read_inside, read_rule, read_on, read_term}
+use Rattle.proof_terms.specs.Grammar.{IsTerm, ruled, AreParts, none, then_formula, then_object, then_name, then_proof}
+use Rattle.proof_terms.specs.Reading.{and_then, read_start, read_name, read_close, read_formula, read_object, read_part, read_parts, made, read_inside, read_rule, read_on, read_term}
 use Rattle.proof_terms.proofs.StepLemmas.{parted, same_first, same_rest}
-use Rattle.proof_terms.proofs.TakenMarks.{Front, formula_front, object_front, name_front, close_front, StartsSo, start_front}
+use Rattle.proof_terms.proofs.TakenMarks.{Front, formula_front, object_front, name_front, close_front, start_front, begun}
 
 module _ (n : ℕ) (sub : (ms : List Mark) (t : Term) (rest : List Mark) → read_term n ms ≡ Ok (t, rest) → Front (λ front. IsTerm n front t) ms rest) where
   -- one part in front of others
@@ -67,18 +64,6 @@ module _ (n : ℕ) (sub : (ms : List Mark) (t : Term) (rest : List Mark) → rea
 built_is : (o : Option Term) (more : List Mark) (t : Term) (rest : List Mark) → made o more ≡ Ok (t, rest) → (o ≡ Some t) × (more ≡ rest)
 built_is None more t rest e = cc
 built_is (Some u) more t rest e = (ap Some (same_first e), same_rest e)
-
--- a term behind what it begins with
-begun : (n : ℕ) (next : Rule → List Mark → Read Term) (s : Start) (ms more : List Mark) (t : Term) (rest : List Mark) → StartsSo s ms more → read_on next s more ≡ Ok (t, rest)
-    → ((r : Rule) (c : Cite) → ms ≡ Opens ∷ Name c ∷ more → rule_of c.name ≡ Some r → next r more ≡ Ok (t, rest) → Front (λ front. IsTerm n front t) ms rest)
-    → Front (λ front. IsTerm n front t) ms rest
-unfolding StartsSo
-begun n next (S.Fact c) ms more t rest so e ruled_so = record {
-  front = so.0 ∷ [];
-  cut = so.1 ∙ ap (λ z. so.0 ∷ z) (same_rest e);
-  is = subst (λ z. IsTerm n (so.0 ∷ []) z) (same_first e) (fact so.2);
-}
-begun n next (S.Rule r) ms more t rest so e ruled_so = ruled_so r so.0 so.1 so.2 e
 
 in_rule : (n : ℕ) (sub : (ms : List Mark) (t : Term) (rest : List Mark) → read_term n ms ≡ Ok (t, rest) → Front (λ front. IsTerm n front t) ms rest)
     (r : Rule) (c : Cite) (ms more : List Mark) (t : Term) (rest : List Mark) → ms ≡ Opens ∷ Name c ∷ more → rule_of c.name ≡ Some r

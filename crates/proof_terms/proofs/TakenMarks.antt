@@ -1,5 +1,5 @@
 -- What a step of the reading has taken, by the marks at the front.
-use Rattle.std.proofs.Common.{◌≡◌, ℕ, List, ◌∷◌, ◌++◌, Option, Some, None, Result, Ok, Err, ap, subst, ◌∙◌}
+use Rattle.std.proofs.Common.{◌≡◌, ℕ, List, ◌∷◌, ◌++◌, Option, Some, None, Result, Ok, Err, ap, subst, ◌∙◌, []}
 use Rattle.nj_formula.specs.declared.argument.Argument.{Argument}
 use Rattle.nj_formula.specs.declared.formula.Formula.{Formula}
 use Rattle.nj_kernel.specs.declared.rule.Rule.{Rule}
@@ -12,9 +12,10 @@ use Rattle.proof_terms.specs.declared.reader.Start.TheVariants as S
 use Rattle.proof_terms.specs.declared.term.Cite.{Cite}
 use Rattle.proof_terms.specs.declared.term.Term.TheVariants.{Fact}
 use Rattle.proof_terms.specs.RuleNames.{rule_of}
-use Rattle.proof_terms.specs.Grammar.{IsCite, by_name, by_long_name}
-use Rattle.proof_terms.specs.Reading.{of_name, read_rule_name, read_start, read_name, read_close, unquoted, read_formula, read_object}
+use Rattle.proof_terms.specs.Grammar.{IsCite, by_name, by_long_name, IsTerm, fact}
+use Rattle.proof_terms.specs.Reading.{of_name, read_rule_name, read_start, read_name, read_close, unquoted, read_formula, read_object, Read, read_on}
 use Rattle.proof_terms.proofs.StepLemmas.{parted, same_first, same_rest}
+use Rattle.proof_terms.specs.declared.term.Term.{Term}
 
 -- a front of the tokens is so, and the others are left
 pub record Front (Is : List Mark → Type 0) (ms last : List Mark) : Type 0 where
@@ -70,3 +71,15 @@ start_front (Opens ∷ more) s rest e =
     subst (λ z. StartsSo z (Opens ∷ more) rest) (same_first p.so)
     (f.0, ap (λ z. Opens ∷ z) (f.1 ∙ ap (λ z. Name f.0 ∷ z) (same_rest p.so)), f.2)
 start_front _ s rest e = cc
+
+-- a term behind what it begins with
+pub begun : (n : ℕ) (next : Rule → List Mark → Read Term) (s : Start) (ms more : List Mark) (t : Term) (rest : List Mark) → StartsSo s ms more → read_on next s more ≡ Ok (t, rest)
+    → ((r : Rule) (c : Cite) → ms ≡ Opens ∷ Name c ∷ more → rule_of c.name ≡ Some r → next r more ≡ Ok (t, rest) → Front (λ front. IsTerm n front t) ms rest)
+    → Front (λ front. IsTerm n front t) ms rest
+unfolding StartsSo
+begun n next (S.Fact c) ms more t rest so e ruled_so = record {
+  front = so.0 ∷ [];
+  cut = so.1 ∙ ap (λ z. so.0 ∷ z) (same_rest e);
+  is = subst (λ z. IsTerm n (so.0 ∷ []) z) (same_first e) (fact so.2);
+}
+begun n next (S.Rule r) ms more t rest so e ruled_so = ruled_so r so.0 so.1 so.2 e
