@@ -226,7 +226,7 @@ fn relex(
     ensures front { IfOk result (λ r. r.front ≡ front_in edit.now old.now.tokens) }
     ensures back { IfOk result (λ r. r.back
         ≡ back_in edit.now was.len old.now.tokens
-            (record { text = text.now; aliases = aliases.now })) }
+        (record { text = text.now; aliases = aliases.now })) }
 {
     let kept = old.tokens();
     let change = Change::of(edit);

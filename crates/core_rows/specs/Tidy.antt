@@ -22,7 +22,7 @@ alike j k source m n = inr (inr (inl (omega arith, omega arith)))
 abbrev reports_by : List ℕ → Bool → ℕ → ℕ → List Report
 reports_by source forks before behind =
     (about report.Command source behind
-        ++ (if forks then about report.Proved source before else []))
+    ++ (if forks then about report.Proved source before else []))
     ++ about report.State source behind
 
 lie_by : (source : List ℕ) (forks : Bool) (before behind : ℕ)

@@ -80,8 +80,8 @@ impl Sink for MemSink {
 
     fn push(&mut self, piece: &[u8]) -> Pushed
         requires { 0 < length piece.now }
-        ensures bytes {
-          PushedSo (Some self.old.contents) (Some self.new.contents) piece.now result }
+        ensures bytes { PushedSo (Some self.old.contents) (Some self.new.contents)
+            piece.now result }
         ensures steady { self.old.faults ≤ self.new.faults }
         ensures cause { result ≡ Pushed.Failed → Rose self.old.faults self.new.faults }
         ensures exact { Pushes self.old piece.now result self.new }

@@ -17,7 +17,7 @@ abbrev pub update_message : List (List ℕ)
 update_message =
     codes "Session.update" ∷ codes "1"
     ∷ (marked "{|:{{|:{A{|{{|:{{|0{{|:{{|:{{|0|0=0{theory A begin lemma l: \"P --> P\" by (impI "
-        ++ marked "h h) end{|{{|{{|{{|:{{|:{{|:{1{|{{|:{{|{{|{{|{{|{{|{{|{")
+    ++ marked "h h) end{|{{|{{|{{|:{{|:{{|:{1{|{{|:{{|{{|{{|{{|{{|{{|{")
     ∷ []
 
 abbrev pub settle_message : List (List ℕ)

@@ -35,7 +35,7 @@ SaysFixed x p text = (y : List ℕ) × (body : List ℕ) × IsPrimed [] x (meani
 abbrev pub SaysAssumed : Formula → Formula → List ℕ → Type 0
 SaysAssumed a c =
     Then (Word (codes "assume "))
-        (Then (SaysFormula a) (Then (Word (codes " show ")) (SaysFormula c)))
+    (Then (SaysFormula a) (Then (Word (codes " show ")) (SaysFormula c)))
 
 -- the text is what is left to show
 abbrev pub SaysSubgoal : Subgoal → List ℕ → Type 0

@@ -15,7 +15,6 @@ abbrev pub changed_in : {A : Type 0} → (ℕ → A → A) → List ℕ → (ℕ
 changed_in step ds f e = cond (has ds e) (step e (f e)) (f e)
 
 module _ {A : Type 0} (step : ℕ → A → A) (again : (e : ℕ) (a : A) → step e (step e a) ≡ step e a) where
-
   -- one more
   pub changed_more : (ds : List ℕ) (x e : ℕ) (f g k : ℕ → A) → ((n : ℕ) → g n ≡ changed_in step ds f n)
       → ((n : ℕ) → k n ≡ cond (x == n) (step x (g x)) (g n)) → k e ≡ changed_in step (ds ++ x ∷ []) f e

@@ -12,5 +12,5 @@ is_cut-at_key total key = record {
   behind = λ one other rise greater.
       total.antisymm other key
       ∙ ap ordering_reverse
-          (total.trans key one other (total.antisymm key one ∙ ap ordering_reverse greater) rise);
+      (total.trans key one other (total.antisymm key one ∙ ap ordering_reverse greater) rise);
 }

@@ -58,7 +58,7 @@ module _ (aliases : List (List ℕ)) where
     abbrev pub introduced : Formula-F Formula → Option Term
     introduced (Formula-F.Implies a b) =
         by_rule R.ImpI
-            (option_map (ImpI (next_name aliases names)) (sub (assuming aliases names a) b))
+        (option_map (ImpI (next_name aliases names)) (sub (assuming aliases names a) b))
     introduced (Formula-F.Not a) = by_rule R.NotI
         (option_map (NotI (next_name aliases names)) (sub (assuming aliases names a) F.False))
     introduced (Formula-F.And a b) = by_rule R.ConjI (both ConjI (sub names a) (sub names b))

@@ -21,7 +21,7 @@ swap =
 abbrev pub peirce : Formula
 peirce =
     Implies (Implies (Implies (prop (codes "P")) (prop (codes "Q"))) (prop (codes "P")))
-        (prop (codes "P"))
+    (prop (codes "P"))
 
 -- a name that stands nowhere
 abbrev pub fact : List ℕ → Term

@@ -19,4 +19,4 @@ told (Found theory name formula) = found (option_copied theory) name.now formula
 told Unknown = unknown
 told (Ambiguous first second) =
     ambiguous (long_name first.theory.now first.name.now)
-        (long_name second.theory.now second.name.now)
+    (long_name second.theory.now second.name.now)

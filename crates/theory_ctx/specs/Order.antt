@@ -51,7 +51,7 @@ is_cut-to_name n = record {
     back one other greater Less e rise =
         nat_list_cmp_total.antisymm other.name n
         ∙ ap ordering_reverse (nat_list_cmp_total.trans n one.name other.name
-            (nat_list_cmp_total.antisymm n one.name ∙ ap ordering_reverse greater) e)
+        (nat_list_cmp_total.antisymm n one.name ∙ ap ordering_reverse greater) e)
     back one other greater Equal e rise =
         sym (nat_list_cmp_total.congr one.name other.name n e) ∙ greater
     back one other greater Greater e rise = cc

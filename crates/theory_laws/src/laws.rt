@@ -35,7 +35,7 @@ pub fn node_law()
 pub fn sound_law()
     ensures { (nodes : NodeList) (blobs : BlobList) → AllByRecursion (λ one.
         AreCleanFrom nodes blobs one.0
-            → FactsFollow (IsAxiomFrom nodes blobs one.0) (final isar one.1))
+        → FactsFollow (IsAxiomFrom nodes blobs one.0) (final isar one.1))
         (scratch isar nodes blobs) }
 {
     kept_law();

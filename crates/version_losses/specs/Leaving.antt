@@ -40,7 +40,7 @@ left_from ids whole n carried (loss ∷ later) = if is_named ids loss.id
     then left_from ids false n (carried ++ below n loss.lost) later
     else (if whole then loss ∷ left_from ids true loss.next carried later
     else record loss { lost = carried ++ below n loss.lost }
-        ∷ left_from ids true loss.next [] later)
+    ∷ left_from ids true loss.next [] later)
 
 -- what goes: what was lost from n on
 abbrev pub gone_from : List ℕ → Bool → ℕ → List Loss → List ℕ

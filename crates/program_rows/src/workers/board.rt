@@ -82,9 +82,9 @@ impl Turn<Board> for Take {
 
     ghost gives = { λ c b a d. MatchResult a
         (λ t. d.marks.items ≡ b.marks.items
-            ++ record { by = c.by; what = said.Claimed t.part; byte = None } ∷ [])
+        ++ record { by = c.by; what = said.Claimed t.part; byte = None } ∷ [])
         (λ s. (d.marks.items ≡ b.marks.items)
-            × MatchOption s (Unit {0}) (λ m. Contains d.marks.items m)) };
+        × MatchOption s (Unit {0}) (λ m. Contains d.marks.items m)) };
 
     fn run(self, board: &mut Board) -> Result<Task, Option<Mark>> {
         if let Some(mark) = board.last_word() {
@@ -144,9 +144,9 @@ impl Turn<Board> for Send {
 
     ghost gives = { λ c b a d. MatchResult a
         (λ x. d.marks.items ≡ b.marks.items
-            ++ record { by = c.by; what = said.Sent; byte = Some x } ∷ [])
+        ++ record { by = c.by; what = said.Sent; byte = Some x } ∷ [])
         (λ s. (d.marks.items ≡ b.marks.items)
-            × MatchOption s (Unit {0}) (λ m. Contains d.marks.items m)) };
+        × MatchOption s (Unit {0}) (λ m. Contains d.marks.items m)) };
 
     fn run(self, board: &mut Board) -> Result<u8, Option<Mark>> {
         if board.sent == board.finished() {
@@ -197,7 +197,7 @@ impl Turn<Board> for End {
 
     ghost gives = { λ c b a d. MatchOption a (d.marks.items ≡ b.marks.items)
         (λ _. d.marks.items ≡ b.marks.items
-            ++ record { by = c.by; what = said.Ended; byte = None } ∷ []) };
+        ++ record { by = c.by; what = said.Ended; byte = None } ∷ []) };
 
     fn run(self, board: &mut Board) -> Option<()> {
         let End { by, tasks } = self;

@@ -47,12 +47,12 @@ module _ (R S : RattleType) (h : R.Denot → S.Denot) where
     mir_same = λ i. (arc_of (one_value R (a.mir_same i) (λ _. ftrue) (λ _ _. nothing) gnil)).mir;
     own_same = λ b i.
         (arc_of
-            (one_value R (a.mir_same i) (a.own_same b.value i) (a.shr_same b.value i) gnil)).own_val
-            (with_value b tt);
+        (one_value R (a.mir_same i) (a.own_same b.value i) (a.shr_same b.value i) gnil)).own_val
+        (with_value b tt);
     shr_same = λ b i.
         (arc_of
-            (one_value R (a.mir_same i) (a.own_same b.value i) (a.shr_same b.value i) gnil)).shr_at
-            (with_value b tt);
+        (one_value R (a.mir_same i) (a.own_same b.value i) (a.shr_same b.value i) gnil)).shr_at
+        (with_value b tt);
   }
 
   pub the_places : Alike R S h
@@ -63,7 +63,7 @@ module _ (R S : RattleType) (h : R.Denot → S.Denot) where
       (λ u p q. refl) (λ u p q. refl) (λ u e. tt) (λ u e. tt)
       (over (I.the_row R)) (over (I.the_row S))
       (struct_places (I.the_type R) (I.the_type S) ((λ b. with_value b (h b.value)), tt) _
-          (λ d. refl) refl (laid _ _ _ (arc_places a), tt))
+      (λ d. refl) refl (laid _ _ _ (arc_places a), tt))
 
   pub the_codes_placed : Recodes R S h
       → Recodes (C.the_row R) (C.the_row S) ((the_former this).map R.Denot S.Denot h)
