@@ -21,6 +21,7 @@ use Rattle.buffer_rules.specs.Nodes.{uncut}
 use Rattle.sheet_edits.specs.declared.fault.PrepareError.{PrepareError}
 use Rattle.sheet_edits.specs.OpenSheet.{OpenSheet}
 use Rattle.sheet_edits.specs.Telling.{Tells}
+use Rattle.sheet_edits.proofs.KnownTelling.{told_then}
 use Rattle.document_edits.specs.Standing.{OpenList, sheets_of, bare, DraftedUnder, Drafted}
 use Rattle.document_edits.proofs.KeyLists.{found-over, over-put, over-without}
 use Rattle.document_edits.proofs.PairLists.{AllZip-put, AllZip-without}
@@ -128,3 +129,6 @@ item_edited name edits told sheets new s made e =
 pub next_item : (item : Item) (more : List Item) (sheets after : SheetList) (whole : Result SheetList Refusal)
     → steps item_once (item ∷ more) sheets ≡ whole → item_once item sheets ≡ Ok after → steps item_once more after ≡ whole
 next_item item more sheets after whole same once = sym (ap (λ r. r >>= steps item_once more) once) ∙ same
+
+-- what an item makes of its sheet, and a refusal of the first step is that of all
+pub ruleset item_steps = (item_edited, told_then)

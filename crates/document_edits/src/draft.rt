@@ -110,7 +110,7 @@ impl Draft {
     }
 
     /// After one item. At an error all is let go.
-    #[tactic(auto, using(crate::proofs::DraftLemmas::item_edited, sheet_edits::proofs::KnownTelling::told_then))]
+    #[tactic(auto, using(crate::proofs::DraftLemmas::item_steps))]
     fn with_item(self, alloc: Global, item: &Item) -> Result<Draft, PrepareError>
         ensures opened { Tells (λ draft. sheets_of draft.opened) result
             (item_once item.now (sheets_of self.opened)) }
