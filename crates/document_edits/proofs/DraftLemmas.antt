@@ -132,3 +132,12 @@ next_item item more sheets after whole same once = sym (ap (λ r. r >>= steps it
 
 -- what an item makes of its sheet, and a refusal of the first step is that of all
 pub ruleset item_steps = (item_edited, told_then)
+
+-- what a blank sheet makes, and the first refusal
+pub ruleset blank_steps = (sheet_told, blank_told)
+
+-- a sheet is put among the others, and its node
+pub ruleset put_steps = (sheets_put_so, drafted_put_so)
+
+-- a sheet is closed, and its node goes
+pub ruleset closing_steps = (closed_so, unknown, drafted_without_so)

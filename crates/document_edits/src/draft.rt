@@ -36,7 +36,7 @@ pub struct Draft {
 }
 
 /// The node of the name after edits and a perspective, if there is one. It begins blank.
-#[tactic(auto, using(crate::proofs::DraftLemmas::sheet_told, crate::proofs::DraftLemmas::blank_told))]
+#[tactic(auto, using(crate::proofs::DraftLemmas::blank_steps))]
 fn edited_node(
     alloc: Global,
     opened: &OpenNodes,
@@ -56,7 +56,7 @@ fn edited_node(
 
 impl Draft {
     /// With an open node in the place of the one of its name.
-    #[tactic(auto, using(crate::proofs::DraftLemmas::sheets_put_so, crate::proofs::DraftLemmas::drafted_put_so))]
+    #[tactic(auto, using(crate::proofs::DraftLemmas::put_steps))]
     fn with_node(self, alloc: Global, name: &NodeName, node: OpenNode) -> Result<Draft, AllocError>
         requires { node.cut_under ≡ None }
         ensures opened { IfOk result (λ draft. sheets_of draft.opened
@@ -83,7 +83,7 @@ impl Draft {
     }
 
     /// Without the node of the name.
-    #[tactic(auto, using(crate::proofs::DraftLemmas::closed_so, crate::proofs::DraftLemmas::unknown, crate::proofs::DraftLemmas::drafted_without_so))]
+    #[tactic(auto, using(crate::proofs::DraftLemmas::closing_steps))]
     fn without_node(self, alloc: Global, name: &NodeName) -> Result<Draft, PrepareError>
         ensures opened { Tells (λ draft. sheets_of draft.opened) result
             (change_one name.now Change.Close (sheets_of self.opened)) }

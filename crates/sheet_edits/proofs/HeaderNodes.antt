@@ -33,3 +33,6 @@ pub uncut_none : {E : Type 0} → ((t : List ℕ) → HasNoHeader t ↔ (header_
 uncut_none law sheet r has made =
     IfOk-weaker r (λ (n : Node). n ≡ of_header sheet None) (λ (n : Node). n ≡ uncut sheet)
     (λ n e. e ∙ ap (of_header sheet) (sym ((law sheet.text).0 has))) made
+
+-- the node of a header, and of none
+pub ruleset uncut_steps = (uncut_some, uncut_none)

@@ -61,3 +61,6 @@ another (Remove start x) text at (within, k, place, first) =
     cond-false (nat_lt (length text) (start + length x)) (Err EditOutOfRange)
     (cond (differs (Remove start x) text) (Err RemoveDiffers) (Ok (edited (Remove start x) text))) inside
     ∙ cond-true (differs (Remove start x) text) (Err RemoveDiffers) (Ok (edited (Remove start x) text)) unlike
+
+-- an edit that is made, or refused
+pub ruleset edit_steps = (makes, out_of_range, another)

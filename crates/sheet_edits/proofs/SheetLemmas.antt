@@ -115,3 +115,9 @@ whole_so sheet text cuts ranges same are own all = record {
   are_cuts = subst (λ t. AreCutsOf t cuts) (sym same) own;
   ranges_are = subst (λ t. AreWithin (length t) sheet.ranges) (sym same) (subst (AreWithin (length text)) (sym are) all);
 }
+
+-- a perspective is shown, or refused
+pub ruleset shown_steps = (all_inside, told_then, shown_outside, shown_told)
+
+-- a perspective moves with its text
+pub ruleset moved_steps = (filled_so, told_then, moved_told)

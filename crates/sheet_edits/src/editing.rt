@@ -69,7 +69,7 @@ fn reparsed(alloc: Global, old: &Spans, text: Held<'_>, edit: &Edit) -> Result<R
 }
 
 /// The same, or why the edit is refused.
-#[tactic(auto, using(crate::proofs::KnownEditSteps::makes, crate::proofs::KnownEditSteps::out_of_range, crate::proofs::KnownEditSteps::another))]
+#[tactic(auto, using(crate::proofs::KnownEditSteps::edit_steps))]
 fn edited_once(
     alloc: Global,
     old: &Spans,

@@ -35,7 +35,7 @@ fn bare_node(
 
 /// The node of a sheet, with the imports and keyword pairs of its header and no commands yet. No
 /// more of the text is read than its header.
-#[tactic(auto, using(crate::proofs::HeaderNodes::uncut_some, crate::proofs::HeaderNodes::uncut_none))]
+#[tactic(auto, using(crate::proofs::HeaderNodes::uncut_steps))]
 pub fn uncut(alloc: Global, sheet: &Sheet) -> Result<Node, AllocError>
     ensures { IfOk result (λ node. node ≡ uncut sheet.now) }
 {

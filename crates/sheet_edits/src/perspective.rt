@@ -75,7 +75,7 @@ fn node_of(
 
 impl OpenNode {
     /// The node after the edits, under a perspective that is told.
-    #[tactic(auto, using(crate::proofs::SheetLemmas::all_inside, crate::proofs::KnownTelling::told_then, crate::proofs::SheetLemmas::shown_outside, crate::proofs::SheetLemmas::shown_told))]
+    #[tactic(auto, using(crate::proofs::SheetLemmas::shown_steps))]
     fn shown(
         &self,
         alloc: Global,
@@ -102,7 +102,7 @@ impl OpenNode {
     }
 
     /// The node after the edits, under what they make of its perspective.
-    #[tactic(auto, using(crate::proofs::SheetLemmas::filled_so, crate::proofs::KnownTelling::told_then, crate::proofs::SheetLemmas::moved_told))]
+    #[tactic(auto, using(crate::proofs::SheetLemmas::moved_steps))]
     fn moved(&self, alloc: Global, edits: &[Edit]) -> Result<OpenNode, PrepareError>
         ensures node { Tells (λ node. node.sheet) result
             (sheet_after edits.now None self.now.sheet) }
