@@ -9,5 +9,5 @@ mod opened;
 mod results;
 mod shown;
 
-pub use opened::open_in;
+pub use opened::{open_among, open_in};
 pub use results::{NodeResults, PartResult, results_at};

@@ -26,7 +26,7 @@ pub fn open_in<R>(
 {
     let mut all = Vec::new(alloc);
     add_version(&mut all, version)?;
-    Ok(rising(open_of(alloc, execs, &all)?))
+    open_among(alloc, execs, &all)
 }
 
 /// The executions of these rows with an unfinished part, rising.
@@ -42,7 +42,20 @@ pub(crate) fn pending_in<R>(
 {
     let mut all = Vec::new(alloc);
     add_rows(&mut all, rows)?;
-    Ok(rising(open_of(alloc, execs, &all)?))
+    open_among(alloc, execs, &all)
+}
+
+/// Those of these executions that have an unfinished part, rising.
+pub fn open_among<R>(
+    alloc: Global,
+    execs: &Execs<R>,
+    all: &[ExecId],
+) -> Result<Vec<ExecId>, AllocError>
+    ensures rises { IfOk result (λ found. IsStrictlyIncreasing found.items) }
+    ensures same { IfOk result (λ found. (e : ℕ) → has found.items e
+        ≡ has (filter (λ n. is_unfinished (execution_of execs.now.rows n)) all.now) e) }
+{
+    Ok(rising(open_of(alloc, execs, all)?))
 }
 
 /// Those of these executions that have an unfinished part.

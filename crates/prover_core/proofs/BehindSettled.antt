@@ -1,8 +1,6 @@
 -- How far a live version is, by what is ready and held below its number.
-use Rattle.std.proofs.Common.{◌≡◌, ◌↔◌, ℕ, ◌<◌, ◌≤◌, true, false, List, filter, Option, Some, ap, sym, subst, ◌∙◌}
+use Rattle.std.proofs.Common.{◌≡◌, ◌↔◌, ℕ, ◌<◌, ◌≤◌, true, false, List, Option, Some, ap, sym, subst, ◌∙◌}
 use Rattle.std.specs.Prelude.{is_some, slice_get}
-use Rattle.std.specs.List.Sorted.{IsStrictlyIncreasing}
-use Rattle.import_rounds.specs.Rounds.{has}
 use Rattle.pide_base.specs.declared.part.Part.{Part}
 use Rattle.task_queue.specs.Ready.{IsReadyPart}
 use Rattle.doc_versions.specs.declared.versions.Live.{Live}
@@ -10,7 +8,7 @@ use Rattle.doc_versions.specs.Live.{version_of}
 use Rattle.exec_rules.specs.declared.version.Version.{Version}
 use Rattle.language.specs.Lang.{Lang}
 use Rattle.core_rules.specs.declared.event.Event.{Event}
-use Rattle.core_rules.specs.Assigned.{executions_of, assigns, is_assigned}
+use Rattle.core_rules.specs.Assigned.{assigns, is_assigned}
 use Rattle.core_rules.specs.Standing.{Held, standing, is_free, held, is_open}
 use Rattle.core_rules.specs.Doc.{doc}
 use Rattle.core_rules.specs.Legal.{IsLegal}
@@ -18,7 +16,6 @@ use Rattle.core_rules.specs.Ready.{is_wanted, has_inputs}
 use Rattle.core_rules.specs.Sources.{HasHome}
 use Rattle.core_rules.specs.Stuck.{is_settled, stuck_in}
 use Rattle.prover_core.specs.Kept.{Tables, IsKept, IsBehind}
-use Rattle.exec_lists.specs.Parts.{is_unfinished}
 use Rattle.prover_core.specs.Settling.{IsLeft, IsSettled}
 use Rattle.version_losses.specs.Losses.{number_of}
 use Rattle.prover_core.proofs.LossesBehind.{behind_of}
@@ -26,7 +23,6 @@ use Rattle.prover_core.proofs.TipLive.{Laws, laws_of}
 use Rattle.prover_core.proofs.NodeShown.{found_assigns}
 use Rattle.prover_core.proofs.LiveIds.{live_place}
 use Rattle.prover_core.proofs.LeftParts.{ready_left, held_left, settled_so}
-use Rattle.prover_core.proofs.StuckList.{stuck_so}
 
 same_number : (o : Option ℕ) (m n : ℕ) → o ≡ Some m → o ≡ Some n → m ≡ n
 same_number o m n one other = cc
@@ -69,18 +65,17 @@ module _ {S : Type 0} (l : Lang S) (h : List Event) (t : Tables S) (k : IsKept l
           subst (λ (w : Version). HasHome l (doc l h) w e) at.3
           (homes h at.0 at.1 e k.legal at.2 (subst (λ (w : Version). assigns w e ≡ true) (sym at.3) is))
 
-  -- with what is stuck in it
-  pub settled_with : (so : IsSettled l h id) (kept : List ℕ) → IsStrictlyIncreasing kept
-      → ((e : ℕ) → has kept e ≡ has (filter (λ m. is_unfinished (t.rows m)) (executions_of v)) e)
-      → (x : IsSettled l h id) × (kept ≡ stuck_in l h (doc l h) x.version)
-  settled_with so kept rises are = (
-    so,
-    stuck_so l h t k v assigned (ap (λ w. is_settled l h (doc l h) w) same ∙ so.is_settled) kept rises are
-        ∙ ap (stuck_in l h (doc l h)) same,
-  )
-    where
-      same_found : (o : Option Version) (a b : Version) → o ≡ Some a → o ≡ Some b → a ≡ b
-      same_found o a b one other = cc
+  same_found : (o : Option Version) (a b : Version) → o ≡ Some a → o ≡ Some b → a ≡ b
+  same_found o a b one other = cc
 
-      same : v ≡ so.version
-      same = same_found (version_of (doc l h).live id) v so.version live so.live
+  -- as a settled version it is this one
+  same_version : (so : IsSettled l h id) → v ≡ so.version
+  same_version so = same_found (version_of (doc l h).live id) v so.version live so.live
+
+  pub settled_of : IsSettled l h id → is_settled l h (doc l h) v ≡ true
+  settled_of so = ap (λ w. is_settled l h (doc l h) w) (same_version so) ∙ so.is_settled
+
+  -- with what is stuck in it
+  pub settled_with : (so : IsSettled l h id) (kept : List ℕ) → kept ≡ stuck_in l h (doc l h) v
+      → (x : IsSettled l h id) × (kept ≡ stuck_in l h (doc l h) x.version)
+  settled_with so kept are = (so, are ∙ ap (stuck_in l h (doc l h)) (same_version so))

@@ -73,3 +73,5 @@ mod PlanTip
 mod PlanIs
 mod StuckList
 mod PartKinds
+mod QuietParts
+mod StuckSince

@@ -48,6 +48,11 @@ module _ {S : Type 0} (l : Lang S) (h : List Event) (t : Tables S) (k : IsKept l
   alike p q (x ∷ xs) same = ap (λ b. cond b (x ∷ filter p xs) (filter p xs)) (same x)
       ∙ ap (λ ys. cond (q x) (x ∷ ys) ys) (alike p q xs same)
 
+  -- an execution of a settled version is open where it is stuck
+  pub open_is_stuck : (e : ℕ) → assigns v e ≡ true → is_open l h (doc l h).homes e ≡ is_stuck_in l h (doc l h) e
+  open_is_stuck e is =
+      open_stuck (parts_of l (doc l h).homes e) (passed (is_over l h (doc l h)) (executions_of v) e settled is)
+
   pub stuck_so : (kept : List ℕ) → IsStrictlyIncreasing kept
       → ((e : ℕ) → has kept e ≡ has (filter (λ m. is_unfinished (t.rows m)) (executions_of v)) e)
       → kept ≡ stuck_in l h (doc l h) v
@@ -57,6 +62,5 @@ module _ {S : Type 0} (l : Lang S) (h : List Event) (t : Tables S) (k : IsKept l
     where
       by : (e : ℕ) (b : Bool) → assigns v e ≡ b
           → (assigns v e && is_open l h (doc l h).homes e) ≡ (assigns v e && is_stuck_in l h (doc l h) e)
-      by e true is = ap (λ b. assigns v e && b)
-          (open_stuck (parts_of l (doc l h).homes e) (passed (is_over l h (doc l h)) (executions_of v) e settled is))
+      by e true is = ap (λ b. assigns v e && b) (open_is_stuck e is)
       by e false is = ap (λ b. b && is_open l h (doc l h).homes e) is ∙ sym (ap (λ b. b && is_stuck_in l h (doc l h) e) is)

@@ -3,6 +3,9 @@ ghost use Rattle.std.specs.Prelude.{◌≡◌, ◌<◌, ◌≤◌, ℕ, true, fa
 ghost use Rattle.pide_base.specs.declared.part.Part.{Part};
 ghost use Rattle.task_queue.specs.Tasks.{standing};
 ghost use Rattle.task_queue.specs.Ready.{IsReadyPart, priority_of, comes_first};
+ghost use Rattle.doc_versions.specs.Live.{version_of};
+ghost use Rattle.core_rules.specs.Doc.{doc};
+ghost use Rattle.core_rules.specs.Stuck.{is_settled, stuck_in};
 ghost use Rattle.prover_core.specs.Looked.{looked};
 ghost use Rattle.prover_core.specs.Settling.{IsSettled, SettledSo};
 
@@ -10,7 +13,8 @@ use crate::following::{is_present, same};
 use crate::prover::Core;
 use crate::table::Table;
 use core_rules::{holders_law, homes_law, tip_law};
-use exec_lists::open_in;
+use exec_lists::{open_among, open_in};
+use exec_rules::Version;
 use language::Language;
 use pide_base::{ExecId, Part, VersionId};
 use std::alloc::AllocError;
@@ -48,7 +52,24 @@ impl<L: Language> Core<L> {
         if let Some(part) = held_below(&self.holders, &self.queue, behind) {
             return Ok(Settled::Left(part));
         }
-        Ok(Settled::Settled(open_in(self.alloc, &self.execs, version.get())?))
+        Ok(Settled::Settled(self.stuck(id, version.get())?))
+    }
+
+    /// What is stuck in a settled version. Where nothing of the newest version is cancelled, that
+    /// is among what newer versions lost, and nothing else is looked at.
+    fn stuck(&self, id: VersionId, version: &Version) -> Result<Vec<ExecId>, AllocError>
+        requires live { version_of (doc L.lang self.now.past).live id ≡ Some version.now }
+        requires settled { is_settled L.lang self.now.past (doc L.lang self.now.past) version.now
+            ≡ true }
+        ensures { IfOk result (λ stuck. stuck.items
+            ≡ stuck_in L.lang self.now.past (doc L.lang self.now.past) version.now) }
+    {
+        homes_law::<L>();
+        if self.quiet {
+            let lost = self.losses.lost_since(self.alloc, id)?;
+            return open_among(self.alloc, &self.execs, &lost);
+        }
+        open_in(self.alloc, &self.execs, version)
     }
 }
 

@@ -5,3 +5,4 @@ mod StillLost
 mod Carried
 mod Staying
 mod LeavingIs
+mod LostBehind

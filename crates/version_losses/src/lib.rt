@@ -9,6 +9,7 @@
 
 mod leaving;
 mod losses;
+mod since;
 mod walk;
 
 pub use leaving::Leaving;

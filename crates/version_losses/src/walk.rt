@@ -153,7 +153,11 @@ fn shared(alloc: Global, lost: Vec<ExecId>) -> Result<Shared<Items<ExecId>>, All
 }
 
 /// Adds those of the lost ones that are below the number.
-fn add_below(execs: &mut Vec<ExecId>, lost: &[ExecId], next: u64) -> Result<(), AllocError>
+pub(crate) fn add_below(
+    execs: &mut Vec<ExecId>,
+    lost: &[ExecId],
+    next: u64,
+) -> Result<(), AllocError>
     ensures { OnOk result (execs.new.items ≡ execs.old.items ++ below next lost.now) }
 {
     'executions: for exec in lost {

@@ -1,10 +1,6 @@
-use Rattle.std.proofs.Common.{◌≡◌, ◌≤◌, ◌<◌, ℕ, false, Some, None, rules, ap, sym, subst, ◌∙◌}
-use Rattle.std.specs.Prelude.{is_some, filter}
-use Rattle.import_rounds.specs.Rounds.{has}
-use Rattle.exec_table.specs.Rows.{execution_of}
-use Rattle.core_rules.specs.Assigned.{executions_of}
-use Rattle.core_rules.specs.Stuck.{stuck_in}
-use Rattle.exec_lists.specs.Parts.{is_unfinished}
+use Rattle.std.proofs.Common.{◌≡◌, ◌≤◌, ◌<◌, ℕ, true, false, Some, None, rules, ap, sym, subst, ◌∙◌}
+use Rattle.std.specs.Prelude.{is_some}
+use Rattle.core_rules.specs.Stuck.{is_settled, stuck_in}
 use Rattle.pide_base.specs.declared.part.Part.{Part}
 use Rattle.task_queue.specs.Tasks.{standing}
 use Rattle.task_queue.specs.Ready.{IsReadyPart}
@@ -15,7 +11,7 @@ use Rattle.prover_core.specs.States.{CoreState}
 use Rattle.version_losses.specs.Losses.{number_of}
 use Rattle.prover_core.specs.Looked.{looked}
 use Rattle.prover_core.specs.Settling.{IsLeft, IsSettled}
-use Rattle.prover_core.proofs.BehindSettled.{ready_is_left, held_is_left, is_settled_so, settled_with}
+use Rattle.prover_core.proofs.BehindSettled.{ready_is_left, held_is_left, is_settled_so, settled_of, settled_with}
 use Rattle.prover_core.proofs.LossesBehind.{behind_of}
 use Rattle.prover_core.proofs.EndedKept.{on_err}
 use Rattle.prover_core.proofs.prover.Core.settled.Goals as goal
@@ -64,8 +60,25 @@ returns-in-Some-held_below-clause-settled g c =
           c.in-Some-number.behind number c.in-Some-held_below.part found.2.0 found.0 found.1 found.2.1,
     )
 
-pub returns-in_err-open_in-clause-err : goal.returns-in_err-open_in-clause-err
-returns-in_err-open_in-clause-err g c =
+pub stuck-requires-clause-settled : goal.stuck-requires-clause-settled
+stuck-requires-clause-settled g c =
+    let l = g.L.Language.lang in
+    let v : Version = c.in-Some.version.now in
+    let live : version_of (doc l c.self.inside.past).live c.args.id ≡ Some v =
+    ap (λ lv. version_of lv c.args.id) (sym c.self.invariant.live) ∙ sym c.in-Some.ensures in
+    let number : number_of c.self.inside.losses.losses c.args.id ≡ Some c.in-Some-number.behind = search rules in
+    let no_ready : (p : Part) → IsReadyPart (standing c.self.inside.queue) p → c.in-Some-number.behind ≤ p.exec = search rules in
+    let no_held : (who : ℕ) (p : Part) → looked c.self.inside.holders who ≡ Some p → p.exec < c.in-Some-number.behind
+    → is_some (standing c.self.inside.queue p.exec) ≡ false = search rules in
+    let so = is_settled_so l _ _ c.self.invariant c.tip_law.ensures c.holders_law.ensures.told c.homes_law.ensures.begun c.args.id v live
+    c.in-Some-number.behind number c.homes_law.ensures.live no_ready no_held in
+    λ lifetimes within. subst (λ (s : CoreState). is_settled l s.past (doc l s.past) c.get-2.result.now ≡ true) c.self.view_is
+    (ap (is_settled l c.self.inside.past (doc l c.self.inside.past)) c.get-2.ensures
+    ∙ settled_of l _ _ c.self.invariant c.tip_law.ensures c.holders_law.ensures.told c.homes_law.ensures.begun c.args.id v live
+    c.in-Some-number.behind number so)
+
+pub returns-in_err-stuck-clause-err : goal.returns-in_err-stuck-clause-err
+returns-in_err-stuck-clause-err g c =
     let l = g.L.Language.lang in
     let v : Version = c.in-Some.version.now in
     let live : version_of (doc l c.self.inside.past).live c.args.id ≡ Some v =
@@ -90,8 +103,9 @@ returns-clause-settled g c =
     → is_some (standing c.self.inside.queue p.exec) ≡ false = search rules in
     let so = is_settled_so l _ _ c.self.invariant c.tip_law.ensures c.holders_law.ensures.told c.homes_law.ensures.begun c.args.id v live
     c.in-Some-number.behind number c.homes_law.ensures.live no_ready no_held in
-    subst (λ (s : CoreState). (x : IsSettled l s.past c.args.id) × (c.in_ok-open_in.field-0.items ≡ stuck_in l s.past (doc l s.past) x.version))
+    let are : c.in_ok-stuck.field-0.items ≡ stuck_in l c.self.inside.past (doc l c.self.inside.past) v =
+    subst (λ (s : CoreState). c.in_ok-stuck.field-0.items ≡ stuck_in l s.past (doc l s.past) v) (sym c.self.view_is)
+    (c.in_ok-stuck.ensures ∙ ap (λ (w : Version). stuck_in l c.args.self.now.past (doc l c.args.self.now.past) w) c.get-2.ensures) in
+    subst (λ (s : CoreState). (x : IsSettled l s.past c.args.id) × (c.in_ok-stuck.field-0.items ≡ stuck_in l s.past (doc l s.past) x.version))
     c.self.view_is (settled_with l _ _ c.self.invariant c.tip_law.ensures c.holders_law.ensures.told c.homes_law.ensures.begun c.args.id v live
-    c.in-Some-number.behind number so
-    c.in_ok-open_in.field-0.items c.in_ok-open_in.ensures.rises (λ e. c.in_ok-open_in.ensures.same e
-    ∙ ap (λ (w : Version). has (filter (λ m. is_unfinished (execution_of c.self.inside.execs.rows m)) (executions_of w)) e) c.get-2.ensures))
+    c.in-Some-number.behind number so c.in_ok-stuck.field-0.items are)
