@@ -146,6 +146,13 @@ impl<O: Drop, E: Drop, P: Past<Item<O, E>> + Drop> Outbox<O, E, P> {
         self.waiting.is_empty()
     }
 
+    /// The list.
+    pub fn past(&self) -> &P
+        ensures { P.items result.now ≡ self.now.items }
+    {
+        &self.past
+    }
+
     /// The list, and the replies that were not sent.
     pub fn into_parts(self) -> Parts<P>
         ensures past { P.items result.past ≡ self.items }
