@@ -1,0 +1,124 @@
+use Rattle.std.proofs.Common.{◌≡◌, List, ◌∷◌, Err, sym, ap, subst, ◌∙◌}
+use Rattle.buffer_laws.specs.Fitting.{Agrees}
+use Rattle.message_values.specs.declared.refusal.Refusal.TheVariants.{Limit}
+use Rattle.message_values.specs.Asked.{asked}
+use Rattle.exec_assign.specs.declared.fault.AssignFault.TheVariants as fault
+use Rattle.core_rules.specs.declared.event.Event.{Event}
+use Rattle.core_rules.specs.declared.event.Event.TheVariants as event
+use Rattle.core_rules.specs.Standing.{has_ended}
+use Rattle.prover_core.specs.Looked.{looked}
+use Rattle.prover_core.specs.Plans.{PlanState, IsPlanOf}
+use Rattle.session_rules.specs.Services.{mode_of}
+use Rattle.session_rules.specs.Session.{Session, document}
+use Rattle.session_rules.specs.Accepting.{taken}
+use Rattle.session_states.specs.Kept.{session_of}
+use Rattle.document_session.specs.Makes.{IsMade}
+use Rattle.document_session.proofs.Inside.{going_on, known_inside}
+use Rattle.document_session.proofs.Making.{plan_fits, plan_changed, plan_commands, plan_limit, made_kept}
+use Rattle.document_session.proofs.Passed.{err_not_ok, on_err}
+use Rattle.document_session.proofs.Refusing.{still_going, still_known, still_same}
+use Rattle.document_session.proofs.Rooms.{room_kept}
+use Rattle.document_session.proofs.session.Session.make.Goals as goal
+
+pub plan-requires-clause-going : goal.plan-requires-clause-going
+plan-requires-clause-going g c κs within = going_on g.L.Language.lang _ _ _ _ c.self.view_is c.self.invariant.listed c.requires.going
+
+pub plan-requires-clause-fits : goal.plan-requires-clause-fits
+plan-requires-clause-fits g c κs within =
+    let l = g.L.Language.lang in
+    let inside = c.self.inside in
+    let k = c.self.invariant.listed in
+    let s = session_of inside.buffer inside.core.past inside.protocol inside.called in
+    let is = known_inside l (λ service t. IsMade l t c.args.version (asked (mode_of service) c.args.message) c.args.made) _ _ _ s c.self.view_is k
+    c.requires.made in
+    let agrees : Agrees s.buffer (document l s) = subst (λ (t : Session). Agrees t.buffer (document l t)) k.stands
+    (c.history_law.ensures.agree inside.service inside.outbox.items k.legal) in
+    plan_fits l inside.service s c.args.version (asked (mode_of inside.service) c.args.message) c.args.made is c.nodes.result.now c.blobs.result.now
+    c.nodes.ensures c.blobs.ensures c.fits_law.ensures.fits agrees
+
+pub plan-requires-clause-changed : goal.plan-requires-clause-changed
+plan-requires-clause-changed g c κs within =
+    let l = g.L.Language.lang in
+    let inside = c.self.inside in
+    let s = session_of inside.buffer inside.core.past inside.protocol inside.called in
+    let is = known_inside l (λ service t. IsMade l t c.args.version (asked (mode_of service) c.args.message) c.args.made) _ _ _ s c.self.view_is
+    c.self.invariant.listed c.requires.made in
+    plan_changed l inside.service s c.args.version (asked (mode_of inside.service) c.args.message) c.args.made is c.nodes.result.now c.blobs.result.now
+    c.nodes.ensures c.blobs.ensures c.self.invariant.blobs_are c.changed.result.now c.changed.ensures
+
+pub plan-requires-clause-commands : goal.plan-requires-clause-commands
+plan-requires-clause-commands g c κs within =
+    let l = g.L.Language.lang in
+    let inside = c.self.inside in
+    let k = c.self.invariant.listed in
+    let s = session_of inside.buffer inside.core.past inside.protocol inside.called in
+    let is = known_inside l (λ service t. IsMade l t c.args.version (asked (mode_of service) c.args.message) c.args.made) _ _ _ s c.self.view_is k
+    c.requires.made in
+    let agrees : Agrees s.buffer (document l s) = subst (λ (t : Session). Agrees t.buffer (document l t)) k.stands
+    (c.history_law.ensures.agree inside.service inside.outbox.items k.legal) in
+    plan_commands l inside.service s c.args.version (asked (mode_of inside.service) c.args.message) c.args.made is c.nodes.result.now c.blobs.result.now
+    c.nodes.ensures c.blobs.ensures agrees c.untouched.result.now c.untouched.ensures
+
+pub invariant_of-self-in-Err-NoMemory : goal.invariant_of-self-in-Err-NoMemory
+invariant_of-self-in-Err-NoMemory g c = room_kept g.L.Language.lang _ _ _ _ _ _ c.self.invariant _ _
+    c.make_room.ensures.items c.make_room.ensures.waiting c.make_room.ensures.free
+    (ap (λ (h : List Event). session_of c.self.inside.buffer h c.self.inside.protocol c.self.inside.called) (sym c.plan.ensures.past))
+
+pub invariant_of-self-in-Err-Limit : goal.invariant_of-self-in-Err-Limit
+invariant_of-self-in-Err-Limit g c = room_kept g.L.Language.lang _ _ _ _ _ _ c.self.invariant _ _
+    c.make_room.ensures.items c.make_room.ensures.waiting c.make_room.ensures.free
+    (ap (λ (h : List Event). session_of c.self.inside.buffer h c.self.inside.protocol c.self.inside.called) (sym c.plan.ensures.past))
+
+pub refuse-requires-clause-going : goal.refuse-requires-clause-going
+refuse-requires-clause-going g c κs within = still_going g.L.Language.lang _ _ c.self.view_is _ c.make_room.ensures.items c.requires.going
+
+pub refuse-requires-clause-refused : goal.refuse-requires-clause-refused
+refuse-requires-clause-refused g c κs within =
+    let l = g.L.Language.lang in
+    let inside = c.self.inside in
+    let k = c.self.invariant.listed in
+    let s = session_of inside.buffer inside.core.past inside.protocol inside.called in
+    let read = asked (mode_of inside.service) c.args.message in
+    let is = known_inside l (λ service t. IsMade l t c.args.version (asked (mode_of service) c.args.message) c.args.made) _ _ _ s c.self.view_is k
+    c.requires.made in
+    let limit : c.plan.result ≡ Err fault.Limit = cc in
+    still_known l _ _ c.self.view_is _ c.make_room.ensures.items (λ service t. taken l service t read ≡ Err Limit) _ s k
+    (plan_limit l inside.service s c.args.version read c.args.made is c.nodes.result.now c.blobs.result.now c.nodes.ensures c.blobs.ensures
+    (c.plan.ensures.limit limit))
+
+pub invariant_of-self-in_err-reply : goal.invariant_of-self-in_err-reply
+invariant_of-self-in_err-reply g c = room_kept g.L.Language.lang _ _ _ _ _ _ c.self.invariant _ _
+    c.make_room.ensures.items c.make_room.ensures.waiting c.make_room.ensures.free
+    (ap (λ (h : List Event). session_of c.self.inside.buffer h c.self.inside.protocol c.self.inside.called) (sym c.plan.ensures.past))
+
+pub update-requires-clause-going : goal.update-requires-clause-going
+update-requires-clause-going g c κs within = ap (λ (h : List Event). has_ended h) c.plan.ensures.past
+    ∙ going_on g.L.Language.lang _ _ _ _ c.self.view_is c.self.invariant.listed c.requires.going
+
+pub invariant_of-self-2 : goal.invariant_of-self-2
+invariant_of-self-2 g c =
+    let l = g.L.Language.lang in
+    let k = c.self.invariant in
+    let inside = c.self.inside in
+    let s = session_of inside.buffer inside.core.past inside.protocol inside.called in
+    let p : PlanState = c.in-Ok.plan in
+    let is = known_inside l (λ service t. IsMade l t c.args.version (asked (mode_of service) c.args.message) c.args.made) _ _ _ s c.self.view_is k.listed
+    c.requires.made in
+    let planned : IsPlanOf l s.events p = subst (λ (h : List Event). IsPlanOf l h p) c.plan.ensures.past c.in-Ok.ensures.ok in
+    made_kept l inside.service inside.outbox s inside.last inside.held (λ who. looked inside.jobs who) k c.update_law.ensures
+    c.args.message c.args.version c.args.made is p planned (c.in-Ok.ensures.nodes ∙ c.nodes.ensures) (c.in-Ok.ensures.blobs ∙ c.blobs.ensures)
+    _ _ _ _ c.assigned.ensures c.in_ok-reply.ensures (going_on l _ _ _ _ c.self.view_is k.listed c.requires.going)
+    c.make_room.ensures.items c.make_room.ensures.waiting c.in_ok-make_room.ensures.ok
+    c.add.ensures.items c.add.ensures.waiting c.add.ensures.free
+    _ _ _ c.number-self-inside.ensures.value c.commit.ensures c.in-Ok.ensures.version
+    (c.update.ensures.past ∙ ap (λ (h : List Event). event.Update p.version p.nodes p.blobs ∷ h) c.plan.ensures.past)
+
+pub returns-in_err-reply-clause-taken : goal.returns-in_err-reply-clause-taken
+returns-in_err-reply-clause-taken g c = err_not_ok _ c.from_residual-in_err-reply.result c.in_err-reply.field-0.0 c.from_residual-in_err-reply.ensures.1
+
+pub returns-in_err-reply-clause-err : goal.returns-in_err-reply-clause-err
+returns-in_err-reply-clause-err g c = on_err c.from_residual-in_err-reply.result
+    (still_same _ _ _ _ _ _ c.self.view_is c.make_room.ensures.items c.make_room.ensures.waiting)
+
+pub returns-clause-legal : goal.returns-clause-legal
+returns-clause-legal g c = (invariant_of-self-2 g c).listed.legal

@@ -1,0 +1,12 @@
+-- The replies to a cancellation, written before it is known what it comes to.
+use Rattle.std.specs.Prelude.{◌≡◌, ℕ}
+use Rattle.exec_table.specs.declared.execs.Cancelling.TheVariants as answer
+use Rattle.session_replies.specs.Spelling.{spelling}
+use Rattle.session_replies.specs.Cancelled.{cancelling_told}
+use Rattle.document_session.specs.declared.changing.CancelReplies.{CancelReplies}
+
+-- they are the replies to each answer
+pub record AreRepliesTo (exec : ℕ) (replies : CancelReplies) : Type 0 where
+  pub unknown : replies.unknown.items ≡ spelling (cancelling_told exec answer.Unknown)
+  pub idle : replies.idle.items ≡ spelling (cancelling_told exec answer.Idle)
+  pub cancelled : replies.cancelled.items ≡ spelling (cancelling_told exec answer.Cancelled)

@@ -1,0 +1,5 @@
+pub mod Contents
+pub mod Answers
+pub mod Cancels
+pub mod Looks
+pub mod Makes

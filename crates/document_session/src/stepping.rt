@@ -1,0 +1,141 @@
+//! Messages that tell a worker to take a part, or to end it.
+ghost use Rattle.std.specs.Prelude.{◌≡◌, false, IfOk, OnErr, Ok};
+ghost use Rattle.core_rules.specs.Standing.{has_ended};
+ghost use Rattle.message_values.specs.Asked.{asked};
+ghost use Rattle.message_values.specs.Workers.{IsWorker};
+ghost use Rattle.message_values.specs.declared.editor_message.EditorMessage.TheVariants as asks;
+ghost use Rattle.session_rules.specs.Services.{mode_of};
+ghost use Rattle.session_lists.specs.Items.{session_in};
+ghost use Rattle.session_lists.specs.Legal.{AreLegal};
+ghost use Rattle.document_session.specs.Answers.{TakenSo};
+
+use crate::answering::make_room;
+use crate::session::Session;
+use crate::table::{put, reserve_one, take_out};
+use crate::taking::Taken;
+use crate::working::take_in;
+use byte_message::Message;
+use core_jobs::job_law;
+use language::Language;
+use message_values::{Refusal, Worker, a_message_is_asked_where_it_is_spelled};
+use past_items::Past;
+use pide_base::{Part, Stop};
+use prover_core::Claim as CoreClaim;
+use reply_outbox::Item;
+use session_jobs::{SessionJob, SessionRan};
+use session_replies::{claimed, dropped};
+use session_rules::{Entry, Service};
+use session_states::step_laws;
+use std::alloc::{AllocError, Global};
+
+/// Never asks to stop.
+#[derive(Drop)]
+struct Never;
+
+impl Stop for Never {
+    ghost yeses = { λ never. 0 };
+
+    fn asked(&mut self) -> bool {
+        false
+    }
+}
+
+impl<L: Language, P: Past<Item<Service, Entry>> + Drop> Session<L, P> {
+    /// The worker takes the first ready part.
+    pub(crate) fn step_claim(
+        &mut self,
+        alloc: Global,
+        lang: &L,
+        message: Message,
+        worker: Worker,
+    ) -> Result<Taken, AllocError>
+        requires going { has_ended (session_in L.lang self.old.service self.old.items).events
+            ≡ false }
+        requires read { asked (mode_of self.old.service) message
+            ≡ Ok (asks.Claim worker) }
+        ensures service { self.new.service ≡ self.old.service }
+        ensures taken { IfOk result (λ taken. TakenSo L.lang self.old.service message
+            self.old.items taken self.new.items) }
+        ensures err { OnErr result (self.new ≡ self.old) }
+        ensures legal { AreLegal L.lang self.new.service self.new.items }
+    {
+        step_laws::<L>();
+        a_message_is_asked_where_it_is_spelled();
+        make_room(&mut self.outbox, self.held, 3)?;
+        reserve_one(&mut self.jobs)?;
+        let Some(first) = self.core.first() else {
+            return self.refuse(alloc, message, Refusal::NothingToStep);
+        };
+        let Part { exec, kind } = first;
+        let claimed = claimed(alloc, worker, Part { exec, kind })?;
+        let dropped = dropped(alloc, Part { exec, kind })?;
+        let who = number_of(worker);
+        match self.core.claim(alloc, lang, who) {
+            CoreClaim::Nothing => self.refuse(alloc, message, Refusal::NothingToStep),
+            CoreClaim::NoMemory => Err(AllocError),
+            CoreClaim::Job(job) => {
+                put(
+                    &mut self.jobs,
+                    who,
+                    SessionJob::new(job, self.protocol, dropped),
+                );
+                self.held += 1;
+                self.called = true;
+                self.outbox.add(Entry::Call(message), None);
+                let part = Part { exec, kind };
+                self.outbox.add(Entry::Claimed { who, part }, Some(claimed));
+                Ok(Taken::Replied)
+            }
+        }
+    }
+
+    /// The worker works on the part that it holds to the end, or lets it go if nobody wants it.
+    pub(crate) fn step_finish(
+        &mut self,
+        alloc: Global,
+        lang: &L,
+        message: Message,
+        worker: Worker,
+    ) -> Result<Taken, AllocError>
+        requires going { has_ended (session_in L.lang self.old.service self.old.items).events
+            ≡ false }
+        requires read { asked (mode_of self.old.service) message
+            ≡ Ok (asks.Finish worker) }
+        ensures service { self.new.service ≡ self.old.service }
+        ensures taken { IfOk result (λ taken. TakenSo L.lang self.old.service message
+            self.old.items taken self.new.items) }
+        ensures err { OnErr result (self.new ≡ self.old) }
+        ensures legal { AreLegal L.lang self.new.service self.new.items }
+    {
+        step_laws::<L>();
+        job_law::<L>();
+        a_message_is_asked_where_it_is_spelled();
+        let who = number_of(worker);
+        make_room(&mut self.outbox, self.held, 2)?;
+        reserve_one(&mut self.jobs)?;
+        let Some(job) = take_out(&mut self.jobs, who) else {
+            return self.refuse(alloc, message, Refusal::NothingToStep);
+        };
+        match job.run(alloc, lang, &mut Never) {
+            SessionRan::Done(done) => {
+                self.called = true;
+                self.outbox.add(Entry::Call(message), None);
+                take_in(&mut self.core, &mut self.outbox, who, done);
+                self.held -= 1;
+                Ok(Taken::Replied)
+            }
+            SessionRan::Stopped(job) | SessionRan::NoMemory(job) => {
+                put(&mut self.jobs, who, job);
+                Err(AllocError)
+            }
+        }
+    }
+}
+
+/// The worker's number, as those of workers are kept.
+fn number_of(worker: Worker) -> u32
+    ensures value { result ≡ worker }
+    ensures range { IsWorker result }
+{
+    worker.number() as u32
+}

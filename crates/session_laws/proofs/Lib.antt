@@ -1,0 +1,15 @@
+pub mod KnownHolding
+pub mod KnownNamed
+pub mod KnownWaited
+pub mod KnownResting
+pub mod KnownStays
+mod Until
+mod Stripped
+mod OneWay
+mod Entries
+mod Working
+mod Ways
+mod Stepped
+mod Exists
+mod Shows
+mod Covers

@@ -1,0 +1,3 @@
+pub mod OneThread
+pub mod Runs
+pub mod Promises

@@ -1,0 +1,72 @@
+//! What holds of histories.
+ghost use Rattle.std.specs.Prelude.{◌≡◌, ◌≢◌, ℕ, List, None};
+ghost use Rattle.message_values.specs.Workers.{IsWorker};
+ghost use Rattle.core_rules.specs.Standing.{held};
+ghost use Rattle.session_rules.specs.declared.entry.Entry.{Entry};
+ghost use Rattle.session_rules.specs.declared.service.Service.{Service};
+ghost use Rattle.session_rules.specs.declared.service.Service.TheVariants as service_is;
+ghost use Rattle.session_rules.specs.Services.{free_workers};
+ghost use Rattle.session_rules.specs.Heard.{Heard, all_heard};
+ghost use Rattle.session_rules.specs.History.{session};
+ghost use Rattle.session_rules.specs.Legal.{IsLegal};
+ghost use Rattle.session_rules.specs.Alone.{IsAlone};
+ghost use Rattle.session_laws.specs.OneThread.{reads, thread};
+ghost use Rattle.session_laws.specs.Promises.{CoversSo, EachMessage, LeavesCancelled, ShowsSo};
+ghost use Rattle.session_laws.specs.Runs.{IsWholeRun, called};
+
+use core_rules::{
+    alone_law as core_alone_law, cancelled_law, core_law, covers_law, first_law, rest_law,
+};
+use language::Language;
+use message_values::a_message_is_asked_where_it_is_spelled;
+use session_rules::events_law;
+
+/// Where nobody works beside the reader, what one thread does is determined by the messages: there
+/// is one whole run for them.
+pub fn alone_law<L: Language>()
+    ensures way { (service : Service) (h : List Entry) → free_workers service ≡ 0
+        → (is : IsWholeRun L.lang service h) → all_heard service is.before
+        ≡ thread L.lang service (reads (all_heard service is.before)) }
+    ensures one { (service : Service) (h k : List Entry) → free_workers service ≡ 0
+        → IsWholeRun L.lang service h → IsWholeRun L.lang service k → called h ≡ called k
+        → h ≡ k }
+    ensures some { (service : Service) (messages : List (List (List ℕ)))
+        → free_workers service ≡ 0
+        → (h : List Entry) × IsWholeRun L.lang service h × (called h ≡ messages) }
+{
+    events_law::<L>();
+    first_law::<L>();
+    rest_law::<L>();
+    core_alone_law::<L>();
+    a_message_is_asked_where_it_is_spelled();
+}
+
+/// In a history that one thread made nobody holds a part but workers whom messages name: the reader
+/// has finished each part that it took.
+pub fn holders_law<L: Language>()
+    ensures { (service : Service) (h : List Entry) (who : ℕ) → free_workers service ≡ 0
+        → IsLegal L.lang service (all_heard service h)
+        → IsAlone L.lang service None (all_heard service h)
+        → held (session L.lang service (all_heard service h)).events who ≢ None
+        → (service ≡ service_is.Script) × IsWorker who }
+{
+    a_message_is_asked_where_it_is_spelled();
+}
+
+/// In each legal history a snapshot that isn't refused tells, of what checking its version from
+/// nothing gives, the parts of assigned executions that are finished, and each other assigned
+/// execution as pending; and the version that an update makes has an evaluation for each command
+/// that its nodes want, and assigns nothing that was cancelled before.
+pub fn headline_law<L: Language>()
+    ensures shows { (service : Service) (h : List Heard) → IsLegal L.lang service h
+        → EachMessage (ShowsSo L.lang service) h }
+    ensures covers { (service : Service) (h : List Heard) → IsLegal L.lang service h
+        → EachMessage (CoversSo L.lang service) h }
+    ensures cancelled { (service : Service) (h : List Heard) → IsLegal L.lang service h
+        → EachMessage (LeavesCancelled L.lang service) h }
+{
+    events_law::<L>();
+    core_law::<L>();
+    covers_law::<L>();
+    cancelled_law::<L>();
+}
