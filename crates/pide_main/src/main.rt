@@ -1,6 +1,7 @@
 //! The program `pide`: standard input and output, handed to the one call.
 #![tactic(auto)]
 
+use past_items::Unkept;
 use pide_base::Status;
 use pide_io::{StdSink, StdSource};
 use pide_program::pide;
@@ -28,5 +29,5 @@ fn run(rt: &HostRuntime, args: &Vec<String>) -> Status {
     }
     let source = StdSource::new(rt.stdin());
     let sink = StdSink::new(rt.stdout());
-    pide(rt.alloc(), words.as_slice(), source, sink).status
+    pide(rt.alloc(), words.as_slice(), source, sink, Unkept::new()).status
 }

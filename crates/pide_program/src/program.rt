@@ -1,47 +1,63 @@
 //! The one call that the program makes.
-ghost use Rattle.std.specs.Prelude.{◌≡◌, ◌≢◌, ◌⊎◌, ℕ, true, false, [], map, reverse};
+ghost use Rattle.std.specs.Prelude.{◌≡◌, ◌⊎◌, ℕ, true, false, [], map, Some, None, IsSome, IfSome};
 ghost use Rattle.pide_base.specs.Faults.{Rose};
 ghost use Rattle.pide_check.specs.Checked.{ChecksWhole, IsChecked};
-ghost use Rattle.pide_serve.specs.Causes.{BadFrameSo, CompleteSo, DoneSo, LongSo, TruncatedSo};
-ghost use Rattle.pide_serve.specs.Headline.{BytesWritten, CoversSo, EachCall, MadeAlone, MessagesRead, OneLegalHistory, ShowsSo};
+ghost use Rattle.document_serve.specs.Causes.{BadFrameSo, CompleteSo, DoneSo, LongSo, TruncatedSo};
+ghost use Rattle.document_serve.specs.Headline.{BytesWritten, MadeAlone, MessagesRead, OneLegalHistory};
 ghost use Rattle.isar_rules.specs.Isar.{isar};
-ghost use Rattle.pide_program.specs.Words.{is_check, is_serve, is_taken};
+ghost use Rattle.session_laws.specs.Promises.{CoversSo, ShowsSo};
+ghost use Rattle.pide_program.specs.Words.{EachOf, is_check, is_served, is_taken, service_of};
+ghost use Rattle.pide_program.specs.Limit.{input_limit};
 
+use crate::outcome::Outcome;
+use crate::running::{check, serve_as, unserved};
 use command_words::{Request, asked};
+use past_items::Past;
 use pide_base::{Sink, Source, Status};
-use pide_check::check_text;
-use pide_serve::{Outcome, serve};
+use reply_outbox::Item;
+use session_laws::headline_law;
+use session_rules::{Entry, Service};
 use std::alloc::Global;
 use toplevel::Isar;
 
 /// Does what the words ask: serves the messages of the source, each when it is whole, and writes
-/// the replies; or checks the text of the source, and writes its markup by lines.
+/// the replies before more is read; or checks the text of the source, and writes its markup by
+/// lines.
 ///
-/// `words` are those of the command line after the program's name.
-pub fn pide<S: Source, K: Sink>(alloc: Global, words: &[&str], source: S, sink: K) -> Outcome<S, K>
-    ensures bytes_written { is_check (map (λ w. w.now) words.now) ≡ false
-        → BytesWritten result.status (K.contents sink) (K.contents result.sink)
-        (reverse result.history.items) }
-    ensures one_legal_history { is_check (map (λ w. w.now) words.now) ≡ false
-        → OneLegalHistory result.status (reverse result.history.items) }
-    ensures messages_read { is_check (map (λ w. w.now) words.now) ≡ false
-        → MessagesRead result.status (S.left source) (S.left result.source)
-        (reverse result.history.items) }
-    ensures shows_and_lists { EachCall ShowsSo (reverse result.history.items) }
-    ensures covers { EachCall CoversSo (reverse result.history.items) }
-    ensures alone { MadeAlone result.status (reverse result.history.items) }
+/// `words` are those of the command line after the program's name. What happens is added to `past`,
+/// which must be empty.
+pub fn pide<S: Source, K: Sink, P: Past<Item<Service, Entry>> + Drop>(
+    alloc: Global,
+    words: &[&str],
+    source: S,
+    sink: K,
+    past: P,
+) -> Outcome<S, K, P>
+    requires empty { P.items past ≡ [] }
+    ensures bytes_written { IfSome result.session (λ s. BytesWritten isar result.status
+        (K.contents sink) (K.contents result.sink) s) }
+    ensures one_legal_history { IfSome result.session (λ s. OneLegalHistory isar result.status s) }
+    ensures messages_read { IfSome result.session (λ s. MessagesRead result.status
+        (S.left source) (S.left result.source) s) }
+    ensures shows_and_lists { IfSome result.session (λ s. EachOf (ShowsSo isar) s) }
+    ensures covers { IfSome result.session (λ s. EachOf (CoversSo isar) s) }
+    ensures alone { IfSome result.session (λ s. MadeAlone isar result.status (S.left source)
+        (S.left result.source) s) }
 
+    ensures service { IfSome result.session (λ s. s.service
+        ≡ service_of (map (λ w. w.now) words.now)) }
+    ensures served { is_served (map (λ w. w.now) words.now) ≡ true
+        → IsSome result.session ⊎ (result.status ≡ Status.NoMemory) }
+    ensures unserved { is_served (map (λ w. w.now) words.now) ≡ false → result.session ≡ None }
+    ensures unbegun { result.session ≡ None → is_check (map (λ w. w.now) words.now) ≡ false
+        → (result.source ≡ source) × (result.sink ≡ sink) }
     ensures lines_written { is_check (map (λ w. w.now) words.now) ≡ true
         → IsChecked isar result.status (S.left source) (S.left result.source) (K.contents sink)
         (K.contents result.sink) }
-    ensures no_history { is_serve (map (λ w. w.now) words.now) ≡ false
-        → reverse result.history.items ≡ [] }
 
     ensures usage { result.status ≡ Status.Usage → is_taken (map (λ w. w.now) words.now) ≡ false }
     ensures refused { is_taken (map (λ w. w.now) words.now) ≡ false
         → (result.status ≡ Status.Usage) ⊎ (result.status ≡ Status.NoMemory) }
-    ensures unread { is_taken (map (λ w. w.now) words.now) ≡ false → result.source ≡ source }
-    ensures unwritten { is_taken (map (λ w. w.now) words.now) ≡ false → result.sink ≡ sink }
     ensures read_fault { result.status ≡ Status.ReadFault
         → Rose (S.faults source) (S.faults result.source) }
     ensures write_fault { result.status ≡ Status.WriteFault
@@ -50,46 +66,27 @@ pub fn pide<S: Source, K: Sink>(alloc: Global, words: &[&str], source: S, sink: 
         → BadFrameSo at (S.left source) (S.left result.source) }
     ensures truncated { (at : ℕ) → result.status ≡ Status.Truncated at
         → TruncatedSo at (S.left source) (S.left result.source) }
-    ensures long_input { is_check (map (λ w. w.now) words.now) ≡ false
-        → LongSo result.status (S.left source) (S.left result.source) }
-    ensures done { is_check (map (λ w. w.now) words.now) ≡ false → result.status ≡ Status.Done
+    ensures long_input { IsSome result.session
+        → LongSo input_limit result.status (S.left source) (S.left result.source) }
+    ensures done { IsSome result.session → result.status ≡ Status.Done
         → DoneSo (S.left source) (S.left result.source) }
     ensures bad_text { (at : ℕ) → result.status ≡ Status.BadText at
         → is_check (map (λ w. w.now) words.now) ≡ true }
-    ensures complete { is_serve (map (λ w. w.now) words.now) ≡ true
-        → CompleteSo (S.left source) (S.faults source) (S.faults result.source) (K.faults sink)
-        (K.faults result.sink) result.status }
+    ensures complete { is_served (map (λ w. w.now) words.now) ≡ true
+        → CompleteSo input_limit (S.left source) (S.faults source) (S.faults result.source)
+        (K.faults sink) (K.faults result.sink) result.status }
     ensures checks_whole { is_check (map (λ w. w.now) words.now) ≡ true
         → ChecksWhole (S.left source) (S.faults source) (S.faults result.source) (K.faults sink)
         (K.faults result.sink) result.status }
 {
+    headline_law::<Isar>();
     match asked(alloc, words) {
-        Ok(Some(Request::Serve { workers: 0 })) => serve(alloc, source, sink),
+        Ok(Some(Request::Serve { workers: 0 })) => {
+            serve_as(alloc, Service::Workers { count: 0 }, source, sink, past)
+        }
+        Ok(Some(Request::Replay)) => serve_as(alloc, Service::Script, source, sink, past),
         Ok(Some(Request::Check)) => check(alloc, source, sink),
-        Ok(_) => Outcome::unserved(alloc, Status::Usage, source, sink),
-        Err(_) => Outcome::unserved(alloc, Status::NoMemory, source, sink),
-    }
-}
-
-/// Checks the text of the source. There is no history.
-fn check<S: Source, K: Sink>(alloc: Global, source: S, sink: K) -> Outcome<S, K>
-    ensures checked { IsChecked isar result.status (S.left source) (S.left result.source)
-        (K.contents sink) (K.contents result.sink) }
-    ensures history { reverse result.history.items ≡ [] }
-    ensures read_fault { result.status ≡ Status.ReadFault
-        → Rose (S.faults source) (S.faults result.source) }
-    ensures write_fault { result.status ≡ Status.WriteFault
-        → Rose (K.faults sink) (K.faults result.sink) }
-    ensures complete { ChecksWhole (S.left source) (S.faults source) (S.faults result.source)
-        (K.faults sink) (K.faults result.sink) result.status }
-{
-    let mut source = source;
-    let mut sink = sink;
-    let status = check_text(alloc, &Isar, &mut source, &mut sink);
-    Outcome {
-        status,
-        source,
-        sink,
-        history: Vec::new(alloc),
+        Ok(_) => unserved(Status::Usage, source, sink),
+        Err(_) => unserved(Status::NoMemory, source, sink),
     }
 }

@@ -1,2 +1,1 @@
-mod ExampleHistory
 mod BoardBytes

@@ -1,5 +1,5 @@
 //! Examples of the program: its words, streams over memory, turns at the lock in threads, workers,
-//! a session, and whole runs.
+//! and whole runs.
 //!
 //! It holds tests alone, in a crate of their own so that the program is checked without them.
 #![tactic(auto)]
@@ -8,8 +8,6 @@
 mod example;
 #[cfg(test)]
 mod runs;
-#[cfg(test)]
-mod sessions;
 #[cfg(test)]
 mod streams;
 #[cfg(test)]

@@ -2,11 +2,16 @@
 ghost use Rattle.std.specs.Prelude.{◌<◌};
 
 use crate::example::{MORE, REFUSALS, SENT, WRITTEN};
+use document_session::Session;
+use past_items::Kept;
 use pide_base::Status;
 use pide_io::{MemSink, MemSource};
 use pide_program::pide;
+use reply_outbox::Item;
+use session_rules::{Entry, Service};
 use std::alloc::{AllocError, Global};
 use std::test::Fail;
+use toplevel::Isar;
 
 /// Runs of the program, one for each of the pieces.
 #[derive(Clone, Copy)]
@@ -47,16 +52,28 @@ impl Row {
         let source = MemSource::new(self.input(alloc)?, piece, fails);
         let fails = Vec::from_slice(alloc, &[self.failing_push])?;
         let sink = MemSink::new(alloc, 4096, fails).ok().ok_or("a sink")?;
-        let outcome = pide(alloc, self.words, source, sink);
+        let outcome = pide(alloc, self.words, source, sink, Kept::new(alloc));
         let output = self.output(alloc)?;
         Ok(
             outcome.status == self.status
                 && outcome.sink.contents() == output.as_slice()
                 && self
                     .entries
-                    .is_none_or(|count| count == outcome.history.len()),
+                    .is_none_or(|count| count == entries_in(outcome.session.as_ref())),
         )
     }
+}
+
+/// How many entries the session's list has: none where no session was begun.
+fn entries_in(session: Option<&Session<Isar, Kept<Item<Service, Entry>>>>) -> usize {
+    let Some(session) = session else {
+        return 0;
+    };
+    let items = session.past().as_slice();
+    items
+        .iter()
+        .filter(|item| matches!(item, Item::Made(_)))
+        .count()
 }
 
 /// The first bytes, so many at most, and what comes after them.
@@ -153,6 +170,18 @@ const ROWS: &[Row] = &[
         ..UNANSWERED
     },
     Row {
+        shows: "a chunk that is no UTF-8 is refused",
+        after: b"14,1\nSession.settle\xff",
+        then: b"7,1\nrefused3",
+        entries: Some(2),
+        ..UNANSWERED
+    },
+    Row {
+        shows: "a script is followed as messages are served",
+        words: &["replay"],
+        ..SERVED
+    },
+    Row {
         shows: "an input may break off after a line",
         after: b"16777216\n",
         status: Status::Truncated { at: 0 },
@@ -232,7 +261,7 @@ const ROWS: &[Row] = &[
     },
     Row {
         shows: "a command that isn't there yet is refused",
-        words: &["replay"],
+        words: &["gen", "3"],
         ..UNSERVED
     },
     Row {

@@ -1,0 +1,21 @@
+//! What a run hands back.
+use document_session::Session;
+use past_items::Past;
+use pide_base::Status;
+use reply_outbox::Item;
+use session_rules::{Entry, Service};
+use toplevel::Isar;
+
+/// How a run ended, the source and sink that it was given, and its session, which lends the list of
+/// what happened: None where no session was begun.
+#[derive(Drop)]
+pub struct Outcome<S, K, P: Past<Item<Service, Entry>>> {
+    /// How it ended.
+    pub status: Status,
+    /// The source, with what it has left.
+    pub source: S,
+    /// The sink, with what was written.
+    pub sink: K,
+    /// The session, after all that happened.
+    pub session: Option<Session<Isar, P>>,
+}

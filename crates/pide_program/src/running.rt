@@ -1,0 +1,114 @@
+//! What each command of the command line runs.
+ghost use Rattle.std.specs.Prelude.{◌≡◌, ℕ, [], None, IsSome, IfSome, IfNone};
+ghost use Rattle.pide_base.specs.Faults.{Rose};
+ghost use Rattle.pide_check.specs.Checked.{ChecksWhole, IsChecked};
+ghost use Rattle.document_serve.specs.Causes.{BadFrameSo, CompleteSo, DoneSo, LongSo, TruncatedSo};
+ghost use Rattle.document_serve.specs.Headline.{IsRun};
+ghost use Rattle.isar_rules.specs.Isar.{isar};
+ghost use Rattle.session_rules.specs.Services.{free_workers};
+ghost use Rattle.pide_program.specs.Limit.{input_limit};
+
+use crate::outcome::Outcome;
+use document_serve::serve;
+use document_session::Session;
+use past_items::Past;
+use pide_base::{Sink, Source, Status};
+use pide_check::check_text;
+use reply_outbox::Item;
+use session_rules::{Entry, Service};
+use std::alloc::Global;
+use toplevel::Isar;
+
+/// The most bytes that a run takes.
+const LIMIT: usize = 1 << 40;
+
+/// No session is begun, and nothing is read or written.
+pub(crate) fn unserved<S, K, P: Past<Item<Service, Entry>>>(
+    status: Status,
+    source: S,
+    sink: K,
+) -> Outcome<S, K, P>
+    ensures status { result.status ≡ status }
+    ensures source { result.source ≡ source }
+    ensures sink { result.sink ≡ sink }
+    ensures session { result.session ≡ None }
+{
+    Outcome {
+        status,
+        source,
+        sink,
+        session: None,
+    }
+}
+
+/// Serves the messages of the source so. No session is begun where there is no memory for one.
+pub(crate) fn serve_as<S: Source, K: Sink, P: Past<Item<Service, Entry>> + Drop>(
+    alloc: Global,
+    service: Service,
+    source: S,
+    sink: K,
+    past: P,
+) -> Outcome<S, K, P>
+    requires empty { P.items past ≡ [] }
+    requires alone { free_workers service ≡ 0 }
+    ensures run { IfSome result.session (λ s. IsRun isar input_limit result.status
+        (S.left source) (S.left result.source) (K.contents sink) (K.contents result.sink) s) }
+    ensures service { IfSome result.session (λ s. s.service ≡ service) }
+    ensures none { IfNone result.session ((result.status ≡ Status.NoMemory)
+        × (result.source ≡ source) × (result.sink ≡ sink)) }
+    ensures read_fault { result.status ≡ Status.ReadFault
+        → Rose (S.faults source) (S.faults result.source) }
+    ensures write_fault { result.status ≡ Status.WriteFault
+        → Rose (K.faults sink) (K.faults result.sink) }
+    ensures bad_frame { (at : ℕ) → result.status ≡ Status.BadFrame at
+        → BadFrameSo at (S.left source) (S.left result.source) }
+    ensures truncated { (at : ℕ) → result.status ≡ Status.Truncated at
+        → TruncatedSo at (S.left source) (S.left result.source) }
+    ensures long_input { IsSome result.session
+        → LongSo input_limit result.status (S.left source) (S.left result.source) }
+    ensures done { result.status ≡ Status.Done
+        → DoneSo (S.left source) (S.left result.source) }
+    ensures complete { CompleteSo input_limit (S.left source) (S.faults source)
+        (S.faults result.source) (K.faults sink) (K.faults result.sink) result.status }
+{
+    let mut source = source;
+    let mut sink = sink;
+    let Ok(session) = Session::<Isar, P>::new(alloc, service, past) else {
+        return unserved(Status::NoMemory, source, sink);
+    };
+    let mut session = session;
+    let status = serve(alloc, &Isar, &mut source, &mut sink, &mut session, LIMIT);
+    Outcome {
+        status,
+        source,
+        sink,
+        session: Some(session),
+    }
+}
+
+/// Checks the text of the source. There is no session.
+pub(crate) fn check<S: Source, K: Sink, P: Past<Item<Service, Entry>>>(
+    alloc: Global,
+    source: S,
+    sink: K,
+) -> Outcome<S, K, P>
+    ensures checked { IsChecked isar result.status (S.left source) (S.left result.source)
+        (K.contents sink) (K.contents result.sink) }
+    ensures session { result.session ≡ None }
+    ensures read_fault { result.status ≡ Status.ReadFault
+        → Rose (S.faults source) (S.faults result.source) }
+    ensures write_fault { result.status ≡ Status.WriteFault
+        → Rose (K.faults sink) (K.faults result.sink) }
+    ensures complete { ChecksWhole (S.left source) (S.faults source) (S.faults result.source)
+        (K.faults sink) (K.faults result.sink) result.status }
+{
+    let mut source = source;
+    let mut sink = sink;
+    let status = check_text(alloc, &Isar, &mut source, &mut sink);
+    Outcome {
+        status,
+        source,
+        sink,
+        session: None,
+    }
+}

@@ -1,9 +1,0 @@
-mod Answered
-mod Candidates
-mod Digits
-mod FirstVersions
-mod Inserted
-mod Reporting
-mod Short
-mod Taking
-mod Working

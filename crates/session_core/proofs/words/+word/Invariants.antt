@@ -1,4 +1,0 @@
-use Rattle.session_core.proofs.words.+word.Given as goal
-
-abbrev pub decreases-word : goal.decreases-word
-decreases-word l = l.number
