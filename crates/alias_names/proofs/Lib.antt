@@ -1,0 +1,3 @@
+mod HeaderNames
+mod AliasFolds
+mod SameAliases

@@ -1,0 +1,2 @@
+pub mod AliasNames
+pub mod SameHeaders

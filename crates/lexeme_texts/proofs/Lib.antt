@@ -1,0 +1,5 @@
+mod LeadLemmas
+mod WordRows
+mod SignRows
+mod QuotedRows
+pub mod KnownLexemes

@@ -1,0 +1,5 @@
+mod RunLemmas
+mod CutRuns
+mod SuggestedReports
+mod TakenLemmas
+mod EditedSheets

@@ -1,0 +1,65 @@
+//! The laws.
+ghost use Rattle.std.specs.Prelude.{◌≡◌, ◌+◌, ℕ, List, None, Some, codes, slice_get, map};
+ghost use Rattle.text_edits.specs.Edits.{Applies};
+ghost use Rattle.nj_suggest.specs.Edits.{edit};
+ghost use Rattle.shared_map.specs.Pairs.{found};
+ghost use Rattle.doc_nodes.specs.declared.node.Entry.{Entry};
+ghost use Rattle.doc_headers.specs.Reading.{header_in};
+ghost use Rattle.doc_nodes.specs.Aliases.{aliases_at};
+ghost use Rattle.doc_nodes.specs.Names.{in_order};
+ghost use Rattle.exec_rules.specs.Kept.{BlobList};
+ghost use Rattle.core_rules.specs.Settings.{Setting};
+ghost use Rattle.isar_rules.specs.declared.state.State.{State};
+ghost use Rattle.buffer_rules.specs.declared.sheet.Sheet.{Sheet};
+ghost use Rattle.buffer_rules.specs.Nodes.{uncut_all};
+ghost use Rattle.buffer_rules.specs.Numbers.{Command};
+ghost use Rattle.buffer_rules.specs.Sheets.{SheetList};
+ghost use Rattle.language.specs.declared.made.Imports.{Imports};
+ghost use Rattle.inserted_commands.specs.Insertion.{IsUnbroken};
+ghost use Rattle.suggest_laws.specs.Suggesting.{Beginning, beginning_at, IsEditedAt, node_of, run_of, Suggests, IsTaken};
+
+/// Where a command's print suggests a proof and the command's last token is no error: after the
+/// edit that puts it in behind the command, the node has the same header, its commands are the old
+/// ones with the proof behind that command, and neither the proof's evaluation nor its fork reports
+/// an error; whatever ids there are. No alias is named as the command `by`, and blobs stay.
+pub fn suggest_law()
+    ensures { (begins : Beginning) (sheet : Sheet) (before later : List Command) (next last : ℕ)
+        (blobs : BlobList) (k : ℕ) (e : Entry) (s : Setting State) (text new : List ℕ)
+        → let run = run_of begins sheet before next blobs in
+        found in_order (codes "by") begins.aliases.pairs ≡ None
+        → slice_get (node_of begins sheet before next).entries k ≡ Some e
+        → slice_get run.commands k ≡ Some s → Suggests s text
+        → IsUnbroken sheet.text (map (λ pair. pair.0) begins.aliases.pairs) e.range.stop
+        → Applies (edit e.range.stop text) sheet.text new
+        → IsTaken run (run_of begins (record sheet { text = new }) later last blobs)
+        sheet.text new text k }
+{
+    buffer_rules::ids_law();
+    inserted_commands::insertion_law();
+    suggested_commands::citable_states();
+    suggested_commands::suggested_by();
+}
+
+/// The same in a node of a document, where no alias can be named as the command `by`; and the
+/// aliases of all nodes stay.
+pub fn document_law()
+    ensures taken { (sheets others : SheetList) (p : ℕ) (name : List ℕ) (imports : Imports State)
+        (sheet : Sheet) (before later : List Command) (next last : ℕ)
+        (blobs : BlobList) (k : ℕ) (e : Entry) (s : Setting State) (text new : List ℕ)
+        → let begins = beginning_at sheets p name imports in
+        let run = run_of begins sheet before next blobs in
+        IsEditedAt sheets others p sheet new
+        → slice_get (node_of begins sheet before next).entries k ≡ Some e
+        → slice_get run.commands k ≡ Some s → Suggests s text
+        → IsUnbroken sheet.text (map (λ pair. pair.0) begins.aliases.pairs) e.range.stop
+        → Applies (edit e.range.stop text) sheet.text new
+        → IsTaken run (run_of (beginning_at others p name imports)
+        (record sheet { text = new }) later last blobs) sheet.text new text k }
+    ensures aliases { (sheets others : SheetList) (p : ℕ) (sheet : Sheet) (new : List ℕ)
+        → IsEditedAt sheets others p sheet new → header_in new ≡ header_in sheet.text → (q : ℕ)
+        → aliases_at (uncut_all others) q ≡ aliases_at (uncut_all sheets) q }
+{
+    suggest_law();
+    alias_names::names_law();
+    alias_names::headers_law();
+}

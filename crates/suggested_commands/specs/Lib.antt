@@ -1,0 +1,2 @@
+pub mod CitableStates
+pub mod Proving

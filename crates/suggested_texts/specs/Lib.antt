@@ -1,0 +1,3 @@
+pub mod Citable
+pub mod Alike
+pub mod ProofTexts
