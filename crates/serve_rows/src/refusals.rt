@@ -112,10 +112,10 @@ fn refusals_are_as_their_rows_say(rt: HostRuntime) -> Result<(), Fail> {
     Ok(())
 }
 
-/// Updates that ask for nothing, of the versions from the first to the last.
-fn empty_updates(alloc: Global, first: u64, last: u64) -> Result<Vec<u8>, AllocError> {
+/// Updates that ask for nothing, of the versions from 1 to the one before this.
+fn empty_updates(alloc: Global, end: u64) -> Result<Vec<u8>, AllocError> {
     let mut bytes = Vec::new(alloc);
-    for version in first..last + 1 {
+    for version in 1..end {
         let version = format!(in alloc; "{version}")?;
         add_message(alloc, &mut bytes, &["Session.update", version.as_str(), ""])?;
     }
@@ -123,9 +123,9 @@ fn empty_updates(alloc: Global, first: u64, last: u64) -> Result<Vec<u8>, AllocE
 }
 
 /// That nothing new is assigned in each of these versions.
-fn empty_assigns(alloc: Global, first: u64, last: u64) -> Result<Vec<u8>, AllocError> {
+fn empty_assigns(alloc: Global, end: u64) -> Result<Vec<u8>, AllocError> {
     let mut bytes = Vec::new(alloc);
-    for version in first..last + 1 {
+    for version in 1..end {
         let version = format!(in alloc; "{version}")?;
         add_message(alloc, &mut bytes, &["assign", version.as_str(), ""])?;
     }
@@ -161,9 +161,9 @@ fn at_most_200_elements_are_nested(rt: HostRuntime) -> Result<(), Fail> {
 #[test]
 fn at_most_64_versions_are_live(rt: HostRuntime) -> Result<(), Fail> {
     let alloc = rt.alloc();
-    let mut wanted = empty_assigns(alloc, 1, 64)?;
+    let mut wanted = empty_assigns(alloc, 65)?;
     wanted.extend_from_slice(stream_of(alloc, &[&["refused", "15"]])?.as_slice())?;
-    let replied = replied_to(alloc, &["serve"], empty_updates(alloc, 1, 65)?)?;
+    let replied = replied_to(alloc, &["serve"], empty_updates(alloc, 66)?)?;
     assert!(rt; replied.contents() == wanted.as_slice());
     Ok(())
 }
