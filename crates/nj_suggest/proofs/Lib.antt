@@ -1,12 +1,12 @@
 mod DotLemmas
-mod FreeLemmas
+pub mod KnownFree
 mod NextLemmas
 mod ChosenLemmas
 mod EnoughLemmas
 mod SearchLemmas
 mod SeenLemmas
 mod ProvenLemmas
-mod FoundLemmas
+pub mod KnownFound
 mod FactLemmas
 mod SoundLemmas
 mod TextLemmas

@@ -5,7 +5,7 @@ use Rattle.nj_print.specs.Primed.{with_primes}
 use Rattle.formula_texts.proofs.KnownPrimed.{least_is}
 use Rattle.suggest_rules.specs.declared.names.Names.{Names}
 use Rattle.suggest_rules.specs.Names.{is_taken, longest_taken, numbered, next_name}
-use Rattle.nj_suggest.proofs.FreeLemmas.{taken_length, few_taken}
+use Rattle.nj_suggest.proofs.KnownFree.{taken_length, few_taken}
 
 module _ (aliases : List (List ℕ)) (names : Names) where
   -- the name with so many `'`, where it is taken with each fewer

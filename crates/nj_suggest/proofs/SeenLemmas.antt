@@ -10,7 +10,7 @@ use Rattle.suggest_rules.specs.declared.names.Names.{Names}
 use Rattle.suggest_rules.specs.Names.{others, unhidden, citable, is_name_of, next_name, assuming}
 use Rattle.nj_suggest.specs.Plain.{IsPlain}
 use Rattle.nj_suggest.proofs.DotLemmas.{next_name-part}
-use Rattle.nj_suggest.proofs.FreeLemmas.{next_free}
+use Rattle.nj_suggest.proofs.KnownFree.{next_free}
 
 -- the name is of one part, and the first fact of this name is this one
 pub record Means (locals : List Local) (local : Local) : Type 0 where

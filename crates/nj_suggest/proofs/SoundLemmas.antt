@@ -19,7 +19,7 @@ use Rattle.suggest_rules.specs.declared.names.Names.{Names}
 use Rattle.suggest_rules.specs.Names.{next_name, assuming}
 use Rattle.suggest_rules.specs.Search as S
 use Rattle.suggest_rules.specs.Search.{if_so, says_same, is_false, citing, found_by, found_within}
-use Rattle.nj_suggest.proofs.FoundLemmas.{either, so, mapped, paired, among, passing}
+use Rattle.nj_suggest.proofs.KnownFound.{either, so, mapped, paired, among, passing}
 use Rattle.nj_suggest.proofs.ProvenLemmas.{IsRight, by_conj_i, by_disj_i1, by_disj_i2, by_imp_i, by_not_i, by_conj_e1, by_conj_e2, by_imp_e, by_not_e, by_false_e, by_disj_e}
 use Rattle.nj_suggest.proofs.SeenLemmas.{Means, Sees, assuming-seen}
 use Rattle.nj_suggest.proofs.FactLemmas.{is_rolled, same_so, so_same, false_is, fact_right, usable, says_conj, says_implies}

@@ -18,7 +18,7 @@ use Rattle.suggest_rules.specs.Names.{is_alias, next_name, assuming}
 use Rattle.suggest_rules.specs.Search as S
 use Rattle.suggest_rules.specs.Search.{if_so, says_same, is_false, citing, found_by, found_within}
 use Rattle.suggested_texts.specs.Citable.{IsCitable}
-use Rattle.suggested_texts.proofs.FoundParts.{either, so, mapped, paired, among, passing}
+use Rattle.nj_suggest.proofs.KnownFound.{either, so, mapped, paired, among, passing}
 use Rattle.suggested_texts.proofs.FreeRules.{rule_free, and_readable, or_readable, implies_readable, not_readable, false_readable}
 use Rattle.suggested_texts.proofs.NewNames.{next_free_name}
 use Rattle.suggested_texts.proofs.RuleParts.{Parts, term_of}

@@ -5,8 +5,6 @@ mod Written
 mod WrittenTexts
 mod WrittenLexemes
 mod CommandTexts
-mod FoundParts
-mod FreeNames
 mod NewNames
 mod FreeRules
 mod FoundWritten

@@ -12,7 +12,7 @@ use Rattle.outer_tokens.specs.Words.{same, is_base_command, is_minor_keyword}
 use Rattle.suggest_rules.specs.declared.names.Names.{Names}
 use Rattle.suggest_rules.specs.Names.{is_alias, is_name_of, next_name}
 use Rattle.suggested_texts.specs.Citable.{IsFree}
-use Rattle.suggested_texts.proofs.FreeNames.{next_free}
+use Rattle.nj_suggest.proofs.KnownFree.{next_free}
 
 -- a decimal digit
 abbrev IsDigit : ℕ → Type 0
