@@ -1,5 +1,5 @@
 //! The queue.
-ghost use Rattle.std.specs.Prelude.{◌≡◌, ◌≢◌, ◌+◌, ◌-◌, ◌<◌, nat_lt, ◌≤◌, ◌==◌, ◌↔◌, ℕ, true, false, [], Some, None, length, take, drop, ◌∷◌, ◌++◌, IfSome, IfNone, IsSome, OnOk, OnErr, IsTrue, if◌then◌else◌, AllPairs};
+ghost use Rattle.std.specs.Prelude.{◌≡◌, ◌≢◌, ◌+◌, ◌-◌, ◌<◌, nat_lt, ◌≤◌, ◌==◌, ◌↔◌, ℕ, true, false, [], Some, None, length, take, drop, ◌∷◌, ◌++◌, is_some, IfSome, IfNone, IfOk, IsSome, OnOk, OnErr, IsTrue, if◌then◌else◌, AllPairs};
 ghost use Rattle.std.specs.Option.{option_map, option_copied};
 ghost use Rattle.task_queue.specs.Tasks.{standing, has, is_ready};
 ghost use Rattle.task_queue.specs.Ready.{AreReady, IsNext, IsReadyPart, IsPlaceFor, priority_of, comes_first, with_standing};
@@ -7,6 +7,7 @@ ghost use Rattle.task_queue.specs.Order.{goes_before};
 ghost use Rattle.task_queue.specs.Deque.{capacity_of};
 ghost use Rattle.std.specs.HashMap.{hash_map_len, spare};
 ghost use Rattle.task_queue.specs.Kept.{looked};
+ghost use Rattle.pide_base.specs.Ids.{IsId};
 ghost use Rattle.pide_base.specs.declared.part.Part.{Part};
 ghost use Rattle.task_queue.specs.declared.task.Standing.{Standing};
 ghost use Rattle.task_queue.specs.Changes.{waiting, taken, without, with_priority, nobody_waits, IsHeld, ready_kind, released};
@@ -48,7 +49,8 @@ impl Model for TaskQueue {
 impl TaskQueue {
     /// A queue of no tasks, which takes no memory.
     pub fn new(alloc: Global) -> TaskQueue
-        ensures { (e : ℕ) → standing result e ≡ None }
+        ensures tasks { (e : ℕ) → standing result e ≡ None }
+        ensures count { length result.tasks ≡ 0 }
     {
         TaskQueue {
             tasks: HashMap::new(alloc),
@@ -72,6 +74,27 @@ impl TaskQueue {
         self.tasks.get(&exec.number())
     }
 
+    /// How many executions have a task.
+    pub fn count(&self) -> usize
+        ensures { result ≡ length self.now.tasks }
+    {
+        self.tasks.len()
+    }
+
+    /// The executions that have a task, in no order.
+    pub fn executions(&self, alloc: Global) -> Result<Vec<ExecId>, AllocError>
+        ensures { IfOk result (λ found. (e : ℕ) → IsId e
+            → has found.items e ≡ is_some (standing self.now e)) }
+    {
+        let mut found = Vec::new(alloc);
+        for number in self.tasks.keys() {
+            if let Some(exec) = ExecId::new(*number) {
+                found.push(exec)?;
+            }
+        }
+        Ok(found)
+    }
+
     /// Whether a task waits for the execution. It looks at all tasks; who puts tasks in by rising
     /// ids, each behind those that it waits for, need not ask.
     pub fn is_awaited(&self, exec: ExecId) -> bool
@@ -90,6 +113,7 @@ impl TaskQueue {
     /// are as before, and no room is lost.
     pub fn reserve(&mut self, tasks: usize, inputs: usize) -> Result<(), AllocError>
         ensures tasks { (e : ℕ) → standing self.new e ≡ standing self.old e }
+        ensures count { length self.new.tasks ≡ length self.old.tasks }
         ensures ok { OnOk result (tasks ≤ self.new.room) }
         ensures links { OnOk result (inputs ≤ self.new.links) }
         ensures room { self.old.room ≤ self.new.room }
@@ -114,6 +138,7 @@ impl TaskQueue {
         requires links { length task.inputs ≤ self.old.links }
         ensures tasks { (e : ℕ) → standing self.new e
             ≡ with_standing (standing self.old) task.part.exec (Some (waiting task)) e }
+        ensures count { length self.new.tasks ≡ length self.old.tasks + 1 }
         ensures room { self.old.room ≤ self.new.room + 1 }
         ensures links { self.old.links ≤ self.new.links + length task.inputs }
     {
@@ -149,6 +174,7 @@ impl TaskQueue {
         ensures others { (e : ℕ) → e ≢ exec → standing self.new e
             ≡ option_map (without exec) (standing self.old e) }
         ensures free { nobody_waits self.new exec }
+        ensures count { length self.new.tasks + 1 ≡ length self.old.tasks }
         ensures room { self.old.room ≤ self.new.room }
         ensures links { self.old.links ≤ self.new.links }
     {
@@ -164,6 +190,8 @@ impl TaskQueue {
     pub fn cancel_group(&mut self, exec: ExecId)
         ensures tasks { (e : ℕ)
             → standing self.new e ≡ with_standing (standing self.old) exec None e }
+        ensures count { length self.new.tasks
+            + (if is_some (standing self.old exec) then 1 else 0) ≡ length self.old.tasks }
         ensures room { self.old.room ≤ self.new.room }
         ensures links { self.old.links ≤ self.new.links }
     {
@@ -180,6 +208,7 @@ impl TaskQueue {
     pub fn set_priority(&mut self, exec: ExecId, priority: Priority)
         ensures tasks { (e : ℕ) → standing self.new e ≡ with_standing (standing self.old) exec
             (option_map (with_priority priority) (standing self.old exec)) e }
+        ensures count { length self.new.tasks ≡ length self.old.tasks }
         ensures room { self.old.room ≤ self.new.room }
         ensures links { self.old.links ≤ self.new.links }
     {
@@ -219,6 +248,7 @@ impl TaskQueue {
             ≡ with_standing (standing self.old) part.exec
             (option_map taken (standing self.old part.exec)) e) }
         ensures unchanged { IfNone result (self.new ≡ self.old) }
+        ensures count { length self.new.tasks ≡ length self.old.tasks }
         ensures room { self.old.room ≤ self.new.room }
         ensures links { self.old.links ≤ self.new.links }
     {
@@ -263,6 +293,8 @@ fn put(tasks: &mut Table, exec: u64, standing: Standing)
 fn remove(tasks: &mut Table, exec: u64)
     ensures tasks { (e : ℕ) → looked tasks.new e ≡ with_standing (looked tasks.old) exec None e }
     ensures len { hash_map_len tasks.new ≤ hash_map_len tasks.old }
+    ensures count { hash_map_len tasks.new + (if is_some (looked tasks.old exec) then 1 else 0)
+        ≡ hash_map_len tasks.old }
     ensures room { spare tasks.old ≤ spare tasks.new }
 {
     tasks.remove(&exec);
