@@ -14,22 +14,23 @@ const PIECE: usize = 100;
 /// How many bytes the sink has room for.
 const ROOM: usize = 16_384;
 
-/// Messages, and all that is replied. A chunk of YXML is shown as XML, in which `</>` closes an
-/// element.
+/// Messages, and all that is replied. A message is a line; a `|` stands between its chunks, and
+/// YXML is shown as XML, in which `</>` closes an element.
 #[derive(Clone, Copy)]
 pub(crate) struct Row {
     /// What the row shows.
     pub(crate) shows: &'static str,
-    pub(crate) words: &'static [&'static str],
-    pub(crate) sent: &'static [&'static [&'static str]],
-    pub(crate) replied: &'static [&'static [&'static str]],
+    /// The word of the command line.
+    pub(crate) word: &'static str,
+    pub(crate) sent: &'static [&'static str],
+    pub(crate) replied: &'static [&'static str],
 }
 
 impl Row {
     /// Whether just that is replied.
     pub(crate) fn holds(&self, alloc: Global) -> Result<bool, Fail> {
         let sent = stream_of(alloc, self.sent)?;
-        let replied = replied_to(alloc, self.words, sent)?;
+        let replied = replied_to(alloc, &[self.word], sent)?;
         Ok(replied.contents() == stream_of(alloc, self.replied)?.as_slice())
     }
 }
@@ -47,23 +48,23 @@ pub(crate) fn replied_to(alloc: Global, words: &[&str], sent: Vec<u8>) -> Result
     }
 }
 
-/// The messages of these chunks, one after the other.
-pub(crate) fn stream_of(alloc: Global, messages: &[&[&str]]) -> Result<Vec<u8>, AllocError> {
+/// The messages that are shown so, one after the other.
+pub(crate) fn stream_of(alloc: Global, messages: &[&str]) -> Result<Vec<u8>, AllocError> {
     let mut bytes = Vec::new(alloc);
-    for chunks in messages {
-        add_message(alloc, &mut bytes, chunks)?;
+    for message in messages {
+        add_message(alloc, &mut bytes, message)?;
     }
     Ok(bytes)
 }
 
-/// Adds the message of these chunks.
+/// Adds the message that is shown so.
 pub(crate) fn add_message(
     alloc: Global,
     bytes: &mut Vec<u8>,
-    chunks: &[&str],
+    message: &str,
 ) -> Result<(), AllocError> {
     let mut spelled = Vec::new(alloc);
-    for chunk in chunks {
+    for chunk in message.split('|') {
         spelled.push(Items::from_vec(bytes_of(alloc, chunk)?))?;
     }
     append_message(bytes, &spelled)

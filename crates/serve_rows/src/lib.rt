@@ -13,6 +13,8 @@ mod exchange;
 #[cfg(test)]
 mod made;
 #[cfg(test)]
+mod messages;
+#[cfg(test)]
 mod refusals;
 #[cfg(test)]
 mod shown;
