@@ -1,23 +1,12 @@
-//! The executions that a version assigns, gathered.
+//! The executions that rows have, gathered.
 ghost use Rattle.std.specs.Prelude.{◌≡◌, ◌++◌, ℕ, flat_map, OnOk};
 ghost use Rattle.std.specs.List.Sorted.{IsStrictlyIncreasing};
 ghost use Rattle.import_rounds.specs.Rounds.{has};
 ghost use Rattle.exec_rules.specs.Listed.{executions};
-ghost use Rattle.core_rules.specs.Assigned.{executions_of};
 
-use exec_rules::{Row, Version};
+use exec_rules::Row;
 use pide_base::ExecId;
 use std::alloc::AllocError;
-
-/// Adds all that a version assigns.
-pub(crate) fn add_version(execs: &mut Vec<ExecId>, version: &Version) -> Result<(), AllocError>
-    ensures { OnOk result (execs.new.items ≡ execs.old.items ++ executions_of version.now) }
-{
-    for node in version.assigned.as_slice() {
-        add_rows(execs, node.get().rows.as_slice())?;
-    }
-    Ok(())
-}
 
 /// Adds all that stands in these rows.
 pub(crate) fn add_rows(execs: &mut Vec<ExecId>, rows: &[Row]) -> Result<(), AllocError>

@@ -1,5 +1,5 @@
-//! The executions that versions and nodes assign, as lists, and what came of a node's commands: by
-//! rows and a table of executions.
+//! The executions with an unfinished part, as lists, and what came of a node's commands: by rows and
+//! a table of executions.
 //!
 //! It must not know a language, what has happened, tasks or workers.
 #![tactic(auto)]
@@ -9,5 +9,5 @@ mod opened;
 mod results;
 mod shown;
 
-pub use opened::{open_among, open_in};
+pub use opened::open_among;
 pub use results::{NodeResults, PartResult, results_at};

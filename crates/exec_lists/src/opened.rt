@@ -4,30 +4,13 @@ ghost use Rattle.std.specs.List.Sorted.{IsStrictlyIncreasing};
 ghost use Rattle.import_rounds.specs.Rounds.{has};
 ghost use Rattle.exec_table.specs.Rows.{execution_of};
 ghost use Rattle.exec_rules.specs.Listed.{executions};
-ghost use Rattle.core_rules.specs.Assigned.{executions_of};
 ghost use Rattle.exec_lists.specs.Parts.{is_unfinished};
 
-use crate::gathering::{add_rows, add_version, rising};
-use exec_rules::{Row, Version};
+use crate::gathering::{add_rows, rising};
+use exec_rules::Row;
 use exec_table::{Execs, Progress};
 use pide_base::ExecId;
 use std::alloc::{AllocError, Global};
-
-/// The executions that a version assigns with an unfinished part, rising.
-pub fn open_in<R>(
-    alloc: Global,
-    execs: &Execs<R>,
-    version: &Version,
-) -> Result<Vec<ExecId>, AllocError>
-    ensures rises { IfOk result (λ found. IsStrictlyIncreasing found.items) }
-    ensures same { IfOk result (λ found. (e : ℕ) → has found.items e
-        ≡ has (filter (λ n. is_unfinished (execution_of execs.now.rows n))
-        (executions_of version.now)) e) }
-{
-    let mut all = Vec::new(alloc);
-    add_version(&mut all, version)?;
-    open_among(alloc, execs, &all)
-}
 
 /// The executions of these rows with an unfinished part, rising.
 pub(crate) fn pending_in<R>(

@@ -1,8 +1,8 @@
 -- What is kept once an execution is cancelled.
-use Rattle.std.proofs.Common.{◌≡◌, ℕ, ◌≤◌, Bool, true, false, cond, not, ◌&&◌, ◌||◌, List, ◌∷◌, Option, Some, None, refl, ap, sym, subst, ◌∙◌, arith}
+use Rattle.std.proofs.Common.{◌≡◌, ℕ, ◌≤◌, Bool, true, false, cond, not, ◌&&◌, ◌||◌, List, [], ◌∷◌, ◌++◌, Option, Some, None, refl, ap, sym, subst, ◌∙◌, arith}
 use Rattle.std.proofs.lemmas.Bool.{eqb-true, eq-eqb, false≢true}
-use Rattle.std.specs.Prelude.{◌==◌}
-use Rattle.std.proofs.Math.Bool.{or-false, or-true}
+use Rattle.std.specs.Prelude.{◌==◌, ◌+◌}
+use Rattle.std.proofs.Math.Bool.{and-false, or-false, or-true}
 use Rattle.import_rounds.specs.Rounds.{has}
 use Rattle.pide_base.specs.declared.part.PartKind.{PartKind}
 use Rattle.exec_table.specs.declared.execution.Execution.{Execution}
@@ -20,8 +20,9 @@ use Rattle.core_rules.specs.Doc.{Doc, doc}
 use Rattle.core_jobs.specs.declared.done.Done.{Done}
 use Rattle.prover_core.specs.Progress.{completed_in, next_of, row_by, row_of}
 use Rattle.prover_core.specs.Tasks.{AreTasks, HasTask}
-use Rattle.prover_core.specs.Kept.{Tables, IsKept, IsKnown, IsQuiet}
+use Rattle.prover_core.specs.Kept.{Tables, IsKept, IsKnown}
 use Rattle.prover_core.proofs.OpenRows.{row_known, row_with_mark}
+use Rattle.prover_core.proofs.Noted.{noted_too}
 use Rattle.prover_core.proofs.CancelTold.{turned, row as told_row, after_told as told_after}
 
 module _ {S : Type 0} (l : Lang S) (h : List Event) (t : Tables S) (k : IsKept l h t) (e : ℕ) where
@@ -62,11 +63,12 @@ module _ {S : Type 0} (l : Lang S) (h : List Event) (t : Tables S) (k : IsKept l
   homed f live = k.known f live
 
   -- the other tables, where rows and tasks are right
-  pub kept_with : (rows : ℕ → Option (Execution (Done S))) (tasks : ℕ → Option Task) (room : ℕ) (quiet : Bool) → has_ended h ≡ false
+  pub kept_with : (rows : ℕ → Option (Execution (Done S))) (tasks : ℕ → Option Task) (room count : ℕ) (cancelled : List ℕ) (spare : ℕ) → has_ended h ≡ false
       → is_assigned d.live e ≡ true → ((f : ℕ) → rows f ≡ row_of l more (doc l more) f)
-      → ((f : ℕ) → HasTask l more (doc l more) f (tasks f)) → t.room ≤ room → (quiet ≡ true → IsQuiet (doc l more))
-      → IsKept l more (record t { rows = rows; tasks = tasks; room = room; quiet = quiet })
-  kept_with rows tasks room quiet going live are have fits still = record {
+      → ((f : ℕ) → HasTask l more (doc l more) f (tasks f)) → t.room ≤ room
+      → ((f : ℕ) → has cancelled f ≡ (assigns d.tip f && has (doc l more).cancelled f)) → count ≤ spare
+      → IsKept l more (record t { rows = rows; tasks = tasks; room = room; count = count; cancelled = cancelled; spare = spare })
+  kept_with rows tasks room count cancelled spare going live are have fits noted can_note = record {
     legal = (k.legal, (going, live));
     start_is = k.start_is;
     live = k.live;
@@ -83,8 +85,9 @@ module _ {S : Type 0} (l : Lang S) (h : List Event) (t : Tables S) (k : IsKept l
     held_next = k.held_next;
     tasks = have;
     ended = k.ended;
-    quiet = still;
+    cancelled = noted;
     room = omega (arith, fits, k.room);
+    spare = can_note;
   }
 
   abbrev row_with : ℕ → Bool → Option (Execution (Done S))
@@ -98,10 +101,10 @@ module _ {S : Type 0} (l : Lang S) (h : List Event) (t : Tables S) (k : IsKept l
       → (has d.cancelled e || not opened) ≡ true
       → ((f : ℕ) → rows f ≡ cond (e == f) (after_cancelling (t.rows e)) (t.rows f))
       → IsKept l more (record t { rows = rows })
-  idle_kept rows going live idle updates = kept_with rows t.tasks t.room t.quiet going live
+  idle_kept rows going live idle updates = kept_with rows t.tasks t.room t.count t.cancelled t.spare going live
       (λ f. updates f ∙ same f (e == f) refl ∙ k.rows f ∙ ap (row_with f) (sym (marked_idle f idle)))
       (λ f. subst (λ b. AreTasks (standing h) d.tip d.homes f (present_with f b) (t.tasks f)) (sym (marked_idle f idle)) (k.tasks f))
-      (omega arith) (λ is f there. marked_idle f idle ∙ k.quiet is f there)
+      (omega arith) (λ f. k.cancelled f ∙ ap (λ b. assigns d.tip f && b) (sym (marked_idle f idle))) k.spare
     where
       kept : after_cancelling (t.rows e) ≡ t.rows e
       kept = after_told live ∙ ap (λ b. Some (cond b (row (k.known e live)) (record (row (k.known e live)) { cancelled = true }))) idle
@@ -111,16 +114,20 @@ module _ {S : Type 0} (l : Lang S) (h : List Event) (t : Tables S) (k : IsKept l
       same f true is = kept ∙ ap t.rows (eqb-true e f is)
       same f false is = refl
 
-  -- where an unfinished part is cancelled, its task goes
-  pub cancelled_kept : (rows : ℕ → Option (Execution (Done S))) (tasks : ℕ → Option Task) (room : ℕ) → has_ended h ≡ false
+  -- where an unfinished part is cancelled, its task goes, and it is noted
+  pub cancelled_kept : (rows : ℕ → Option (Execution (Done S))) (tasks : ℕ → Option Task) (room count : ℕ) (cancelled : List ℕ) (spare : ℕ)
+      → has_ended h ≡ false
       → (live : is_assigned d.live e ≡ true) → (has d.cancelled e || not opened) ≡ false
       → ((f : ℕ) → rows f ≡ cond (e == f) (after_cancelling (t.rows e)) (t.rows f))
       → ((f : ℕ) → tasks f ≡ with_standing t.tasks e None f) → t.room ≤ room
-      → IsKept l more (record t { rows = rows; tasks = tasks; room = room; quiet = false })
-  cancelled_kept rows tasks room going live cancels updates gone fits = kept_with rows tasks room false going live
+      → assigns d.tip e ≡ true → cancelled ≡ t.cancelled ++ e ∷ [] → count + 1 ≡ t.count → t.spare ≤ spare + 1
+      → IsKept l more (record t { rows = rows; tasks = tasks; room = room; count = count; cancelled = cancelled; spare = spare })
+  cancelled_kept rows tasks room count cancelled spare going live cancels updates gone fits there noted fewer less =
+      kept_with rows tasks room count cancelled spare going live
       (λ f. updates f ∙ row_so f (e == f) refl)
       (λ f. subst (λ o. HasTask l more (doc l more) f o) (sym (gone f)) (task_so f (e == f) refl)) fits
-      (λ is. absurd (false≢true is))
+      (λ f. ap (λ es. has es f) noted ∙ noted_too (assigns d.tip) d.cancelled e f _ (marked f cancels) t.cancelled there (k.cancelled f))
+      (omega (arith, fewer, less, k.spare))
     where
       mine : after_cancelling (t.rows e) ≡ row_with e true
       mine = after_told live ∙ ap (λ b. Some (cond b (row (k.known e live)) (record (row (k.known e live)) { cancelled = true }))) cancels
@@ -136,12 +143,8 @@ module _ {S : Type 0} (l : Lang S) (h : List Event) (t : Tables S) (k : IsKept l
       row_so f true is = mine ∙ ap (row_with e) (sym itself) ∙ ap (λ x. row_with x (has (doc l more).cancelled x)) (eqb-true e f is)
       row_so f false is = k.rows f ∙ ap (row_with f) (sym (others f is))
 
-      none : (a : Bool) (o : Option PartKind) → cond (a && not true) o None ≡ None
-      none true o = refl
-      none false o = refl
-
       task_so : (f : ℕ) (b : Bool) → (e == f) ≡ b → HasTask l more (doc l more) f (cond b None (t.tasks f))
       task_so f true is = subst (λ x. HasTask l more (doc l more) x None) (eqb-true e f is)
           (subst (λ o. AreTasks (standing h) d.tip d.homes e o None)
-          (sym (ap (present_with e) itself ∙ none (assigns d.tip e) (next_of l h d e))) tt)
+          (sym (ap (present_with e) itself ∙ ap (λ b. cond b (next_of l h d e) None) (and-false (assigns d.tip e)))) tt)
       task_so f false is = subst (λ b. AreTasks (standing h) d.tip d.homes f (present_with f b) (t.tasks f)) (sym (others f is)) (k.tasks f)

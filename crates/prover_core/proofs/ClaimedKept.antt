@@ -1,5 +1,5 @@
 -- What is kept once the first ready part is taken.
-use Rattle.std.proofs.Common.{◌≡◌, ℕ, ◌≤◌, Bool, true, false, cond, List, ◌∷◌, Option, Some, None, refl, ap, sym, subst, ◌∙◌}
+use Rattle.std.proofs.Common.{◌≡◌, ℕ, ◌≤◌, Bool, true, false, cond, List, ◌∷◌, Option, Some, None, refl, ap, sym, subst, ◌∙◌, arith}
 use Rattle.std.proofs.lemmas.Bool.{eqb-true}
 use Rattle.std.specs.Prelude.{◌==◌, not, ◌&&◌}
 use Rattle.import_rounds.specs.Rounds.{has}
@@ -77,11 +77,11 @@ module _ {S : Type 0} (l : Lang S) (h : List Event) (t : Tables S) (k : IsKept l
       go true x = let alike : p ≡ q = cc in subst (λ (y : Part). next_of l h d y.exec ≡ Some y.kind) alike next_p
       go false x = k.held_next w q x
 
-  pub claimed_kept : (holders : ℕ → Option Part) (holding : ℕ) (tasks : ℕ → Option Task) (room : ℕ)
+  pub claimed_kept : (holders : ℕ → Option Part) (holding : ℕ) (tasks : ℕ → Option Task) (room count : ℕ)
       → ((w : ℕ) → holders w ≡ cond (who == w) (Some p) (t.holders w))
-      → ((e : ℕ) → tasks e ≡ with_standing t.tasks p.exec (option_map taken (t.tasks p.exec)) e) → holding ≤ room
-      → IsKept l more (record t { holders = holders; holding = holding; tasks = tasks; room = room })
-  claimed_kept holders holding tasks room takes taking fits = record {
+      → ((e : ℕ) → tasks e ≡ with_standing t.tasks p.exec (option_map taken (t.tasks p.exec)) e) → holding ≤ room → count ≡ t.count
+      → IsKept l more (record t { holders = holders; holding = holding; tasks = tasks; room = room; count = count })
+  claimed_kept holders holding tasks room count takes taking fits as_many = record {
     legal = (k.legal, (going, idle, first));
     start_is = k.start_is;
     live = k.live;
@@ -100,6 +100,7 @@ module _ {S : Type 0} (l : Lang S) (h : List Event) (t : Tables S) (k : IsKept l
         (subst (λ o. AreTasks (standing more) d.tip d.homes e o (with_standing t.tasks p.exec (option_map taken (t.tasks p.exec)) e))
         (sym (present_same l d e h more (same e))) (task_by e (p.exec == e) refl));
     ended = k.ended;
-    quiet = k.quiet;
+    cancelled = k.cancelled;
     room = fits;
+    spare = omega (arith, as_many, k.spare);
   }

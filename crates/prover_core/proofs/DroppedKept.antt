@@ -79,6 +79,7 @@ module _ {S : Type 0} (l : Lang S) (h : List Event) (t : Tables S) (k : IsKept l
     tasks = λ e. subst (λ o. AreTasks (standing more) d.tip d.homes e o (t.tasks e)) (sym (present_same l d e h more (same e)))
         (task_by e (p.exec == e) refl);
     ended = k.ended;
-    quiet = k.quiet;
+    cancelled = k.cancelled;
     room = omega (arith, fewer, k.room);
+    spare = k.spare;
   }

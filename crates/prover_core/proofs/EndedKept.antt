@@ -27,8 +27,9 @@ ended_kept l h t k going = record {
   held_next = k.held_next;
   tasks = k.tasks;
   ended = refl;
-  quiet = k.quiet;
+  cancelled = k.cancelled;
   room = k.room;
+  spare = k.spare;
 }
 
 -- what has happened may be told in other words

@@ -44,16 +44,16 @@ module _ {S : Type 0} (l : Lang S) (h : List Event) (t : Tables S) (k : IsKept l
       ≡ Some (now l h t k who p done holds wanted (right_for l (doc l h).homes p done same right))
   is_taken_in = then
 
-  pub finish_kept : (rows : ℕ → Option (Execution (Done S))) (holders : ℕ → Option Part) (holding : ℕ) (tasks : ℕ → Option Task) (room : ℕ)
+  pub finish_kept : (rows : ℕ → Option (Execution (Done S))) (holders : ℕ → Option Part) (holding : ℕ) (tasks : ℕ → Option Task) (room count : ℕ)
       → ((e : ℕ) → rows e ≡ cond (p.exec == e) (option_and_then (finished_in x) (t.rows p.exec)) (t.rows e))
       → ((w : ℕ) → holders w ≡ cond (who == w) None (t.holders w))
       → tasks p.exec ≡ task_behind (kind_behind p.kind f)
       → (p.kind ≡ kind.Eval → (e : ℕ) → e ≢ p.exec → tasks e ≡ option_map (without p.exec) (t.tasks e))
       → (p.kind ≡ kind.Eval → (e : ℕ) → e ≢ p.exec → option_map_or (λ (s : Task). has_input s.inputs p.exec) (tasks e) false ≡ false)
-      → (same_kind p.kind kind.Eval ≡ false → (e : ℕ) → e ≢ p.exec → tasks e ≡ t.tasks e) → holding ≤ room
-      → IsKept l (Finished who p ∷ h) (record t { rows = rows; holders = holders; holding = holding; tasks = tasks; room = room })
-  finish_kept rows holders holding tasks room updates out at waiters free others fits =
-      finished_kept l h t k laws who p holds wanted rows holders holding tasks room
+      → (same_kind p.kind kind.Eval ≡ false → (e : ℕ) → e ≢ p.exec → tasks e ≡ t.tasks e) → holding ≤ room → count ≤ t.count
+      → IsKept l (Finished who p ∷ h) (record t { rows = rows; holders = holders; holding = holding; tasks = tasks; room = room; count = count })
+  finish_kept rows holders holding tasks room count updates out at waiters free others fits fewer =
+      finished_kept l h t k laws who p holds wanted rows holders holding tasks room count
       (option_and_then (finished_in x) (t.rows p.exec))
       (then ∙ row_then l h t k who p done holds wanted (right_for l (doc l h).homes p done same right))
       updates out
@@ -61,4 +61,4 @@ module _ {S : Type 0} (l : Lang S) (h : List Event) (t : Tables S) (k : IsKept l
       (at ∙ ap (λ b. task_behind (kind_behind p.kind b)) f_is
       ∙ ap task_behind (behind_is l h t k who p done holds wanted (right_for l (doc l h).homes p done same right)))
       waiters free others)
-      (behind_eval l h t k laws who p holds wanted) fits
+      (behind_eval l h t k laws who p holds wanted) fits fewer

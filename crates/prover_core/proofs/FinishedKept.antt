@@ -1,5 +1,5 @@
 -- What is kept once a part is finished.
-use Rattle.std.proofs.Common.{◌≡◌, ℕ, ◌≤◌, Bool, true, false, cond, List, ◌∷◌, Option, Some, None, refl, ap, sym, subst, ◌∙◌}
+use Rattle.std.proofs.Common.{◌≡◌, ℕ, ◌≤◌, Bool, true, false, cond, List, ◌∷◌, Option, Some, None, refl, ap, sym, subst, ◌∙◌, arith}
 use Rattle.std.proofs.lemmas.Bool.{eqb-true, eq-eqb, false≢true}
 use Rattle.std.specs.Prelude.{◌==◌}
 use Rattle.pide_base.specs.declared.part.Part.{Part}
@@ -78,12 +78,12 @@ module _ {S : Type 0} (l : Lang S) (h : List Event) (t : Tables S) (k : IsKept l
   order_by kind.Fork c order behind is = behind refl
   order_by kind.Print c order behind is = order is
 
-  pub finished_kept : (rows : ℕ → Option (Execution (Result S))) (holders : ℕ → Option Part) (holding : ℕ) (tasks : ℕ → Option Task) (room : ℕ)
+  pub finished_kept : (rows : ℕ → Option (Execution (Result S))) (holders : ℕ → Option Part) (holding : ℕ) (tasks : ℕ → Option Task) (room count : ℕ)
       → (o : Option (Execution (Result S))) → o ≡ row_of l more d p.exec → ((e : ℕ) → rows e ≡ cond (p.exec == e) o (t.rows e))
       → ((w : ℕ) → holders w ≡ cond (who == w) None (t.holders w))
-      → ((e : ℕ) → HasTask l more d e (tasks e)) → (p.kind ≡ kind.Fork → (completed_in h p.exec).eval ≡ true) → holding ≤ room
-      → IsKept l more (record t { rows = rows; holders = holders; holding = holding; tasks = tasks; room = room })
-  finished_kept rows holders holding tasks room o row_is updates out are behind fits = record {
+      → ((e : ℕ) → HasTask l more d e (tasks e)) → (p.kind ≡ kind.Fork → (completed_in h p.exec).eval ≡ true) → holding ≤ room → count ≤ t.count
+      → IsKept l more (record t { rows = rows; holders = holders; holding = holding; tasks = tasks; room = room; count = count })
+  finished_kept rows holders holding tasks room count o row_is updates out are behind fits fewer = record {
     legal = (k.legal, (holds, wanted));
     start_is = k.start_is;
     live = k.live;
@@ -100,6 +100,7 @@ module _ {S : Type 0} (l : Lang S) (h : List Event) (t : Tables S) (k : IsKept l
     held_next = next_held;
     tasks = are;
     ended = k.ended;
-    quiet = k.quiet;
+    cancelled = k.cancelled;
     room = fits;
+    spare = omega (arith, fewer, k.spare);
   }

@@ -75,3 +75,6 @@ mod StuckList
 mod PartKinds
 mod QuietParts
 mod StuckSince
+mod HaveTasks
+mod LookedAt
+mod Noted

@@ -1,7 +1,7 @@
 -- What was lost behind a version, and the number that came next when it was made.
-use Rattle.std.proofs.Common.{◌≡◌, ℕ, ◌≤◌, Bool, true, false, cond, ◌&&◌, ◌||◌, List, [], ◌∷◌, Some, refl, ap, sym, subst, ◌∙◌, arith}
-use Rattle.std.proofs.lemmas.Bool.{lt-ltb, ltb-true}
-use Rattle.std.specs.Prelude.{◌==◌, nat_lt, find}
+use Rattle.std.proofs.Common.{◌≡◌, ℕ, ◌≤◌, Bool, true, false, cond, ◌&&◌, ◌||◌, List, [], ◌∷◌, Option, Some, None, refl, ap, sym, subst, ◌∙◌, arith}
+use Rattle.std.proofs.lemmas.Bool.{lt-ltb, ltb-true, true≢false}
+use Rattle.std.specs.Prelude.{◌==◌, nat_lt, find, is_some}
 use Rattle.std.specs.Option.{option_map}
 use Rattle.std.specs.Cmp.{first_so}
 use Rattle.std.proofs.Math.Bool.{or-true}
@@ -57,3 +57,34 @@ module _ (d : Doc) where
                 (own_behind n loss later one live are.0 (bounded d.tip (next_number d.homes) loss.next later live are.1)),
           )
       go false is at rest = let there = rest at in (there.0, here false is ∙ there.1, there.2)
+
+  -- those that have a number are the live ones
+  as_live : (n : ℕ) (losses : List Loss) (live : List (Live Version)) → AreLosses d.tip (next_number d.homes) n losses live
+      → (i : ℕ) → is_some (number_of losses i) ≡ is_some (version_of live i)
+  as_live n [] [] are i = refl
+  as_live n [] (one ∷ live) are i = absurd are
+  as_live n (loss ∷ later) [] are i = absurd are
+  as_live n (loss ∷ later) (one ∷ live) are i =
+      ap (λ id. is_some (option_map (λ (x : Loss). x.next) (cond (id == i) (Some loss) (find (λ (x : Loss). x.id == i) later)))) are.0.same
+      ∙ go (one.id == i) (as_live loss.next later live are.1 i)
+    where
+      go : (b : Bool) → is_some (number_of later i) ≡ is_some (version_of live i)
+          → is_some (option_map (λ (x : Loss). x.next) (cond b (Some loss) (find (λ (x : Loss). x.id == i) later)))
+          ≡ is_some (option_map (λ (x : Live Version). x.version) (cond b (Some one) (find (λ (x : Live Version). x.id == i) live)))
+      go true rest = refl
+      go false rest = rest
+
+  module _ (n : ℕ) (losses : List Loss) (live : List (Live Version)) (are : AreLosses d.tip (next_number d.homes) n losses live) (i : ℕ) where
+    pub version_there : (m : ℕ) → number_of losses i ≡ Some m → (v : Version) × (version_of live i ≡ Some v)
+    version_there m at = go (version_of live i) refl
+      where
+        go : (o : Option Version) → version_of live i ≡ o → (v : Version) × (version_of live i ≡ Some v)
+        go (Some v) is = (v, is)
+        go None is = absurd (true≢false (sym (ap is_some at) ∙ as_live n losses live are i ∙ ap is_some is))
+
+    pub no_version : number_of losses i ≡ None → version_of live i ≡ None
+    no_version at = go (version_of live i) refl
+      where
+        go : (o : Option Version) → version_of live i ≡ o → version_of live i ≡ None
+        go None is = is
+        go (Some v) is = absurd (true≢false (sym (ap is_some is) ∙ sym (as_live n losses live are i) ∙ ap is_some at))

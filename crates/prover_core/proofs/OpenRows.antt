@@ -48,7 +48,7 @@ module _ {R : Type 0} (brings : PartKind → R) where
       by f a b false = refl
 
 module _ {S : Type 0} (l : Lang S) (h : List Event) (d : Doc) (e : ℕ) where
-  open_kinds : (ks : List PartKind) → list_any (λ p. not (is_finished h p)) (map (λ k. part e k) ks)
+  pub open_kinds : (ks : List PartKind) → list_any (λ p. not (is_finished h p)) (map (λ k. part e k) ks)
       ≡ list_any (λ k. not (is_in k (completed_in h e))) ks
   open_kinds [] = refl
   open_kinds (k ∷ ks) = ap (λ b. not b || list_any (λ p. not (is_finished h p)) (map (λ x. part e x) ks)) (finished_is h e k)

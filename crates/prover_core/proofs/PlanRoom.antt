@@ -3,6 +3,7 @@ use Rattle.std.proofs.Common.{◌≡◌, ℕ, ◌+◌, ◌-◌, ◌<◌, ◌≤�
 use Rattle.std.proofs.lemmas.List.{take_more, length-append, reverse-append, length-reverse, length-map}
 use Rattle.std.proofs.lemmas.List.Concat.{flat_map-append}
 use Rattle.std.specs.Prelude.{flat_map, min}
+use Rattle.import_rounds.specs.Rounds.{has}
 use Rattle.doc_versions.specs.Live.{History, tip_of}
 use Rattle.exec_table.specs.declared.execution.Execution.{Execution}
 use Rattle.task_queue.specs.declared.task.Standing.{Standing as Task}
@@ -60,49 +61,64 @@ links_turned (one ∷ fresh) =
 
 -- more room changes nothing of what is kept
 pub roomy_tables : {S : Type 0} (l : Lang S) (h : List Event) (t : Tables S) → IsKept l h t
-    → (versions : History Version) (losses : List Loss) (rows : ℕ → Option (Execution (Done S))) (homes : ℕ → Option Home) (tasks : ℕ → Option Task) (room : ℕ)
+    → (versions : History Version) (losses : List Loss) (rows : ℕ → Option (Execution (Done S))) (homes : ℕ → Option Home) (tasks : ℕ → Option Task) (room count : ℕ) (cancelled : List ℕ) (spare : ℕ)
     → versions.start ≡ t.versions.start → versions.live ≡ t.versions.live → losses ≡ t.losses → ((e : ℕ) → rows e ≡ t.rows e) → ((e : ℕ) → homes e ≡ t.homes e)
-    → ((e : ℕ) → tasks e ≡ t.tasks e) → t.room ≤ room
-    → IsKept l h (record t { versions = versions; losses = losses; rows = rows; homes = homes; tasks = tasks; room = room })
-roomy_tables l h t k versions losses rows homes tasks room begins lives same_losses same_rows same_homes same_tasks more = record {
-  legal = k.legal;
-  start_is = begins ∙ k.start_is;
-  live = lives ∙ k.live;
-  tip = ap (λ (v : History Version). tip_of v) alike ∙ k.tip;
-  rows_fit = k.rows_fit;
-  losses = subst (λ xs. AreLosses (doc l h).tip (next_number (doc l h).homes) 0 xs (doc l h).live) (sym same_losses) k.losses;
-  next_is = k.next_is;
-  within = k.within;
-  rows = λ e. same_rows e ∙ k.rows e;
-  homes = λ e. same_homes e ∙ k.homes e;
-  known = k.known;
-  in_order = k.in_order;
-  holders = k.holders;
-  held_next = k.held_next;
-  tasks = λ e. subst (HasTask l h (doc l h) e) (sym (same_tasks e)) (k.tasks e);
-  ended = k.ended;
-  quiet = k.quiet;
-  room = omega (arith, more, k.room);
-}
+    → ((e : ℕ) → tasks e ≡ t.tasks e) → t.room ≤ room → count ≡ t.count → cancelled ≡ t.cancelled → t.spare ≤ spare
+    → IsKept l h (record t {
+      versions = versions;
+      losses = losses;
+      rows = rows;
+      homes = homes;
+      tasks = tasks;
+      room = room;
+      count = count;
+      cancelled = cancelled;
+      spare = spare;
+    })
+roomy_tables l h t k versions losses rows homes tasks room count cancelled spare begins lives same_losses same_rows same_homes same_tasks more
+    as_many same_cancelled sparer = record {
+      legal = k.legal;
+      start_is = begins ∙ k.start_is;
+      live = lives ∙ k.live;
+      tip = ap (λ (v : History Version). tip_of v) alike ∙ k.tip;
+      rows_fit = k.rows_fit;
+      losses = subst (λ xs. AreLosses (doc l h).tip (next_number (doc l h).homes) 0 xs (doc l h).live) (sym same_losses) k.losses;
+      next_is = k.next_is;
+      within = k.within;
+      rows = λ e. same_rows e ∙ k.rows e;
+      homes = λ e. same_homes e ∙ k.homes e;
+      known = k.known;
+      in_order = k.in_order;
+      holders = k.holders;
+      held_next = k.held_next;
+      tasks = λ e. subst (HasTask l h (doc l h) e) (sym (same_tasks e)) (k.tasks e);
+      ended = k.ended;
+      cancelled = λ e. ap (λ es. has es e) same_cancelled ∙ k.cancelled e;
+      room = omega (arith, more, k.room);
+      spare = omega (arith, as_many, sparer, k.spare);
+    }
   where
     alike : record { start = versions.start; live = versions.live; room = t.versions.room } ≡ t.versions
     alike = ap (λ s. record { start = s; live = versions.live; room = t.versions.room }) begins
         ∙ ap (λ ls. record { start = t.versions.start; live = ls; room = t.versions.room }) lives
 
 -- the room is enough for the plan of these steps
-pub room_for : (id : ℕ) (s : Steps) (p : PlanState) (fresh : List Fresh) (versions losses execs known queue held links : ℕ) → p ≡ plan_of id s → fresh ≡ s.fresh.items
+pub room_for : (id : ℕ) (s : Steps) (p : PlanState) (fresh : List Fresh) (versions losses execs known queue held links count spare : ℕ) → p ≡ plan_of id s → fresh ≡ s.fresh.items
     → 1 ≤ versions → 1 ≤ losses → length fresh ≤ execs → length fresh ≤ known → length fresh + held ≤ queue → length (flat_map inputs_of fresh) ≤ links
-    → HasRoom (record { versions = min versions losses; executions = min execs known; tasks = queue - held; links = links }) p
-room_for id s p fresh versions losses execs known queue held links same are some one fit stay wait link =
-    subst (HasRoom (record { versions = min versions losses; executions = min execs known; tasks = queue - held; links = links })) (sym same) (record {
+    → length fresh + count ≤ spare
+    → HasRoom (record { versions = min versions losses; executions = min (min execs known) (spare - count); tasks = queue - held; links = links }) p
+room_for id s p fresh versions losses execs known queue held links count spare same are some one fit stay wait link note =
+    subst (HasRoom (record { versions = min versions losses; executions = min (min execs known) (spare - count); tasks = queue - held; links = links })) (sym same) (record {
       versions = le-min 1 versions losses some one;
-      executions = le-min (length (map (λ (x : Fresh). x.task) (reverse s.fresh.items))) execs known (omega (arith, count, fit)) (omega (arith, count, stay));
-      tasks = omega (arith, count, wait);
+      executions = le-min (length (map (λ (x : Fresh). x.task) (reverse s.fresh.items))) (min execs known) (spare - count)
+          (le-min (length (map (λ (x : Fresh). x.task) (reverse s.fresh.items))) execs known (omega (arith, as_many, fit)) (omega (arith, as_many, stay)))
+          (omega (arith, as_many, note));
+      tasks = omega (arith, as_many, wait);
       links = omega (arith, links_of (reverse s.fresh.items), links_turned s.fresh.items, ap (λ (xs : List Fresh). length (flat_map inputs_of xs)) are, link);
     })
   where
-    count : length (map (λ (x : Fresh). x.task) (reverse s.fresh.items)) ≡ length fresh
-    count = length-map (reverse s.fresh.items) (λ (x : Fresh). x.task) ∙ length-reverse s.fresh.items ∙ sym (ap (λ (xs : List Fresh). length xs) are)
+    as_many : length (map (λ (x : Fresh). x.task) (reverse s.fresh.items)) ≡ length fresh
+    as_many = length-map (reverse s.fresh.items) (λ (x : Fresh). x.task) ∙ length-reverse s.fresh.items ∙ sym (ap (λ (xs : List Fresh). length xs) are)
 
     le-min : (n a b : ℕ) → n ≤ a → n ≤ b → n ≤ min a b
     le-min n a b x y = omega (arith, x, y)

@@ -111,7 +111,7 @@ module _ {S : Type 0} (l : Lang S) (h : List Event) (t : Tables S) (k : IsKept l
       → ((e : ℕ) → tasks3 e ≡ cond (has (map (λ (s : Sight). s.exec) p.sights) e)
       (option_map (ranked (is_visible new e)) (tasks2 e)) (tasks2 e))
       → (losses : List Loss) → losses ≡ t.losses ++ record { id = p.version; next = p.assignment.next; lost = p.dropped } ∷ []
-      → (room : ℕ) → t.holding ≤ room
+      → (room count : ℕ) (cancelled : List ℕ) (spare : ℕ) → t.holding ≤ room → cancelled ≡ [] → count ≤ spare
       → IsKept l more (record t {
         versions = versions;
         losses = losses;
@@ -120,9 +120,11 @@ module _ {S : Type 0} (l : Lang S) (h : List Event) (t : Tables S) (k : IsKept l
         homes = homes;
         tasks = tasks3;
         room = room;
-        quiet = true;
+        count = count;
+        cancelled = cancelled;
+        spare = spare;
       })
-  planned_kept versions begins lives rows1 rows2 tasks1 tasks2 tasks3 homes drop add put out queue see losses push room roomy =
+  planned_kept versions begins lives rows1 rows2 tasks1 tasks2 tasks3 homes drop add put out queue see losses push room count cancelled spare roomy none fits =
       updated_kept l h t k p.version p.nodes p.blobs laws live legal versions begins
       (lives ∙ ap (λ v. t.versions.live ++ record { id = p.version; version = v } ∷ []) same_version)
       (subst RowsFit same_version planned.rows_fit) p.assignment.next next_so
@@ -133,7 +135,7 @@ module _ {S : Type 0} (l : Lang S) (h : List Event) (t : Tables S) (k : IsKept l
       (λ e. has (map (λ (s : Sight). s.exec) p.sights) e) tasks1 tasks2 tasks3 out queue see
       (λ e is. sym (ap (λ v. is_visible v e) same_version) ∙ planned.unseen e is)
       (λ e past is. sym (ap (λ v. is_visible v e) same_version) ∙ planned.unseen_new e past is))
-      p.dropped drops losses push room roomy
+      p.dropped drops losses push room count cancelled spare roomy none fits
 
 -- room in other words
 pub has_room : (s u : CoreState) (q r : PlanState) → s ≡ u → q ≡ r → HasRoom u.room r → HasRoom s.room q

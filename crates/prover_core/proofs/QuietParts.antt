@@ -1,8 +1,10 @@
 -- Where nothing that the tip assigns is cancelled, nothing of it is stuck.
-use Rattle.std.proofs.Common.{◌≡◌, ℕ, zero, suc, ◌<◌, false, true, Bool, not, ◌&&◌, ◌||◌, List, [], ◌∷◌, map, refl, ap, ◌∙◌, arith}
+use Rattle.std.proofs.Common.{◌≡◌, ℕ, zero, suc, ◌<◌, false, true, Bool, not, ◌&&◌, ◌||◌, List, [], ◌∷◌, length, map, refl, ap, sym, ◌∙◌, arith}
+use Rattle.std.specs.Prelude.{◌==◌}
 use Rattle.std.specs.Option.{option_map_or}
 use Rattle.std.specs.List.{list_any, AllByRecursion}
 use Rattle.std.proofs.Math.Bool.{and-false}
+use Rattle.import_rounds.specs.Rounds.{has}
 use Rattle.pide_base.specs.declared.part.PartKind.{PartKind}
 use Rattle.pide_base.specs.declared.part.PartKind.TheVariants as kind
 use Rattle.exec_rules.specs.declared.home.Home.{Home}
@@ -16,9 +18,19 @@ use Rattle.core_rules.specs.Doc.{Doc, doc}
 use Rattle.core_rules.specs.Sources.{IsSource, HasHome}
 use Rattle.core_rules.specs.Stuck.{is_marked, is_stuck, is_stuck_in}
 use Rattle.core_rules.proofs.KnownMarks.{marks}
-use Rattle.prover_core.specs.Kept.{IsQuiet}
+use Rattle.prover_core.specs.Kept.{Tables, IsKept}
 use Rattle.prover_core.specs.Progress.{part}
 use Rattle.prover_core.proofs.StuckMarks.{AllBelow, marked_at}
+use Rattle.prover_core.proofs.WaitedFor.{nothing_waits}
+
+-- nothing that the tip assigns is cancelled
+abbrev pub IsQuiet : Doc → Type 0
+IsQuiet d = (e : ℕ) → assigns d.tip e ≡ true → has d.cancelled e ≡ false
+
+-- so it is where nothing is noted
+pub quiet_so : {S : Type 0} (l : Lang S) (h : List Event) (t : Tables S) → IsKept l h t → (length t.cancelled == 0) ≡ true → IsQuiet (doc l h)
+quiet_so l h t k none e there = sym (ap (λ b. b && has (doc l h).cancelled e) there)
+    ∙ sym (k.cancelled e) ∙ nothing_waits t.cancelled none e
 
 module _ {S : Type 0} (l : Lang S) (h : List Event) (quiet : IsQuiet (doc l h))
     (homes : (e : ℕ) → assigns (doc l h).tip e ≡ true → HasHome l (doc l h) (doc l h).tip e) where

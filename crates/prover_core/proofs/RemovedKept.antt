@@ -110,6 +110,7 @@ module _ {S : Type 0} (l : Lang S) (h : List Event) (t : Tables S) (k : IsKept l
     held_next = k.held_next;
     tasks = k.tasks;
     ended = k.ended;
-    quiet = k.quiet;
+    cancelled = k.cancelled;
     room = k.room;
+    spare = k.spare;
   }

@@ -9,10 +9,10 @@ use Rattle.prover_core.specs.Tasks.{HasTask}
 use Rattle.prover_core.specs.Kept.{Tables, IsKept}
 
 pub roomier : {S : Type 0} (l : Lang S) (h : List Event) (t : Tables S) → IsKept l h t
-    → (holders : ℕ → Option Part) (holding : ℕ) (tasks : ℕ → Option Task) (room : ℕ)
-    → ((who : ℕ) → holders who ≡ t.holders who) → holding ≡ t.holding → ((e : ℕ) → tasks e ≡ t.tasks e) → t.room ≤ room
-    → IsKept l h (record t { holders = holders; holding = holding; tasks = tasks; room = room })
-roomier l h t k holders holding tasks room same len are more = record {
+    → (holders : ℕ → Option Part) (holding : ℕ) (tasks : ℕ → Option Task) (room count : ℕ)
+    → ((who : ℕ) → holders who ≡ t.holders who) → holding ≡ t.holding → ((e : ℕ) → tasks e ≡ t.tasks e) → t.room ≤ room → count ≡ t.count
+    → IsKept l h (record t { holders = holders; holding = holding; tasks = tasks; room = room; count = count })
+roomier l h t k holders holding tasks room count same len are more as_many = record {
   legal = k.legal;
   start_is = k.start_is;
   live = k.live;
@@ -29,6 +29,7 @@ roomier l h t k holders holding tasks room same len are more = record {
   held_next = k.held_next;
   tasks = λ e. subst (HasTask l h (doc l h) e) (sym (are e)) (k.tasks e);
   ended = k.ended;
-  quiet = k.quiet;
+  cancelled = k.cancelled;
   room = omega (arith, len, more, k.room);
+  spare = omega (arith, as_many, k.spare);
 }

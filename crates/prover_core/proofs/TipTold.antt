@@ -15,8 +15,9 @@ use Rattle.core_jobs.specs.declared.done.Done.{Done}
 use Rattle.update_plans.specs.Cancelled.{cancelled_in, IsQuiet as Quiet}
 use Rattle.update_plans.proofs.KnownCancelled.{has_cancelled}
 use Rattle.prover_core.specs.Progress.{completed_in, execution_by, row_by}
-use Rattle.prover_core.specs.Kept.{Tables, IsKnown, IsKept, IsQuiet}
+use Rattle.prover_core.specs.Kept.{Tables, IsKnown, IsKept}
 use Rattle.prover_core.proofs.TipLive.{tip_live}
+use Rattle.prover_core.proofs.QuietParts.{IsQuiet}
 
 module _ {S : Type 0} (l : Lang S) (h : List Event) (t : Tables S) (k : IsKept l h t)
     (rows : List (TableRow (Done S))) (are : (e : ℕ) → execution_of rows e ≡ t.rows e) where

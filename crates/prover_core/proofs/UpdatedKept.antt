@@ -35,6 +35,7 @@ use Rattle.prover_core.proofs.UpdatedTasks.{AreTasksThen, tasks_now}
 use Rattle.prover_core.proofs.TasksOver.{next_old}
 use Rattle.prover_core.proofs.LastOf.{last_is}
 use Rattle.prover_core.proofs.NextMade.{made_next}
+use Rattle.prover_core.proofs.Noted.{none_noted}
 
 module _ {S : Type 0} (l : Lang S) (h : List Event) (t : Tables S) (k : IsKept l h t) (id : ℕ) (nodes : NodeList) (blobs : BlobList)
     (laws : NewLaws l h id nodes blobs) (tip_live : (e : ℕ) → assigns (doc l h).tip e ≡ true → is_assigned (doc l h).live e ≡ true) where
@@ -100,7 +101,8 @@ module _ {S : Type 0} (l : Lang S) (h : List Event) (t : Tables S) (k : IsKept l
       → (homes : ℕ → Option Home) → AreHomes homes
       → (tasks : ℕ → Option Task) → AreTasksThen l h t k id nodes blobs laws tip_live tasks
       → (dropped : List ℕ) → ((e : ℕ) → has dropped e ≡ (assigns d.tip e && not (assigns new e))) → (losses : List Loss)
-      → losses ≡ t.losses ++ record { id = id; next = next; lost = dropped } ∷ [] → (room : ℕ) → t.holding ≤ room
+      → losses ≡ t.losses ++ record { id = id; next = next; lost = dropped } ∷ [] → (room count : ℕ) (cancelled : List ℕ) (spare : ℕ)
+      → t.holding ≤ room → cancelled ≡ [] → count ≤ spare
       → IsKept l more (record t {
         versions = versions;
         losses = losses;
@@ -109,9 +111,11 @@ module _ {S : Type 0} (l : Lang S) (h : List Event) (t : Tables S) (k : IsKept l
         homes = homes;
         tasks = tasks;
         room = room;
-        quiet = true;
+        count = count;
+        cancelled = cancelled;
+        spare = spare;
       })
-  updated_kept legal versions begins lives fits next next_is within rows are_rows homes are_homes tasks are_tasks dropped drops losses put room roomy = record {
+  updated_kept legal versions begins lives fits next next_is within rows are_rows homes are_homes tasks are_tasks dropped drops losses put room count cancelled spare roomy none can_cancel = record {
     legal = legal;
     start_is = begins ∙ k.start_is;
     live = lives ∙ ap (λ xs. xs ++ record { id = id; version = new } ∷ []) k.live;
@@ -138,6 +142,7 @@ module _ {S : Type 0} (l : Lang S) (h : List Event) (t : Tables S) (k : IsKept l
         next_old l h t k id nodes blobs laws tip_live p.exec (made_next l h p.exec p.kind was) ∙ was;
     tasks = tasks_now l h t k id nodes blobs laws tip_live tasks are_tasks;
     ended = k.ended;
-    quiet = λ is. not_cancelled l h id nodes blobs laws tip_live;
+    cancelled = λ e. ap (λ es. has es e) none ∙ none_noted (assigns new e) (has now.cancelled e) (not_cancelled l h id nodes blobs laws tip_live e);
     room = roomy;
+    spare = can_cancel;
   }

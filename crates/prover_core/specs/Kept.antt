@@ -1,5 +1,5 @@
 -- What a core keeps (this project's own): by all that has happened, each table is told.
-use Rattle.std.specs.Prelude.{◌≡◌, ℕ, ◌<◌, ◌≤◌, Bool, true, false, if◌then◌else◌, List, Option, Some, None}
+use Rattle.std.specs.Prelude.{◌≡◌, ℕ, ◌<◌, ◌≤◌, Bool, true, ◌&&◌, if◌then◌else◌, List, Option, Some, None}
 use Rattle.import_rounds.specs.Rounds.{has}
 use Rattle.pide_base.specs.Ids.{id_end}
 use Rattle.pide_base.specs.declared.part.Part.{Part}
@@ -24,7 +24,8 @@ use Rattle.prover_core.specs.Progress.{row_of, next_of, InOrder, completed_in}
 use Rattle.prover_core.specs.Tasks.{HasTask}
 
 -- the tables of a core, each read by its key; how many parts are held, and how many more tasks
--- there is room for; whether it is known that the tip has nothing that is cancelled
+-- there is room for; how many tasks there are; what of the tip is cancelled, and how many more of
+-- it can be noted
 pub record Tables (S : Type 0) : Type 0 where
   pub versions : History Version
   pub losses : List Loss
@@ -35,8 +36,10 @@ pub record Tables (S : Type 0) : Type 0 where
   pub holding : ℕ
   pub tasks : ℕ → Option Task
   pub room : ℕ
+  pub count : ℕ
   pub ended : Bool
-  pub quiet : Bool
+  pub cancelled : List ℕ
+  pub spare : ℕ
 
 -- what an execution goes by that a live version assigns
 abbrev pub home_of : Doc → ℕ → Option Home
@@ -48,10 +51,6 @@ pub record IsBehind (d : Doc) (version : Version) (n : ℕ) : Type 0 where
   pub above : (e : ℕ) → assigns version e ≡ true → e < n
   pub still : (e : ℕ) → assigns d.tip e ≡ true → e < n → assigns version e ≡ true
 
--- nothing that the tip assigns is cancelled
-abbrev pub IsQuiet : Doc → Type 0
-IsQuiet d = (e : ℕ) → assigns d.tip e ≡ true → has d.cancelled e ≡ false
-
 -- it is known what an execution goes by and works on
 pub record IsKnown {S : Type 0} (l : Lang S) (homes : List Home) (e : ℕ) : Type 0 where
   pub home : Home
@@ -62,7 +61,7 @@ pub record IsKnown {S : Type 0} (l : Lang S) (homes : List Home) (e : ℕ) : Typ
 -- they are told by all that has happened: the live versions, with what was lost by them and the
 -- numbers that came next when they were made; the next execution; of each execution that a live
 -- version assigns how far it is, and what it goes by; who holds what; the tasks of the tip; whether
--- all has ended, and whether something of the tip may be cancelled
+-- all has ended, and what of the tip is cancelled
 pub record IsKept {S : Type 0} (l : Lang S) (h : List Event) (t : Tables S) : Type 0 where
   pub legal : IsLegal l h
   pub start_is : t.versions.start ≡ start
@@ -82,6 +81,9 @@ pub record IsKept {S : Type 0} (l : Lang S) (h : List Event) (t : Tables S) : Ty
       → next_of l h (doc l h) p.exec ≡ Some p.kind
   pub tasks : (e : ℕ) → HasTask l h (doc l h) e (t.tasks e)
   pub ended : t.ended ≡ has_ended h
-  pub quiet : t.quiet ≡ true → IsQuiet (doc l h)
+  pub cancelled : (e : ℕ) → has t.cancelled e
+      ≡ (assigns (doc l h).tip e && has (doc l h).cancelled e)
   -- a finished evaluation whose command forks is followed by its fork's task, in room that is there
   pub room : t.holding ≤ t.room
+  -- what has a task can be cancelled, and is noted in room that is there
+  pub spare : t.count ≤ t.spare

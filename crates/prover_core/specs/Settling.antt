@@ -1,7 +1,9 @@
 -- What is said of how far a version is (this project's own).
-use Rattle.std.specs.Prelude.{◌≡◌, ℕ, true, false, List, Some, None}
+use Rattle.std.specs.Prelude.{◌≡◌, ℕ, ◌==◌, nat_lt, Bool, true, false, not, ◌&&◌, ◌||◌, is_some, List, length, Some, None}
+use Rattle.import_rounds.specs.Rounds.{has}
 use Rattle.pide_base.specs.declared.part.Part.{Part}
 use Rattle.doc_versions.specs.Live.{version_of}
+use Rattle.task_queue.specs.Ready.{Standings}
 use Rattle.exec_rules.specs.declared.version.Version.{Version}
 use Rattle.language.specs.Lang.{Lang}
 use Rattle.core_rules.specs.declared.event.Event.{Event}
@@ -26,6 +28,12 @@ pub record IsSettled {S : Type 0} (l : Lang S) (h : List Event) (id : ℕ) : Typ
   pub version : Version
   pub live : version_of (doc l h).live id ≡ Some version
   pub is_settled : is_settled l h (doc l h) version ≡ true
+
+-- what is looked at of the tip for a settled version behind which n came next, where these of the
+-- tip are cancelled: nothing where none is, else what is cancelled or has a task, below n
+abbrev pub is_looked_at : List ℕ → Standings → ℕ → ℕ → Bool
+is_looked_at cancelled tasks n e = not (length cancelled == 0)
+    && (nat_lt e n && (has cancelled e || is_some (tasks e)))
 
 -- a version is settled, with the stuck executions that it assigns, rising; or it assigns a part
 -- that is left; or none of this id is live

@@ -39,6 +39,7 @@ pub(crate) fn add_all<R: Drop>(
     ensures tasks { (e : ℕ) → standing queue.new e
         ≡ with_fresh (λ one. waiting one.task) (reverse fresh.items)
         (λ n. standing queue.old n) e }
+    ensures count { length queue.new.tasks ≤ length queue.old.tasks + length fresh.items }
     ensures room { queue.old.room ≤ queue.new.room + length fresh.items }
 {
     'news: while let Some(one) = fresh.pop() {
@@ -69,6 +70,7 @@ fn add_one<R: Drop>(
         ≡ with_standing (standing queue.old) fresh.task.part.exec (Some (waiting fresh.task)) e }
     ensures executions { execs.old.room ≤ execs.new.room + 1 }
     ensures spare { spare known.old ≤ spare known.new + 1 }
+    ensures count { length queue.new.tasks ≡ length queue.old.tasks + 1 }
     ensures room { queue.old.room ≤ queue.new.room + 1 }
     ensures links { queue.old.links ≤ queue.new.links + length fresh.task.inputs }
 {

@@ -6,7 +6,7 @@ ghost use Rattle.prover_core.specs.Answers.{CancelledSo};
 
 use crate::prover::Core;
 use crate::table::Table;
-use core_rules::Event;
+use core_rules::{Event, tip_law};
 use exec_table::Cancelling;
 use language::Language;
 use past_items::Past;
@@ -21,6 +21,7 @@ impl<L: Language> Core<L> {
         ensures cancelled { CancelledSo L.lang exec self.old.past result self.new.past }
         ensures legal { IsLegal L.lang self.new.past }
     {
+        tip_law::<L>();
         match self.execs.cancel(exec) {
             Cancelling::Unknown => Cancelling::Unknown,
             Cancelling::Idle => {
@@ -30,7 +31,9 @@ impl<L: Language> Core<L> {
             Cancelling::Cancelled => {
                 ask_to_stop(&self.known, exec);
                 self.queue.cancel_group(exec);
-                self.quiet = false;
+                if self.cancelled.push(exec).is_err() {
+                    unreachable!()
+                }
                 self.past.add(Event::Cancel { exec });
                 Cancelling::Cancelled
             }

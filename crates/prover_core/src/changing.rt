@@ -31,6 +31,7 @@ pub(crate) fn drop_all<R: Drop>(
     ensures tasks { (e : ℕ) → standing queue.new e
         ≡ (if has dropped.now e then None else standing queue.old e) }
     ensures executions { execs.new.room ≡ execs.old.room }
+    ensures count { length queue.new.tasks ≤ length queue.old.tasks }
     ensures room { queue.old.room ≤ queue.new.room }
     ensures links { queue.old.links ≤ queue.new.links }
 {
@@ -51,6 +52,7 @@ fn drop_one<R: Drop>(
     ensures tasks { (e : ℕ) → standing queue.new e
         ≡ with_standing (standing queue.old) exec None e }
     ensures executions { execs.new.room ≡ execs.old.room }
+    ensures count { length queue.new.tasks ≤ length queue.old.tasks }
     ensures room { queue.old.room ≤ queue.new.room }
     ensures links { queue.old.links ≤ queue.new.links }
 {
@@ -65,6 +67,7 @@ pub(crate) fn see_all(queue: &mut TaskQueue, sights: &[Sight])
     ensures tasks { (sees : ℕ → Bool) → AllByRecursion (λ s. sees s.exec ≡ s.visible) sights.now
         → (e : ℕ) → standing queue.new e ≡ (if has (map (λ s. s.exec) sights.now) e
         then option_map (ranked (sees e)) (standing queue.old e) else standing queue.old e) }
+    ensures count { length queue.new.tasks ≡ length queue.old.tasks }
     ensures room { queue.old.room ≤ queue.new.room }
 {
     'evaluations: for sight in sights {
@@ -76,6 +79,7 @@ fn see_one(queue: &mut TaskQueue, sight: &Sight)
     ensures tasks { (e : ℕ) → standing queue.new e
         ≡ with_standing (standing queue.old) sight.now.exec
         (option_map (ranked sight.now.visible) (standing queue.old sight.now.exec)) e }
+    ensures count { length queue.new.tasks ≡ length queue.old.tasks }
     ensures room { queue.old.room ≤ queue.new.room }
 {
     let evaluates = match queue.get(sight.exec) {

@@ -1,5 +1,5 @@
 //! Claims.
-ghost use Rattle.std.specs.Prelude.{◌≡◌, ◌+◌, ◌<◌, ◌≤◌, ℕ, false, Some, None, IfOk, IfSome, IfNone, OnOk};
+ghost use Rattle.std.specs.Prelude.{◌≡◌, ◌+◌, ◌<◌, ◌≤◌, ℕ, false, length, Some, None, IfOk, IfSome, IfNone, OnOk};
 ghost use Rattle.std.specs.HashMap.{hash_map_len, spare};
 ghost use Rattle.pide_base.specs.declared.part.Part.{Part};
 ghost use Rattle.task_queue.specs.Tasks.{standing};
@@ -129,6 +129,7 @@ fn make_room(holders: &mut Table<Part>, queue: &mut TaskQueue) -> Result<(), All
     ensures len { hash_map_len holders.new ≡ hash_map_len holders.old }
     ensures spare { OnOk result (0 < spare holders.new) }
     ensures tasks { (e : ℕ) → standing queue.new e ≡ standing queue.old e }
+    ensures count { length queue.new.tasks ≡ length queue.old.tasks }
     ensures ok { OnOk result (hash_map_len holders.new + 1 ≤ queue.new.room) }
     ensures room { queue.old.room ≤ queue.new.room }
 {

@@ -1,5 +1,5 @@
 //! What comes behind a part that is finished.
-ghost use Rattle.std.specs.Prelude.{◌≡◌, ◌≢◌, ◌+◌, ◌<◌, ◌≤◌, ℕ, false, is_some};
+ghost use Rattle.std.specs.Prelude.{◌≡◌, ◌≢◌, ◌+◌, ◌<◌, ◌≤◌, ℕ, false, length, is_some};
 ghost use Rattle.std.specs.Option.{option_map, option_map_or};
 ghost use Rattle.pide_base.specs.declared.part.PartKind.TheVariants as kinds;
 ghost use Rattle.task_queue.specs.Tasks.{standing, has};
@@ -64,6 +64,7 @@ pub(crate) fn follow(
         → option_map_or (λ s. has s.inputs exec) (standing queue.new e) false ≡ false }
     ensures others { same_kind kind kinds.Eval ≡ false → (e : ℕ) → e ≢ exec
         → standing queue.new e ≡ standing queue.old e }
+    ensures count { length queue.new.tasks ≤ length queue.old.tasks }
     ensures room { queue.old.room ≤ queue.new.room + 1 }
     ensures links { queue.old.links ≤ queue.new.links }
 {
@@ -82,6 +83,7 @@ fn evaluated(alloc: Global, queue: &mut TaskQueue, exec: ExecId, forks: bool)
         → standing queue.new e ≡ option_map (without exec) (standing queue.old e) }
     ensures free { (e : ℕ) → e ≢ exec
         → option_map_or (λ s. has s.inputs exec) (standing queue.new e) false ≡ false }
+    ensures count { length queue.new.tasks ≤ length queue.old.tasks }
     ensures room { queue.old.room ≤ queue.new.room + 1 }
     ensures links { queue.old.links ≤ queue.new.links }
 {

@@ -64,6 +64,7 @@ impl<L: Language> Core<L> {
             &mut self.execs,
             &mut self.known,
             &mut self.queue,
+            &mut self.cancelled,
             self.holders.len(),
             &steps.fresh,
         )?;
@@ -103,7 +104,7 @@ impl<L: Language> Core<L> {
             blobs,
             changed,
             marks,
-            self.quiet,
+            self.cancelled.is_empty(),
         )?;
         Ok(steps)
     }

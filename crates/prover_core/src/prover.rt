@@ -13,7 +13,7 @@ use exec_rules::{Blobs, Version};
 use exec_table::Execs;
 use language::Language;
 use past_items::{Past, Unkept};
-use pide_base::Part;
+use pide_base::{ExecId, Part};
 use sqlite_items::Items;
 use std::alloc::{AllocError, Global};
 use std::collections::HashMap;
@@ -38,13 +38,14 @@ pub struct Core<L: Language> {
     pub(crate) holders: Table<Part>,
     pub(crate) queue: TaskQueue,
     pub(crate) ended: bool,
-    /// Whether nothing that the tip assigns was cancelled since it was made.
-    pub(crate) quiet: bool,
+    /// What the tip assigns and was cancelled since it was made, in that order. There is room for
+    /// all that has a task, so that cancelling takes no memory.
+    pub(crate) cancelled: Vec<ExecId>,
 }
 
 impl<L: Language> Model for Core<L> {
     ghost use Rattle.std.specs.Option.{option_map};
-    ghost use Rattle.std.specs.Prelude.{◌-◌, min};
+    ghost use Rattle.std.specs.Prelude.{◌-◌, min, length, vec_len, vec_capacity};
     ghost use Rattle.std.specs.HashMap.{hash_map_len, spare};
     ghost use Rattle.exec_table.specs.Rows.{execution_of};
     ghost use Rattle.task_queue.specs.Tasks.{standing};
@@ -58,7 +59,8 @@ impl<L: Language> Model for Core<L> {
       past = c.past;
       room = record {
         versions = min c.versions.room c.losses.room;
-        executions = min c.execs.room (spare c.known);
+        executions = min (min c.execs.room (spare c.known))
+            (vec_capacity c.cancelled - length c.queue.tasks);
         tasks = c.queue.room - hash_map_len c.holders;
         links = c.queue.links;
       };
@@ -74,8 +76,10 @@ impl<L: Language> Model for Core<L> {
       holding = hash_map_len c.holders;
       tasks = λ e. standing c.queue e;
       room = c.queue.room;
+      count = length c.queue.tasks;
       ended = c.ended;
-      quiet = c.quiet;
+      cancelled = c.cancelled.items;
+      spare = vec_capacity c.cancelled - vec_len c.cancelled;
     }) };
 }
 
@@ -102,7 +106,7 @@ impl<L: Language> Core<L> {
                 holders: HashMap::new(alloc),
                 queue: TaskQueue::new(alloc),
                 ended: false,
-                quiet: true,
+                cancelled: Vec::new(alloc),
             }),
         }
     }

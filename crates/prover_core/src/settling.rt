@@ -1,24 +1,28 @@
 //! How far versions are.
-ghost use Rattle.std.specs.Prelude.{◌≡◌, ◌<◌, ◌≤◌, ℕ, true, false, length, slice_index_or, is_some, Some, AllPairs, IfSome, IfNone, IfOk, OnErr};
+ghost use Rattle.std.specs.Prelude.{◌≡◌, ◌<◌, ◌≤◌, ℕ, true, false, not, ◌&&◌, ◌||◌, List, length, slice_index_or, is_some, Some, AllPairs, IfSome, IfNone, IfOk, OnErr};
+ghost use Rattle.import_rounds.specs.Rounds.{has};
+ghost use Rattle.pide_base.specs.Ids.{IsId};
 ghost use Rattle.pide_base.specs.declared.part.Part.{Part};
 ghost use Rattle.task_queue.specs.Tasks.{standing};
 ghost use Rattle.task_queue.specs.Ready.{IsReadyPart, priority_of, comes_first};
+ghost use Rattle.doc_versions.specs.declared.versions.Live.{Live};
 ghost use Rattle.doc_versions.specs.Live.{version_of};
-ghost use Rattle.core_rules.specs.Doc.{doc};
-ghost use Rattle.core_rules.specs.Stuck.{is_settled, stuck_in};
+ghost use Rattle.exec_rules.specs.declared.version.Version.{Version};
+ghost use Rattle.core_rules.specs.Assigned.{assigns};
+ghost use Rattle.version_losses.specs.Losses.{AreLosses};
 ghost use Rattle.prover_core.specs.Looked.{looked};
-ghost use Rattle.prover_core.specs.Settling.{IsSettled, SettledSo};
+ghost use Rattle.prover_core.specs.Settling.{IsSettled, SettledSo, is_looked_at};
 
 use crate::following::{is_present, same};
 use crate::prover::Core;
 use crate::table::Table;
 use core_rules::{holders_law, homes_law, tip_law};
-use exec_lists::{open_among, open_in};
-use exec_rules::Version;
+use exec_lists::open_among;
 use language::Language;
 use pide_base::{ExecId, Part, VersionId};
-use std::alloc::AllocError;
+use std::alloc::{AllocError, Global};
 use task_queue::{Priority, TaskQueue};
+use version_losses::{Losses, add_below};
 
 /// How far a version is.
 #[derive(Drop)]
@@ -40,11 +44,8 @@ impl<L: Language> Core<L> {
         tip_law::<L>();
         holders_law::<L>();
         homes_law::<L>();
-        let Some(version) = self.versions.get(id) else {
-            return Ok(Settled::Unknown);
-        };
         let Some(behind) = self.losses.number(id) else {
-            unreachable!()
+            return Ok(Settled::Unknown);
         };
         if let Some(part) = ready_below(&self.queue, behind) {
             return Ok(Settled::Left(part));
@@ -52,25 +53,44 @@ impl<L: Language> Core<L> {
         if let Some(part) = held_below(&self.holders, &self.queue, behind) {
             return Ok(Settled::Left(part));
         }
-        Ok(Settled::Settled(self.stuck(id, version.get())?))
+        let all = looked_at(
+            self.alloc,
+            &self.losses,
+            &self.queue,
+            &self.cancelled,
+            id,
+            behind,
+        )?;
+        Ok(Settled::Settled(open_among(self.alloc, &self.execs, &all)?))
     }
+}
 
-    /// What is stuck in a settled version. Where nothing of the newest version is cancelled, that
-    /// is among what newer versions lost, and nothing else is looked at.
-    fn stuck(&self, id: VersionId, version: &Version) -> Result<Vec<ExecId>, AllocError>
-        requires live { version_of (doc L.lang self.now.past).live id ≡ Some version.now }
-        requires settled { is_settled L.lang self.now.past (doc L.lang self.now.past) version.now
-            ≡ true }
-        ensures { IfOk result (λ stuck. stuck.items
-            ≡ stuck_in L.lang self.now.past (doc L.lang self.now.past) version.now) }
-    {
-        homes_law::<L>();
-        if self.quiet {
-            let lost = self.losses.lost_since(self.alloc, id)?;
-            return open_among(self.alloc, &self.execs, &lost);
-        }
-        open_in(self.alloc, &self.execs, version)
+/// Among these are the executions of a settled version with an unfinished part: what newer versions
+/// lost, and, where something of the newest is cancelled, what of it is cancelled or has a task,
+/// below the number that came next when the version was made. What a version assigns is not looked
+/// at.
+fn looked_at(
+    alloc: Global,
+    losses: &Losses,
+    queue: &TaskQueue,
+    cancelled: &[ExecId],
+    id: VersionId,
+    behind: u64,
+) -> Result<Vec<ExecId>, AllocError>
+    ensures { IfOk result (λ all. (tip : Version) (top : ℕ) (live : List (Live Version))
+        (version : Version) → AreLosses tip top 0 losses.now.losses live
+        → version_of live id ≡ Some version → (e : ℕ) → IsId e → has all.items e
+        ≡ ((assigns version e && not (assigns tip e))
+        || is_looked_at cancelled.now (standing queue.now) behind e)) }
+{
+    let mut all = losses.lost_since(alloc, id)?;
+    if cancelled.is_empty() {
+        return Ok(all);
     }
+    let tasked = queue.executions(alloc)?;
+    add_below(&mut all, cancelled, behind)?;
+    add_below(&mut all, &tasked, behind)?;
+    Ok(all)
 }
 
 /// A ready part of an execution below this number: one of the oldest of its priority.

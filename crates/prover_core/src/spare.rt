@@ -1,5 +1,5 @@
 //! Room for an update.
-ghost use Rattle.std.specs.Prelude.{◌≡◌, ◌≤◌, ◌+◌, ℕ, length, flat_map, IfSome, OnOk};
+ghost use Rattle.std.specs.Prelude.{◌≡◌, ◌≤◌, ◌+◌, ℕ, length, flat_map, vec_len, vec_capacity, IfSome, OnOk};
 ghost use Rattle.std.specs.HashMap.{spare};
 ghost use Rattle.exec_table.specs.Rows.{execution_of};
 ghost use Rattle.task_queue.specs.Tasks.{standing};
@@ -9,19 +9,21 @@ use crate::table::Table;
 use doc_versions::Versions;
 use exec_rules::Version;
 use exec_table::Execs;
+use pide_base::ExecId;
 use std::alloc::AllocError;
 use task_queue::TaskQueue;
 use update_plans::{Fresh, Known};
 use version_losses::Losses;
 
 /// Makes room for one version more, and for these executions with their tasks, beside the forks of
-/// all that is held.
+/// all that is held; and for noting all that has a task then as cancelled.
 pub(crate) fn make_room<R: Drop>(
     versions: &mut Versions<Version>,
     losses: &mut Losses,
     execs: &mut Execs<R>,
     known: &mut Table<Known>,
     queue: &mut TaskQueue,
+    cancelled: &mut Vec<ExecId>,
     held: usize,
     fresh: &[Fresh],
 ) -> Result<(), AllocError>
@@ -31,7 +33,11 @@ pub(crate) fn make_room<R: Drop>(
     ensures rows { (e : ℕ) → execution_of execs.new.rows e ≡ execution_of execs.old.rows e }
     ensures known { (e : ℕ) → looked known.new e ≡ looked known.old e }
     ensures tasks { (e : ℕ) → standing queue.new e ≡ standing queue.old e }
+    ensures count { length queue.new.tasks ≡ length queue.old.tasks }
     ensures room { queue.old.room ≤ queue.new.room }
+    ensures cancelled { cancelled.new.items ≡ cancelled.old.items }
+    ensures len { vec_len cancelled.new ≡ vec_len cancelled.old }
+    ensures capacity { vec_capacity cancelled.old ≤ vec_capacity cancelled.new }
     ensures versions_fit { OnOk result (1 ≤ versions.new.room) }
     ensures losses_fit { OnOk result (1 ≤ losses.new.room) }
     ensures executions_fit { OnOk result (length fresh.now ≤ execs.new.room) }
@@ -39,6 +45,8 @@ pub(crate) fn make_room<R: Drop>(
     ensures tasks_fit { OnOk result (length fresh.now + held ≤ queue.new.room) }
     ensures links_fit { OnOk result
         (length (flat_map (λ one. one.task.inputs) fresh.now) ≤ queue.new.links) }
+    ensures cancelled_fit { OnOk result
+        (length fresh.now + length queue.new.tasks ≤ vec_capacity cancelled.new) }
 {
     let count = fresh.len();
     let Some(tasks) = count.checked_add(held) else {
@@ -47,10 +55,14 @@ pub(crate) fn make_room<R: Drop>(
     let Some(links) = links_of(fresh) else {
         return Err(AllocError);
     };
+    let Some(cancellable) = count.checked_add(queue.count()) else {
+        return Err(AllocError);
+    };
     versions.reserve(1)?;
     losses.reserve(1)?;
     execs.reserve(count)?;
     reserve(known, count)?;
+    cancelled.reserve(cancellable)?;
     queue.reserve(tasks, links)
 }
 

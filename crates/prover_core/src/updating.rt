@@ -58,7 +58,7 @@ impl<L: Language> Core<L> {
             lost: dropped,
         });
         self.next = next;
-        self.quiet = true;
+        self.cancelled.clear();
         self.past.add(event);
         told
     }

@@ -14,3 +14,4 @@ mod walk;
 
 pub use leaving::Leaving;
 pub use losses::{Loss, Losses};
+pub use walk::add_below;

@@ -152,15 +152,11 @@ fn shared(alloc: Global, lost: Vec<ExecId>) -> Result<Shared<Items<ExecId>>, All
     }
 }
 
-/// Adds those of the lost ones that are below the number.
-pub(crate) fn add_below(
-    execs: &mut Vec<ExecId>,
-    lost: &[ExecId],
-    next: u64,
-) -> Result<(), AllocError>
-    ensures { OnOk result (execs.new.items ≡ execs.old.items ++ below next lost.now) }
+/// Adds those of the executions that are below the number.
+pub fn add_below(execs: &mut Vec<ExecId>, more: &[ExecId], next: u64) -> Result<(), AllocError>
+    ensures { OnOk result (execs.new.items ≡ execs.old.items ++ below next more.now) }
 {
-    'executions: for exec in lost {
+    'executions: for exec in more {
         if exec.number() < next {
             execs.push(*exec)?;
         }

@@ -79,6 +79,7 @@ news-preserved g c =
       executions = omega (arith, len, c.news.invariant.executions, c.add_one.ensures.executions);
       spare = omega (arith, len, c.news.invariant.spare, c.add_one.ensures.spare);
       left = omega (arith, len, c.news.invariant.left, c.add_one.ensures.room);
+      count = omega (arith, len, c.news.invariant.count, c.add_one.ensures.count);
       room = omega (arith, len, c.news.invariant.room, c.add_one.ensures.room);
       links = omega (
         arith,
@@ -109,6 +110,9 @@ pub returns-clause-tasks : goal.returns-clause-tasks
 returns-clause-tasks g c =
     let none = none_left c.news.fresh.items (omega (arith, c.news.fresh.ok.0, (none_by _ _ _ c.pop.ensures.cases c.in_default.is).0)) in
     λ e. ap (λ xs. with_fresh (λ (x : Fresh). waiting x.task) xs (λ n. standing c.news.queue n) e) (sym none) ∙ c.news.invariant.tasks e
+
+pub returns-clause-count : goal.returns-clause-count
+returns-clause-count g c = omega (arith, c.news.invariant.count)
 
 pub returns-clause-room : goal.returns-clause-room
 returns-clause-room g c = omega (arith, c.news.invariant.room)

@@ -21,6 +21,7 @@ invariant-news g l = record {
   executions : length l.fresh.items ≤ l.execs.room;
   spare : length l.fresh.items ≤ spare l.known;
   left : length l.fresh.items ≤ l.queue.room;
+  count : length l.queue.tasks + length l.fresh.items ≤ length l.fn.queue.tasks + length l.fn.fresh.items;
   room : l.fn.queue.room + length l.fresh.items ≤ l.queue.room + length l.fn.fresh.items;
   links : length (flat_map (λ one. one.task.inputs) (reverse l.fresh.items)) ≤ l.queue.links;
 }

@@ -20,6 +20,7 @@ executions-preserved g c =
           (λ n. standing c.drop_one.new.queue n) c.executions.invariant.tasks c.drop_one.ensures.tasks
           ∙ ap (λ ds. changed_in (λ n o. None) ds (λ n. standing c.args.queue.now n) e) (sym more);
       executions = c.drop_one.ensures.executions ∙ c.executions.invariant.executions;
+      count = omega (arith, c.drop_one.ensures.count, c.executions.invariant.count);
       room = omega (arith, c.drop_one.ensures.room, c.executions.invariant.room);
       links = omega (arith, c.drop_one.ensures.links, c.executions.invariant.links);
     }

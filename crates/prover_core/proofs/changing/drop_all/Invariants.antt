@@ -1,4 +1,4 @@
-use Rattle.std.proofs.Common.{◌≡◌, ℕ, ◌≤◌, None, take}
+use Rattle.std.proofs.Common.{◌≡◌, ℕ, ◌≤◌, None, take, length}
 use Rattle.exec_table.specs.Rows.{execution_of}
 use Rattle.exec_table.specs.Finish.{after_cancelling}
 use Rattle.task_queue.specs.Tasks.{standing}
@@ -12,6 +12,7 @@ invariant-executions g l = record {
   tasks : (e : ℕ) → standing l.queue e
       ≡ changed_in (λ n o. None) (take l.exec-index l.dropped) (λ n. standing l.fn.queue n) e;
   executions : l.execs.room ≡ l.fn.execs.room;
+  count : length l.queue.tasks ≤ length l.fn.queue.tasks;
   room : l.fn.queue.room ≤ l.queue.room;
   links : l.fn.queue.links ≤ l.queue.links;
 }

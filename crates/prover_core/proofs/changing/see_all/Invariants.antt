@@ -1,4 +1,4 @@
-use Rattle.std.proofs.Common.{◌≡◌, ℕ, ◌≤◌, Bool, map, take}
+use Rattle.std.proofs.Common.{◌≡◌, ℕ, ◌≤◌, Bool, map, take, length}
 use Rattle.std.specs.List.{AllByRecursion}
 use Rattle.std.specs.Option.{option_map}
 use Rattle.task_queue.specs.Tasks.{standing}
@@ -11,5 +11,6 @@ invariant-evaluations l = record {
   tasks : (sees : ℕ → Bool) → AllByRecursion (λ s. sees s.exec ≡ s.visible) l.sights → (e : ℕ) → standing l.queue e
       ≡ changed_in (λ n o. option_map (ranked (sees n)) o) (map (λ s. s.exec) (take l.sight-index l.sights))
       (λ n. standing l.fn.queue n) e;
+  count : length l.queue.tasks ≡ length l.fn.queue.tasks;
   room : l.fn.queue.room ≤ l.queue.room;
 }

@@ -3,4 +3,4 @@ use Rattle.version_losses.specs.Leaving.{below}
 use Rattle.version_losses.proofs.walk.add_below.Given as goal
 
 abbrev pub invariant-executions : goal.invariant-executions
-invariant-executions l = l.execs.items ++ below l.next (drop l.exec-index l.lost) ≡ l.fn.execs.items ++ below l.next l.lost
+invariant-executions l = l.execs.items ++ below l.next (drop l.exec-index l.more) ≡ l.fn.execs.items ++ below l.next l.more

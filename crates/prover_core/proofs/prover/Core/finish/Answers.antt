@@ -62,9 +62,10 @@ invariant_of-self-2 g c =
     let updates = on_ok c.finish.result _ (sym c.if-is_err.ensures.value) c.finish.ensures.ok in
     moved _ _ _ _ c.add-2.ensures.items
     (finish_kept _ _ _ c.self.invariant laws c.args.who c.same-exec.result c.args.done c.same-exec.ensures holds wanted right
-    c.brought.result c.forks_told-forks.result c.brought.ensures c.forks_told-forks.ensures _ _ _ _ _
+    c.brought.result c.forks_told-forks.result c.brought.ensures c.forks_told-forks.ensures _ _ _ _ _ _
     updates c.take_out.ensures.things c.follow.ensures.here c.follow.ensures.waiters c.follow.ensures.free c.follow.ensures.others
-    (omega (arith, one, c.take_out.ensures.len, c.follow.ensures.room, c.self.invariant.room)))
+    (omega (arith, one, c.take_out.ensures.len, c.follow.ensures.room, c.self.invariant.room))
+    c.follow.ensures.count)
 
 pub returns-clause-finished : goal.returns-clause-finished
 returns-clause-finished g c =

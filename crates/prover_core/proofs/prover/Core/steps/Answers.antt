@@ -16,6 +16,7 @@ use Rattle.prover_core.specs.Laws.{PlanLaws}
 use Rattle.prover_core.proofs.PlanSteps.{AreSteps, steps_are, succeeds_then, limit_at}
 use Rattle.prover_core.proofs.PlanTip.{succeeds, limit_then}
 use Rattle.prover_core.proofs.TipTold.{quiet_tip}
+use Rattle.prover_core.proofs.QuietParts.{quiet_so}
 use Rattle.prover_core.proofs.prover.Core.steps.Goals as goal
 
 pub work_out-requires-clause-fits : goal.work_out-requires-clause-fits
@@ -27,7 +28,7 @@ work_out-requires-clause-quiet g c = λ is.
     let l = g.L.Language.lang in
     let tip = c.get-tip.ensures ∙ c.tip.ensures ∙ c.self.invariant.tip in
     subst (λ (v : Version). Quiet c.self.inside.execs.rows v) (sym tip)
-    (quiet_tip l _ _ c.self.invariant c.self.inside.execs.rows (λ e. refl) (c.self.invariant.quiet is))
+    (quiet_tip l _ _ c.self.invariant c.self.inside.execs.rows (λ e. refl) (quiet_so l _ _ c.self.invariant (search rules)))
 
 pub work_out-requires-clause-succeeds : goal.work_out-requires-clause-succeeds
 work_out-requires-clause-succeeds g c =

@@ -1,7 +1,7 @@
 use Rattle.std.proofs.Common.{◌≡◌, ◌<◌, ◌≤◌, ◌-◌, ℕ, Bool, List, ◌∷◌, None, cond, map, false, sym, ap, subst, ◌∙◌, refl, arith, reverse, length}
 use Rattle.std.proofs.lemmas.List.{length-map, length-reverse}
 use Rattle.std.proofs.Math.Nat.{min-le_left, min-le_right}
-use Rattle.std.specs.Prelude.{min, flat_map}
+use Rattle.std.specs.Prelude.{min, flat_map, vec_capacity}
 use Rattle.std.specs.HashMap.{hash_map_len, spare}
 use Rattle.task_queue.specs.declared.task.Task.{Task}
 use Rattle.std.specs.Option.{option_map}
@@ -45,15 +45,17 @@ pub add_all-requires-clause-executions : goal.add_all-requires-clause-executions
 add_all-requires-clause-executions g c =
     let here = has_room _ _ _ _ c.self.view_is c.plan.view_is c.requires.room in
     let len = length-map (reverse c.plan.inside.fresh.items) (λ (x : Fresh). x.task) ∙ length-reverse c.plan.inside.fresh.items in
-    let most : length (map (λ (x : Fresh). x.task) (reverse c.plan.inside.fresh.items)) ≤ min c.self.inside.execs.room (spare c.self.inside.known) = here.executions in
-    omega (arith, most, len, min-le_left c.self.inside.execs.room (spare c.self.inside.known), c.drop_all.ensures.executions)
+    let most : length (map (λ (x : Fresh). x.task) (reverse c.plan.inside.fresh.items)) ≤ min (min c.self.inside.execs.room (spare c.self.inside.known))
+    (vec_capacity c.self.inside.cancelled - length c.self.inside.queue.tasks) = here.executions in
+    omega (arith, most, len, c.drop_all.ensures.executions)
 
 pub add_all-requires-clause-spare : goal.add_all-requires-clause-spare
 add_all-requires-clause-spare g c =
     let here = has_room _ _ _ _ c.self.view_is c.plan.view_is c.requires.room in
     let len = length-map (reverse c.plan.inside.fresh.items) (λ (x : Fresh). x.task) ∙ length-reverse c.plan.inside.fresh.items in
-    let most : length (map (λ (x : Fresh). x.task) (reverse c.plan.inside.fresh.items)) ≤ min c.self.inside.execs.room (spare c.self.inside.known) = here.executions in
-    omega (arith, most, len, min-le_right c.self.inside.execs.room (spare c.self.inside.known))
+    let most : length (map (λ (x : Fresh). x.task) (reverse c.plan.inside.fresh.items)) ≤ min (min c.self.inside.execs.room (spare c.self.inside.known))
+    (vec_capacity c.self.inside.cancelled - length c.self.inside.queue.tasks) = here.executions in
+    omega (arith, most, len)
 
 pub add_all-requires-clause-room : goal.add_all-requires-clause-room
 add_all-requires-clause-room g c =
@@ -108,13 +110,27 @@ invariant_of-self g c =
     let here = has_room _ _ _ _ c.self.view_is c.plan.view_is c.requires.room in
     let len = length-map (reverse c.plan.inside.fresh.items) (λ (x : Fresh). x.task) ∙ length-reverse c.plan.inside.fresh.items in
     let most : length (map (λ (x : Fresh). x.task) (reverse c.plan.inside.fresh.items)) ≤ c.self.inside.queue.room - hash_map_len c.self.inside.holders = here.tasks in
+    let noted : length (map (λ (x : Fresh). x.task) (reverse c.plan.inside.fresh.items)) ≤ min (min c.self.inside.execs.room (spare c.self.inside.known))
+    (vec_capacity c.self.inside.cancelled - length c.self.inside.queue.tasks) = here.executions in
     moved _ _ _ _ (c.add.ensures.items ∙ ap (λ (x : Event). x ∷ c.self.inside.past) c.plan.invariant)
     (planned_kept l _ _ c.self.invariant all _ (reverse c.plan.inside.fresh.items) refl refl going planned c.push.new.self
     c.push.ensures.start c.push.ensures.live _ _ _ _ _ _ rows c.add_all.ensures.rows
     (homes_of (reverse c.plan.inside.fresh.items) (λ e. looked c.self.inside.known e) (λ e. looked c.add_all.new.known e) c.add_all.ensures.homes)
     tasks c.add_all.ensures.tasks
-    (sees _ (seen_so l _ _ c.self.invariant all _ (reverse c.plan.inside.fresh.items) refl refl going planned)) _ c.push-2.ensures.losses _
-    (omega (arith, most, len, c.drop_all.ensures.room, c.add_all.ensures.room, c.see_all.ensures.room, c.self.invariant.room)))
+    (sees _ (seen_so l _ _ c.self.invariant all _ (reverse c.plan.inside.fresh.items) refl refl going planned)) _ c.push-2.ensures.losses _ _ _ _
+    (omega (arith, most, len, c.drop_all.ensures.room, c.add_all.ensures.room, c.see_all.ensures.room, c.self.invariant.room))
+    c.clear.ensures.items
+    (omega (
+      arith,
+      noted,
+      len,
+      c.drop_all.ensures.count,
+      c.add_all.ensures.count,
+      c.see_all.ensures.count,
+      c.clear.ensures.len,
+      c.clear.ensures.capacity,
+      c.self.invariant.spare,
+    )))
 
 pub returns-clause-legal : goal.returns-clause-legal
 returns-clause-legal g c =
