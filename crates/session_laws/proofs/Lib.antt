@@ -3,6 +3,9 @@ pub mod KnownNamed
 pub mod KnownWaited
 pub mod KnownResting
 pub mod KnownStays
+pub mod KnownSeen
+pub mod KnownExact
+pub mod KnownLooked
 mod Until
 mod Stripped
 mod OneWay

@@ -1,11 +1,10 @@
 -- What a snapshot shows.
-use Rattle.std.proofs.Common.{◌≡◌, ℕ, List, [], ◌∷◌, Option, None, Some, Result, Ok, Err, sym, ap, subst, ◌∙◌}
+use Rattle.std.proofs.Common.{◌≡◌, ℕ, List, [], ◌∷◌, Result, Ok, Some, true, sym, ap, subst, ◌∙◌}
 use Rattle.std.specs.Prelude.{slice_get}
 use Rattle.std.specs.List.{flat_map}
 use Rattle.text_edits.specs.declared.edit.Edit.{Edit}
 use Rattle.report_markup.specs.Sorting.{in_order}
 use Rattle.snapshots.specs.Converted.{left_by}
-use Rattle.doc_nodes.specs.declared.node.Node.{Node}
 use Rattle.doc_versions.specs.declared.versions.Live.{Live}
 use Rattle.doc_versions.specs.Live.{version_of}
 use Rattle.exec_rules.specs.declared.version.Version.{Version}
@@ -13,17 +12,19 @@ use Rattle.language.specs.Lang.{Lang}
 use Rattle.message_values.specs.declared.editor_message.EditorMessage.{EditorMessage}
 use Rattle.message_values.specs.declared.editor_message.EditorMessage.TheVariants as asks
 use Rattle.message_values.specs.declared.refusal.Refusal.{Refusal}
-use Rattle.message_values.specs.declared.refusal.Refusal.TheVariants.{UnknownNode, UnknownVersion}
-use Rattle.message_values.specs.Asked.{or_refused}
-use Rattle.buffer_rules.specs.Texts.{edit_all}
 use Rattle.buffer_rules.specs.Trying.{◌>>=◌}
 use Rattle.reply_writing.specs.declared.told.Told.{Told}
 use Rattle.reply_writing.specs.declared.told.Told.TheVariants as tells
+use Rattle.import_rounds.specs.Rounds.{has}
+use Rattle.exec_rules.specs.declared.row.Row.{Row}
+use Rattle.exec_rules.specs.Assigning.{rows_in}
+use Rattle.exec_rules.specs.Listed.{executions}
 use Rattle.core_rules.specs.declared.event.Event.{Event}
+use Rattle.core_rules.specs.Assigned.{assigns}
+use Rattle.core_rules.specs.Sources.{HasHome}
 use Rattle.core_rules.specs.Doc.{doc}
 use Rattle.core_rules.specs.Legal.{IsLegal as IsLegalList}
 use Rattle.core_rules.specs.Shown.{PartShown, parts_shown, pending, scratch_shown}
-use Rattle.core_rules.specs.Updates.{node_in}
 use Rattle.session_rules.specs.declared.service.Service.{Service}
 use Rattle.session_rules.specs.Heard.{Heard}
 use Rattle.session_rules.specs.Session.{Session, document}
@@ -31,29 +32,10 @@ use Rattle.session_rules.specs.Looking.{Looked, looked_at}
 use Rattle.session_rules.specs.History.{session}
 use Rattle.session_rules.specs.Shown.{placed, told_in}
 use Rattle.session_rules.specs.Replies.{is_outdated, markup, or_refusal, told_to}
-use Rattle.session_laws.specs.Promises.{IsShown, ShowsSo}
+use Rattle.session_laws.specs.Promises.{are_all_shown, ExactSo, IsShown, ShowsSo}
+use Rattle.session_laws.proofs.KnownExact.{all_seen}
+use Rattle.session_laws.proofs.KnownLooked.{seen_version}
 use Rattle.session_laws.proofs.KnownWaited.{live_at}
-
--- what is looked at, by what is found
-abbrev text_seen : Version → Result (List ℕ) Refusal → Result Looked Refusal
-text_seen version r = r >>= λ text. Ok (record { version = version; text = text })
-
-abbrev node_seen : List Edit → Version → Option Node → Result Looked Refusal
-node_seen edits version o = or_refused UnknownNode o >>= λ node. text_seen version (edit_all edits node.text)
-
-text_version : (version : Version) (r : Result (List ℕ) Refusal) (looked : Looked) → text_seen version r ≡ Ok looked → version ≡ looked.version
-text_version version (Err reason) looked e = absurd (cc)
-text_version version (Ok text) looked e = let same : record { version = version; text = text } ≡ looked = cc in ap (λ (x : Looked). x.version) same
-
-node_version : (edits : List Edit) (version : Version) (o : Option Node) (looked : Looked) → node_seen edits version o ≡ Ok looked → version ≡ looked.version
-node_version edits version None looked e = absurd (cc)
-node_version edits version (Some node) looked e = text_version version (edit_all edits node.text) looked e
-
--- it is a live version's
-seen_version : (name : List ℕ) (edits : List Edit) (o : Option Version) (looked : Looked)
-    → (or_refused UnknownVersion o >>= λ version. node_seen edits version (node_in version name)) ≡ Ok looked → o ≡ Some looked.version
-seen_version name edits None looked e = absurd (cc)
-seen_version name edits (Some version) looked e = ap (λ v. Some v) (node_version edits version (node_in version name) looked e)
 
 module _ {S : Type 0} (l : Lang S) (core : (h : List Event) (k : ℕ) (one : Live Version) (name : List ℕ) → IsLegalList l h
     → slice_get (doc l h).live k ≡ Some one → parts_shown l h (doc l h) one.version name ≡ scratch_shown l h one.version name)
@@ -73,6 +55,17 @@ module _ {S : Type 0} (l : Lang S) (core : (h : List Event) (k : ℕ) (one : Liv
 
   pub is_shown : (service : Service) → IsShown l s id name edits looked (told_to l service s (Ok (asks.Snapshot id name edits)))
   is_shown service = record { scratch = same_parts; told = tells_markup service ∙ ap with_parts (sym same_parts) }
+
+-- where nothing of a snapshot is pending
+pub exact : {S : Type 0} (l : Lang S) → ((h : List Event) (k : ℕ) (one : Live Version) (e : ℕ) → IsLegalList l h
+    → slice_get (doc l h).live k ≡ Some one → assigns one.version e ≡ true → HasHome l (doc l h) one.version e)
+    → ((v : Version) (name : List ℕ) (i e : ℕ) (row : Row) → slice_get (rows_in v name) i ≡ Some row → has (executions row) e ≡ true → assigns v e ≡ true)
+    → (service : Service) (h : List Heard) → IsLegalList l (session l service h).events → (read : Result EditorMessage Refusal) → ExactSo l service h read
+exact l homed there service h legal read id name edits looked asks_it seen none =
+    let s = session l service h in
+    let at = live_at (document l s).live id looked.version (seen_version name edits (version_of (document l s).live id) looked seen) in
+    subst (λ (v : Version). pending l s.events (document l s) v name ≡ [] → are_all_shown (parts_shown l s.events (document l s) v name) ≡ true)
+    at.1.2 (all_seen l homed there s.events legal at.0 at.1.0 at.1.1 name) none
 
 -- each snapshot
 pub shows : {S : Type 0} (l : Lang S) → ((h : List Event) (k : ℕ) (one : Live Version) (name : List ℕ) → IsLegalList l h

@@ -1,7 +1,7 @@
 -- What each message of a history is answered, in the words of the document from nothing (this
 -- project's own).
-use Rattle.std.specs.Prelude.{◌≡◌, ℕ, ◌≤◌, true, false, List, [], ◌∷◌, length, slice_get, ⊤, Some, Result, Ok}
-use Rattle.std.specs.List.{flat_map}
+use Rattle.std.specs.Prelude.{◌≡◌, ℕ, ◌≤◌, Bool, true, false, is_some, List, [], ◌∷◌, length, slice_get, ⊤, Some, Result, Ok}
+use Rattle.std.specs.List.{flat_map, list_all}
 use Rattle.import_rounds.specs.Rounds.{has}
 use Rattle.text_edits.specs.declared.edit.Edit.{Edit}
 use Rattle.report_markup.specs.Sorting.{in_order}
@@ -19,7 +19,7 @@ use Rattle.reply_writing.specs.declared.told.Told.{Told}
 use Rattle.reply_writing.specs.declared.told.Told.TheVariants as tells
 use Rattle.core_rules.specs.Assigned.{assigns}
 use Rattle.core_rules.specs.FromScratch.{assigned_to}
-use Rattle.core_rules.specs.Shown.{parts_shown, pending, scratch_shown}
+use Rattle.core_rules.specs.Shown.{PartShown, parts_shown, pending, scratch_shown}
 use Rattle.session_rules.specs.declared.service.Service.{Service}
 use Rattle.session_rules.specs.Heard.{Heard, Message}
 use Rattle.session_rules.specs.Session.{Session, document}
@@ -55,6 +55,20 @@ ShowsSo l service h read = (id : ℕ) (name : List ℕ) (edits : List Edit) (loo
     → read ≡ Ok (asks.Snapshot id name edits)
     → looked_at l (session l service h) id name edits ≡ Ok looked
     → IsShown l (session l service h) id name edits looked (told l service h (Message read))
+
+-- each of the parts is finished
+abbrev pub are_all_shown : List PartShown → Bool
+are_all_shown parts = list_all (λ part. is_some part.reports) parts
+
+-- where nothing of a snapshot is pending, all parts of assigned executions are shown
+abbrev pub ExactSo : {S : Type 0} → Lang S → Service → List Heard → Result EditorMessage Refusal
+    → Type 0
+ExactSo l service h read = (id : ℕ) (name : List ℕ) (edits : List Edit) (looked : Looked)
+    → read ≡ Ok (asks.Snapshot id name edits)
+    → looked_at l (session l service h) id name edits ≡ Ok looked
+    → pending l (session l service h).events (document l (session l service h)) looked.version name
+    ≡ [] → are_all_shown (parts_shown l (session l service h).events
+    (document l (session l service h)) looked.version name) ≡ true
 
 -- the version has an evaluation for each command that its nodes want
 abbrev pub IsCovered : Version → Type 0

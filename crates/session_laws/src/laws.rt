@@ -11,11 +11,12 @@ ghost use Rattle.session_rules.specs.History.{session};
 ghost use Rattle.session_rules.specs.Legal.{IsLegal};
 ghost use Rattle.session_rules.specs.Alone.{IsAlone};
 ghost use Rattle.session_laws.specs.OneThread.{reads, thread};
-ghost use Rattle.session_laws.specs.Promises.{CoversSo, EachMessage, LeavesCancelled, ShowsSo};
+ghost use Rattle.session_laws.specs.Promises.{CoversSo, EachMessage, ExactSo, LeavesCancelled, ShowsSo};
 ghost use Rattle.session_laws.specs.Runs.{IsWholeRun, called};
 
 use core_rules::{
-    alone_law as core_alone_law, cancelled_law, core_law, covers_law, first_law, rest_law,
+    alone_law as core_alone_law, cancelled_law, core_law, covers_law, first_law, homes_law,
+    places_law, rest_law,
 };
 use language::Language;
 use message_values::a_message_is_asked_where_it_is_spelled;
@@ -55,11 +56,14 @@ pub fn holders_law<L: Language>()
 
 /// In each legal history a snapshot that isn't refused tells, of what checking its version from
 /// nothing gives, the parts of assigned executions that are finished, and each other assigned
-/// execution as pending; and the version that an update makes has an evaluation for each command
-/// that its nodes want, and assigns nothing that was cancelled before.
+/// execution as pending, so where none is pending all of them are shown; and the version that an
+/// update makes has an evaluation for each command that its nodes want, and assigns nothing that
+/// was cancelled before.
 pub fn headline_law<L: Language>()
     ensures shows { (service : Service) (h : List Heard) → IsLegal L.lang service h
         → EachMessage (ShowsSo L.lang service) h }
+    ensures exact { (service : Service) (h : List Heard) → IsLegal L.lang service h
+        → EachMessage (ExactSo L.lang service) h }
     ensures covers { (service : Service) (h : List Heard) → IsLegal L.lang service h
         → EachMessage (CoversSo L.lang service) h }
     ensures cancelled { (service : Service) (h : List Heard) → IsLegal L.lang service h
@@ -69,4 +73,6 @@ pub fn headline_law<L: Language>()
     core_law::<L>();
     covers_law::<L>();
     cancelled_law::<L>();
+    homes_law::<L>();
+    places_law::<L>();
 }
