@@ -3,7 +3,9 @@ use Rattle.std.proofs.Common.{◌≡◌, ℕ, ◌≤◌, true, false, List, [], 
 use Rattle.std.specs.Prelude.{if◌then◌else◌, nat_lt, slice_get}
 use Rattle.import_rounds.specs.Rounds.{has}
 use Rattle.doc_nodes.specs.declared.node.Node.{Node}
+use Rattle.doc_nodes.specs.Imports.{NodeList}
 use Rattle.doc_nodes.specs.Wanted.{wanted_at}
+use Rattle.exec_rules.specs.Kept.{BlobList}
 use Rattle.language.specs.Lang.{Lang}
 use Rattle.message_values.specs.declared.editor_message.EditorMessage.{EditorMessage}
 use Rattle.message_values.specs.declared.editor_message.EditorMessage.TheVariants as asks
@@ -17,7 +19,7 @@ use Rattle.buffer_rules.specs.Updates.{Asked}
 use Rattle.core_rules.specs.declared.event.Event.{Event}
 use Rattle.core_rules.specs.declared.event.Event.TheVariants.{Update}
 use Rattle.core_rules.specs.Assigned.{assigns}
-use Rattle.core_rules.specs.Doc.{doc}
+use Rattle.core_rules.specs.Doc.{Doc, assignment_of, doc, version_of}
 use Rattle.core_rules.specs.FromScratch.{assigned_to}
 use Rattle.core_rules.specs.Legal.{IsLegal as IsLegalList}
 use Rattle.session_rules.specs.declared.service.Service.{Service}
@@ -27,7 +29,8 @@ use Rattle.session_rules.specs.Accepting.{accepted, taken}
 use Rattle.session_rules.specs.History.{session}
 use Rattle.session_rules.specs.Legal.{IsLegal}
 use Rattle.session_rules.specs.Updating.{runs_out, with_buffer}
-use Rattle.session_laws.specs.Promises.{CoversSo, EachMessage, IsCovered, LeavesCancelled}
+use Rattle.session_laws.specs.Keeping.{KeepsFront}
+use Rattle.session_laws.specs.Promises.{CoversSo, EachMessage, IsCovered, KeepsSo, LeavesCancelled}
 use Rattle.session_laws.proofs.KnownHolding.{not_caught, passed, through}
 
 -- an update that isn't refused adds its event
@@ -65,6 +68,15 @@ pub leaves_each : {S : Type 0} (l : Lang S) → ((h : List Event) (id : ℕ) (no
 leaves_each l leaves service h read id items blobs after e asks_it accepts cancelled =
     made_by l service (session l service h) id items blobs after (λ t. assigns (document l t).tip e ≡ false)
     (λ buffer. leaves (session l service h).events id buffer.nodes buffer.document.blobs e cancelled) accepts
+
+-- and keeps what it can
+pub keeps_each : {S : Type 0} (l : Lang S) → ((d : Doc) (nodes : NodeList) (blobs : BlobList) (p : ℕ) (pair : List ℕ × Node)
+    → slice_get nodes p ≡ Some pair → KeepsFront d (version_of nodes blobs (assignment_of d nodes blobs)) p pair)
+    → (service : Service) (h : List Heard) (read : Result EditorMessage Refusal) → KeepsSo l service h read
+keeps_each l keeps service h read id items blobs after p pair asks_it accepts =
+    made_by l service (session l service h) id items blobs after
+    (λ t. slice_get (document l t).tip.nodes p ≡ Some pair → KeepsFront (document l (session l service h)) (document l t).tip p pair)
+    (λ buffer at. keeps (document l (session l service h)) buffer.nodes buffer.document.blobs p pair at) accepts
 
 -- what holds of a message behind each legal history holds of each message
 pub each_message : {S : Type 0} (l : Lang S) (service : Service) (P : List Heard → Result EditorMessage Refusal → Type 0)

@@ -15,4 +15,9 @@ mod Ways
 mod Stepped
 mod Exists
 mod Shows
+mod KeyRests
+mod GivenNode
+mod GivenNodes
+mod KeptPrints
+mod Keeping
 mod Covers

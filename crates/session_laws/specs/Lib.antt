@@ -1,3 +1,4 @@
 pub mod OneThread
 pub mod Runs
+pub mod Keeping
 pub mod Promises

@@ -28,6 +28,7 @@ use Rattle.session_rules.specs.Accepting.{accepted}
 use Rattle.session_rules.specs.History.{session}
 use Rattle.session_rules.specs.Shown.{placed, told_in}
 use Rattle.session_rules.specs.Replies.{is_outdated, told}
+use Rattle.session_laws.specs.Keeping.{KeepsFront}
 
 -- of each message of a history, behind the entries before it
 abbrev pub EachMessage : (List Heard → Result EditorMessage Refusal → Type 0) → List Heard → Type 0
@@ -91,3 +92,12 @@ LeavesCancelled l service h read = (id : ℕ) (items : List Item) (blobs : List 
     → accepted l service (session l service h) (asks.Update id items blobs) ≡ Ok after
     → has (document l (session l service h)).cancelled e ≡ true
     → assigns (document l after).tip e ≡ false
+
+-- each of its nodes keeps the executions of a front of its commands, and no others
+abbrev pub KeepsSo : {S : Type 0} → Lang S → Service → List Heard → Result EditorMessage Refusal
+    → Type 0
+KeepsSo l service h read = (id : ℕ) (items : List Item) (blobs : List BlobChange)
+    (after : Session) (p : ℕ) (pair : List ℕ × Node) → read ≡ Ok (asks.Update id items blobs)
+    → accepted l service (session l service h) (asks.Update id items blobs) ≡ Ok after
+    → slice_get (document l after).tip.nodes p ≡ Some pair
+    → KeepsFront (document l (session l service h)) (document l after).tip p pair

@@ -11,13 +11,15 @@ ghost use Rattle.session_rules.specs.History.{session};
 ghost use Rattle.session_rules.specs.Legal.{IsLegal};
 ghost use Rattle.session_rules.specs.Alone.{IsAlone};
 ghost use Rattle.session_laws.specs.OneThread.{reads, thread};
-ghost use Rattle.session_laws.specs.Promises.{CoversSo, EachMessage, ExactSo, LeavesCancelled, ShowsSo};
+ghost use Rattle.session_laws.specs.Promises.{CoversSo, EachMessage, ExactSo, KeepsSo, LeavesCancelled, ShowsSo};
 ghost use Rattle.session_laws.specs.Runs.{IsWholeRun, called};
 
 use core_rules::{
     alone_law as core_alone_law, cancelled_law, core_law, covers_law, first_law, homes_law,
     places_law, rest_law,
 };
+use doc_nodes::order_law;
+use exec_rules::rows_law;
 use language::Language;
 use message_values::a_message_is_asked_where_it_is_spelled;
 use session_rules::events_law;
@@ -57,8 +59,8 @@ pub fn holders_law<L: Language>()
 /// In each legal history a snapshot that isn't refused tells, of what checking its version from
 /// nothing gives, the parts of assigned executions that are finished, and each other assigned
 /// execution as pending, so where none is pending all of them are shown; and the version that an
-/// update makes has an evaluation for each command that its nodes want, and assigns nothing that
-/// was cancelled before.
+/// update makes has an evaluation for each command that its nodes want, assigns nothing that was
+/// cancelled before, and keeps the executions of a front of each node's commands, and no others.
 pub fn headline_law<L: Language>()
     ensures shows { (service : Service) (h : List Heard) → IsLegal L.lang service h
         → EachMessage (ShowsSo L.lang service) h }
@@ -68,6 +70,8 @@ pub fn headline_law<L: Language>()
         → EachMessage (CoversSo L.lang service) h }
     ensures cancelled { (service : Service) (h : List Heard) → IsLegal L.lang service h
         → EachMessage (LeavesCancelled L.lang service) h }
+    ensures kept { (service : Service) (h : List Heard) → IsLegal L.lang service h
+        → EachMessage (KeepsSo L.lang service) h }
 {
     events_law::<L>();
     core_law::<L>();
@@ -75,4 +79,6 @@ pub fn headline_law<L: Language>()
     cancelled_law::<L>();
     homes_law::<L>();
     places_law::<L>();
+    order_law();
+    rows_law();
 }
