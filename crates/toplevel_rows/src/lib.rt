@@ -3,8 +3,16 @@
 #![tactic(auto)]
 
 #[cfg(test)]
+mod errors;
+#[cfg(test)]
 mod jobs;
+#[cfg(test)]
+mod proof_places;
 #[cfg(test)]
 mod running;
 #[cfg(test)]
 mod scripts;
+#[cfg(test)]
+mod theory_places;
+#[cfg(test)]
+mod transcripts;

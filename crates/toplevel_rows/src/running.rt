@@ -43,8 +43,12 @@ pub(crate) fn tell(text: &mut String, reports: &[Report]) -> Result<(), AllocErr
     Ok(())
 }
 
-/// The beginning of the node `A`, which has no imports and no aliases.
-pub(crate) fn started(alloc: Global) -> Result<State, Fail> {
+/// The beginning of the node `A`, which has these imports, no aliases, and perhaps a bad one.
+pub(crate) fn begun(
+    alloc: Global,
+    imports: &Imports<State>,
+    bad: Option<Items<char>>,
+) -> Result<State, Fail> {
     let node = NodeName::new(String::from_str(alloc, "A")?)
         .ok()
         .ok_or("name")?;
@@ -52,20 +56,24 @@ pub(crate) fn started(alloc: Global) -> Result<State, Fail> {
         pairs: Shared::new(alloc, Aliases::new(alloc))
             .ok()
             .ok_or("memory")?,
-        bad: None,
+        bad,
     };
-    let imports = Imports::Ordered(Items::new(alloc));
-    Ok(Isar.start(alloc, &node, &imports, &aliases)?)
+    Ok(Isar.start(alloc, &node, imports, &aliases)?)
 }
 
-/// What a command makes; a blob that it asks for has this text.
+/// The beginning of the node `A`, which has no imports and no aliases.
+pub(crate) fn started(alloc: Global) -> Result<State, Fail> {
+    begun(alloc, &Imports::Ordered(Items::new(alloc)), None)
+}
+
+/// What a command makes; a blob that it asks for has this text, or isn't there.
 pub(crate) fn made(
     alloc: Global,
     source: &[char],
-    blob: &[char],
+    blob: Option<&[char]>,
     before: &State,
 ) -> Result<Made<State>, Fail> {
-    given(Isar.step(alloc, source, Some(blob), before, &mut Never))
+    given(Isar.step(alloc, source, blob, before, &mut Never))
 }
 
 /// All that is reported of a command: what it made, behind `/` what it forked, and behind `=>`

@@ -134,7 +134,7 @@ fn told_of_last(alloc: Global, sources: &[&'static str]) -> Result<String, Fail>
     let mut last = String::new(alloc);
     for source in sources {
         let source: Vec<char> = source.chars().collect(alloc)?;
-        let after = made(alloc, &source, &blob, &state)?;
+        let after = made(alloc, &source, Some(&blob), &state)?;
         last = told(alloc, &source, &state, &after)?;
         let Made { state: next, .. } = after;
         state = next;
