@@ -65,6 +65,13 @@ impl MemSink {
         }
     }
 
+    /// How many calls failed: a number of 64 bits that stands still at its end.
+    pub fn faults(&self) -> u64
+        ensures { result ≡ self.now.faults }
+    {
+        self.faults
+    }
+
     /// All bytes taken so far.
     pub fn contents(&self) -> &[u8]
         ensures { result.now ≡ self.now.contents }

@@ -57,6 +57,13 @@ impl MemSource {
             faults: 0,
         }
     }
+
+    /// How many calls failed: a number of 64 bits that stands still at its end.
+    pub fn faults(&self) -> u64
+        ensures { result ≡ self.now.faults }
+    {
+        self.faults
+    }
 }
 
 /// Moves the first bytes of what is left to the front of the buffer.
