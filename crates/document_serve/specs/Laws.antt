@@ -44,7 +44,8 @@ pub record WorkLaws {S : Type 0} (l : Lang S) : Type 0 where
       → IsLegalList l (session_in l service items).events
   pub first : (h : List Event) (p : Part) → IsFirst l h p → first_ready l h ≡ Some p
   pub rests : (h : List Event) (k : ℕ) (one : Live Version) → IsLegalList l h
-      → first_ready l h ≡ None → ((who : ℕ) → held h who ≡ None) → slice_get (doc l h).live k ≡ Some one
+      → first_ready l h ≡ None → ((who : ℕ) → held h who ≡ None)
+      → slice_get (doc l h).live k ≡ Some one
       → is_settled l h (doc l h) one.version ≡ true
   pub ends : (h : List Event)
       → first_ready l (alone l 0 (length (all_parts l (doc l h).homes)) h) ≡ None

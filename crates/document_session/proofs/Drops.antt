@@ -20,10 +20,9 @@ use Rattle.session_rules.specs.Session.{Session, document}
 use Rattle.session_replies.specs.Spelling.{spelling}
 use Rattle.session_jobs.specs.Works.{Work}
 use Rattle.session_lists.specs.Items.{SessionItem, session_in}
-use Rattle.session_states.specs.Kept.{IsListed, IsKept}
+use Rattle.session_states.specs.Kept.{IsKept}
 use Rattle.session_states.specs.States.{State, IsSound, with_past}
 use Rattle.session_states.specs.Workers.{FreeLaws}
-use Rattle.document_session.specs.declared.working.GiveUp.{GiveUp}
 use Rattle.document_session.specs.declared.working.GiveUp.TheVariants as give_up
 use Rattle.document_session.specs.Answers.{GivenUpSo}
 use Rattle.document_session.specs.Contents.{SessionState}

@@ -40,7 +40,8 @@ pub nothing_due : (r : Result Session Refusal) → due_by r Nothing ≡ Nothing
 nothing_due (Ok after) = refl
 nothing_due (Err reason) = refl
 
-position_found : {A : Type 0} (p : A → Bool) (xs : List A) → option_and_then (slice_get xs) (position p xs) ≡ find p xs
+-- what stands at the place of the first that passes is the first that passes
+pub position_found : {A : Type 0} (p : A → Bool) (xs : List A) → option_and_then (slice_get xs) (position p xs) ≡ find p xs
 position_found p xs = go (nat_lt (position_or_len p xs) (length xs)) refl
   where
     go : (b : Bool) → nat_lt (position_or_len p xs) (length xs) ≡ b

@@ -1,10 +1,7 @@
 -- What the editor's document prepares is what the core asks of a plan.
-use Rattle.std.proofs.Common.{◌≡◌, ℕ, zero, suc, ◌≤◌, Bool, true, false, cond, not, List, [], ◌∷◌, length, Option, Some, None, refl, sym, ap, subst, ◌∙◌}
-use Rattle.std.proofs.lemmas.Bool.{false≢true, ltb-false}
-use Rattle.std.proofs.lemmas.List.Folds.{find_at}
-use Rattle.std.proofs.lemmas.Option.{slice_get_past}
-use Rattle.std.specs.Prelude.{slice_get, nat_lt, find, is_some, ◌↔◌}
-use Rattle.std.specs.List.{position, position_or_len}
+use Rattle.std.proofs.Common.{◌≡◌, ℕ, zero, suc, ◌≤◌, Bool, true, false, not, List, [], ◌∷◌, Option, Some, None, refl, sym, ap, subst, ◌∙◌}
+use Rattle.std.proofs.lemmas.Bool.{false≢true}
+use Rattle.std.specs.Prelude.{slice_get, find, is_some, ◌↔◌}
 use Rattle.std.specs.Option.{option_map, option_and_then, option_map_or}
 use Rattle.import_rounds.specs.Looks.{marked}
 use Rattle.shared_map.specs.Pairs.{found, has_key}
@@ -26,6 +23,7 @@ use Rattle.update_plans.specs.Alive.{HaveCommands}
 use Rattle.document_edits.specs.NameSets.{NameSet}
 use Rattle.document_edits.specs.NameSets.{AreChanged as AreOthers}
 use Rattle.editor_buffer.specs.Cutting.{AreKept}
+use Rattle.document_session.proofs.Looked.{position_found}
 
 agree_is : (a b : Option (List ℕ)) → agree a b ≡ true → a ≡ b
 agree_is None None e = refl
@@ -50,14 +48,6 @@ pub changed : (set : NameSet) (before tip now : BlobList) → tip ≡ before →
 changed set before tip now same others name =
     subst (λ (t : BlobList). agree (found in_order name now) (found in_order name t) ≡ not (is_some (found in_order name set))) (sym same)
     (other_by (is_some (found in_order name set)) (found in_order name now) (found in_order name before) (others name))
-
-position_found : {A : Type 0} (p : A → Bool) (xs : List A) → option_and_then (slice_get xs) (position p xs) ≡ find p xs
-position_found p xs = go (nat_lt (position_or_len p xs) (length xs)) refl
-  where
-    go : (b : Bool) → nat_lt (position_or_len p xs) (length xs) ≡ b
-        → option_and_then (slice_get xs) (cond b (Some (position_or_len p xs)) None) ≡ find p xs
-    go true e = sym (find_at p xs)
-    go false e = sym (find_at p xs ∙ slice_get_past xs (position_or_len p xs) (ltb-false (position_or_len p xs) (length xs) e))
 
 -- the commands of what was found
 abbrev entries_of : Option (List ℕ × Node) → List Entry

@@ -69,7 +69,8 @@ abbrev pub ClaimedSo : {S : Type 0} → Lang S → Service → ℕ → List Sess
 ClaimedSo l service who old (claim.Job work) new =
     (new ≡ Made (entry.Claimed who work.job.part) ∷ old)
     × IsWorkOf l (session_in l service new) who work
-ClaimedSo l service who old claim.Nothing new = (new ≡ old) × IsIdle l (session_in l service old) who
+ClaimedSo l service who old claim.Nothing new =
+    (new ≡ old) × IsIdle l (session_in l service old) who
 ClaimedSo l service who old claim.NoMemory new = new ≡ old
 
 -- a part is finished where its execution is wanted, else it is let go

@@ -1,4 +1,5 @@
--- Messages that change nothing but that they came, and what is answered to them (this project's own).
+-- Messages that change nothing but that they came, and what is answered to them (this project's
+-- own).
 use Rattle.std.specs.Prelude.{◌≡◌, ℕ, List, Some, Result, Ok, Err}
 use Rattle.text_edits.specs.declared.edit.Edit.{Edit}
 use Rattle.doc_nodes.specs.declared.node.Node.{Node}

@@ -2,8 +2,8 @@
 //! core, with the list of all that has happened.
 //!
 //! The protocol is that of Wenzel, "Asynchronous User Interaction and Tool Integration in
-//! Isabelle/PIDE" (ITP 2014); messages, refusals and replies are this project's own. Replies wait in
-//! an outbox until the writer takes them, so a session knows no sink. It must not know of bytes
+//! Isabelle/PIDE" (ITP 2014); messages, refusals and replies are this project's own. Replies wait
+//! in an outbox until the writer takes them, so a session knows no sink. It must not know of bytes
 //! before they are messages, of ends that fail, or of threads.
 #![tactic(auto)]
 

@@ -1,4 +1,4 @@
-use Rattle.std.proofs.Common.{◌≡◌, ℕ, ◌+◌, ◌≤◌, ◌∷◌, List, inl, refl, sym, ap, ◌∙◌, arith}
+use Rattle.std.proofs.Common.{◌≤◌, ◌∷◌, List, inl, refl, sym, ap, ◌∙◌, arith}
 use Rattle.pide_base.specs.declared.part.Part.{Part}
 use Rattle.prover_core.specs.Looked.{looked}
 use Rattle.reply_outbox.specs.declared.item.Item.TheVariants.{Made}

@@ -1,4 +1,4 @@
-use Rattle.std.proofs.Common.{◌≡◌, ℕ, ◌+◌, ◌≤◌, subst, arith}
+use Rattle.std.proofs.Common.{◌≤◌, subst, arith}
 use Rattle.prover_core.specs.Looked.{looked}
 use Rattle.session_rules.specs.Services.{free_workers}
 use Rattle.session_states.specs.Kept.{session_of}

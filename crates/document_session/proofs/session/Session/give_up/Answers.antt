@@ -1,4 +1,4 @@
-use Rattle.std.proofs.Common.{◌≡◌, ℕ, ◌+◌, ◌≤◌, Some, refl, sym, ap, subst, ◌∙◌, arith}
+use Rattle.std.proofs.Common.{◌≡◌, ◌≤◌, Some, refl, sym, ap, subst, ◌∙◌, arith}
 use Rattle.core_jobs.specs.Jobs.{JobContent}
 use Rattle.core_rules.specs.Standing.{held}
 use Rattle.prover_core.specs.Looked.{looked}
