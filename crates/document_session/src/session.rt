@@ -1,5 +1,5 @@
 //! The session as a value.
-ghost use Rattle.std.specs.Prelude.{◌≡◌, ◌≤◌, [], ◌∷◌, map, false, IfOk};
+ghost use Rattle.std.specs.Prelude.{◌≡◌, ◌≤◌, [], ◌∷◌, map, false, IfOk, IfErr};
 ghost use Rattle.reply_outbox.specs.declared.item.Item.TheVariants.{Opened, Made};
 ghost use Rattle.core_rules.specs.Standing.{has_ended};
 ghost use Rattle.message_values.specs.Workers.{most_workers};
@@ -18,7 +18,7 @@ use reply_outbox::{Item, Outbox};
 use session_jobs::SessionJob;
 use session_rules::{Entry, Service};
 use session_states::writer_laws;
-use std::alloc::{AllocError, Global};
+use std::alloc::{AllocFailed, Global};
 use std::collections::HashMap;
 use std::marker::Model;
 
@@ -61,15 +61,18 @@ impl<L: Language, P: Past<Item<Service, Entry>>> Model for Session<L, P> {
 
 impl<L: Language, P: Past<Item<Service, Entry>> + Drop> Session<L, P> {
     /// A session in which nothing happened but that it is served so, by at most 16 workers. The
-    /// list must be empty.
-    pub fn new(alloc: Global, service: Service, past: P) -> Result<Session<L, P>, AllocError>
+    /// list must be empty; where there is no memory it is handed back, still empty.
+    pub fn new(alloc: Global, service: Service, past: P) -> Result<Session<L, P>, AllocFailed<P>>
         requires empty { P.items past ≡ [] }
         requires workers { free_workers service ≤ most_workers }
         ensures service { IfOk result (λ session. session.service ≡ service) }
         ensures items { IfOk result (λ session. session.items ≡ Opened service ∷ []) }
         ensures legal { IfOk result (λ session. AreLegal L.lang service session.items) }
+        ensures err { IfErr result (λ failed. P.items failed.value ≡ []) }
     {
-        let core = Core::new(alloc)?;
+        let Ok(core) = Core::new(alloc) else {
+            return Err(AllocFailed { value: past });
+        };
         let outbox = Outbox::new(alloc, past, service)?;
         Ok(Session {
             service,

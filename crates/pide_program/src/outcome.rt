@@ -7,7 +7,7 @@ use session_rules::{Entry, Service};
 use toplevel::Isar;
 
 /// How a run ended, the source and sink that it was given, and its session, which lends the list of
-/// what happened: None where no session was begun.
+/// what happened.
 #[derive(Drop)]
 pub struct Outcome<S, K, P: Past<Item<Service, Entry>>> {
     /// How it ended.
@@ -16,6 +16,7 @@ pub struct Outcome<S, K, P: Past<Item<Service, Entry>>> {
     pub source: S,
     /// The sink, with what was written.
     pub sink: K,
-    /// The session, after all that happened.
-    pub session: Option<Session<Isar, P>>,
+    /// The session, after all that happened; or the list that was given, still empty, where no
+    /// session was begun.
+    pub session: Result<Session<Isar, P>, P>,
 }

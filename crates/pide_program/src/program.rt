@@ -1,5 +1,5 @@
 //! The one call that the program makes.
-ghost use Rattle.std.specs.Prelude.{◌≡◌, ◌⊎◌, ℕ, true, false, [], map, Some, None, IsSome, IfSome};
+ghost use Rattle.std.specs.Prelude.{◌≡◌, ◌⊎◌, ℕ, true, false, [], map, IsOk, IsErr, IfOk, IfErr};
 ghost use Rattle.pide_base.specs.Faults.{Rose};
 ghost use Rattle.pide_check.specs.Checked.{ChecksWhole, IsChecked};
 ghost use Rattle.document_serve.specs.Causes.{BadFrameSo, CompleteSo, DoneSo, LongSo, TruncatedSo};
@@ -34,22 +34,23 @@ pub fn pide<S: Source, K: Sink, P: Past<Item<Service, Entry>> + Drop>(
     past: P,
 ) -> Outcome<S, K, P>
     requires empty { P.items past ≡ [] }
-    ensures bytes_written { IfSome result.session (λ s. BytesWritten isar result.status
+    ensures bytes_written { IfOk result.session (λ s. BytesWritten isar result.status
         (K.contents sink) (K.contents result.sink) s) }
-    ensures one_legal_history { IfSome result.session (λ s. OneLegalHistory isar result.status s) }
-    ensures messages_read { IfSome result.session (λ s. MessagesRead result.status
+    ensures one_legal_history { IfOk result.session (λ s. OneLegalHistory isar result.status s) }
+    ensures messages_read { IfOk result.session (λ s. MessagesRead result.status
         (S.left source) (S.left result.source) s) }
-    ensures shows_and_lists { IfSome result.session (λ s. EachOf (ShowsSo isar) s) }
-    ensures covers { IfSome result.session (λ s. EachOf (CoversSo isar) s) }
-    ensures alone { IfSome result.session (λ s. MadeAlone isar result.status (S.left source)
+    ensures shows_and_lists { IfOk result.session (λ s. EachOf (ShowsSo isar) s) }
+    ensures covers { IfOk result.session (λ s. EachOf (CoversSo isar) s) }
+    ensures alone { IfOk result.session (λ s. MadeAlone isar result.status (S.left source)
         (S.left result.source) s) }
 
-    ensures service { IfSome result.session (λ s. s.service
+    ensures service { IfOk result.session (λ s. s.service
         ≡ service_of (map (λ w. w.now) words.now)) }
     ensures served { is_served (map (λ w. w.now) words.now) ≡ true
-        → IsSome result.session ⊎ (result.status ≡ Status.NoMemory) }
-    ensures unserved { is_served (map (λ w. w.now) words.now) ≡ false → result.session ≡ None }
-    ensures unbegun { result.session ≡ None → is_check (map (λ w. w.now) words.now) ≡ false
+        → IsOk result.session ⊎ (result.status ≡ Status.NoMemory) }
+    ensures handed_back { IfErr result.session (λ list. P.items list ≡ []) }
+    ensures unserved { is_served (map (λ w. w.now) words.now) ≡ false → IsErr result.session }
+    ensures unbegun { IsErr result.session → is_check (map (λ w. w.now) words.now) ≡ false
         → (result.source ≡ source) × (result.sink ≡ sink) }
     ensures lines_written { is_check (map (λ w. w.now) words.now) ≡ true
         → IsChecked isar result.status (S.left source) (S.left result.source) (K.contents sink)
@@ -66,9 +67,9 @@ pub fn pide<S: Source, K: Sink, P: Past<Item<Service, Entry>> + Drop>(
         → BadFrameSo at (S.left source) (S.left result.source) }
     ensures truncated { (at : ℕ) → result.status ≡ Status.Truncated at
         → TruncatedSo at (S.left source) (S.left result.source) }
-    ensures long_input { IsSome result.session
+    ensures long_input { IsOk result.session
         → LongSo input_limit result.status (S.left source) (S.left result.source) }
-    ensures done { IsSome result.session → result.status ≡ Status.Done
+    ensures done { IsOk result.session → result.status ≡ Status.Done
         → DoneSo (S.left source) (S.left result.source) }
     ensures bad_text { (at : ℕ) → result.status ≡ Status.BadText at
         → is_check (map (λ w. w.now) words.now) ≡ true }
@@ -85,8 +86,8 @@ pub fn pide<S: Source, K: Sink, P: Past<Item<Service, Entry>> + Drop>(
             serve_as(alloc, Service::Workers { count: 0 }, source, sink, past)
         }
         Ok(Some(Request::Replay)) => serve_as(alloc, Service::Script, source, sink, past),
-        Ok(Some(Request::Check)) => check(alloc, source, sink),
-        Ok(_) => unserved(Status::Usage, source, sink),
-        Err(_) => unserved(Status::NoMemory, source, sink),
+        Ok(Some(Request::Check)) => check(alloc, source, sink, past),
+        Ok(_) => unserved(Status::Usage, source, sink, past),
+        Err(_) => unserved(Status::NoMemory, source, sink, past),
     }
 }

@@ -1,5 +1,5 @@
 //! What each command of the command line runs.
-ghost use Rattle.std.specs.Prelude.{◌≡◌, ℕ, [], None, IsSome, IfSome, IfNone};
+ghost use Rattle.std.specs.Prelude.{◌≡◌, ◌⊎◌, ℕ, [], Err, IsOk, IsErr, IfOk, IfErr};
 ghost use Rattle.pide_base.specs.Faults.{Rose};
 ghost use Rattle.pide_check.specs.Checked.{ChecksWhole, IsChecked};
 ghost use Rattle.document_serve.specs.Causes.{BadFrameSo, CompleteSo, DoneSo, LongSo, TruncatedSo};
@@ -16,7 +16,7 @@ use pide_base::{Sink, Source, Status};
 use pide_check::check_text;
 use reply_outbox::Item;
 use session_rules::{Entry, Service};
-use std::alloc::Global;
+use std::alloc::{AllocFailed, Global};
 use toplevel::Isar;
 
 /// The most bytes that a run takes.
@@ -27,17 +27,18 @@ pub(crate) fn unserved<S, K, P: Past<Item<Service, Entry>>>(
     status: Status,
     source: S,
     sink: K,
+    past: P,
 ) -> Outcome<S, K, P>
     ensures status { result.status ≡ status }
     ensures source { result.source ≡ source }
     ensures sink { result.sink ≡ sink }
-    ensures session { result.session ≡ None }
+    ensures session { result.session ≡ Err past }
 {
     Outcome {
         status,
         source,
         sink,
-        session: None,
+        session: Err(past),
     }
 }
 
@@ -51,11 +52,12 @@ pub(crate) fn serve_as<S: Source, K: Sink, P: Past<Item<Service, Entry>> + Drop>
 ) -> Outcome<S, K, P>
     requires empty { P.items past ≡ [] }
     requires alone { free_workers service ≡ 0 }
-    ensures run { IfSome result.session (λ s. IsRun isar input_limit result.status
+    ensures run { IfOk result.session (λ s. IsRun isar input_limit result.status
         (S.left source) (S.left result.source) (K.contents sink) (K.contents result.sink) s) }
-    ensures service { IfSome result.session (λ s. s.service ≡ service) }
-    ensures none { IfNone result.session ((result.status ≡ Status.NoMemory)
-        × (result.source ≡ source) × (result.sink ≡ sink)) }
+    ensures service { IfOk result.session (λ s. s.service ≡ service) }
+    ensures begun { IsOk result.session ⊎ (result.status ≡ Status.NoMemory) }
+    ensures handed_back { IfErr result.session (λ list. P.items list ≡ []) }
+    ensures unbegun { IsErr result.session → (result.source ≡ source) × (result.sink ≡ sink) }
     ensures read_fault { result.status ≡ Status.ReadFault
         → Rose (S.faults source) (S.faults result.source) }
     ensures write_fault { result.status ≡ Status.WriteFault
@@ -64,7 +66,7 @@ pub(crate) fn serve_as<S: Source, K: Sink, P: Past<Item<Service, Entry>> + Drop>
         → BadFrameSo at (S.left source) (S.left result.source) }
     ensures truncated { (at : ℕ) → result.status ≡ Status.Truncated at
         → TruncatedSo at (S.left source) (S.left result.source) }
-    ensures long_input { IsSome result.session
+    ensures long_input { IsOk result.session
         → LongSo input_limit result.status (S.left source) (S.left result.source) }
     ensures done { result.status ≡ Status.Done
         → DoneSo (S.left source) (S.left result.source) }
@@ -73,16 +75,16 @@ pub(crate) fn serve_as<S: Source, K: Sink, P: Past<Item<Service, Entry>> + Drop>
 {
     let mut source = source;
     let mut sink = sink;
-    let Ok(session) = Session::<Isar, P>::new(alloc, service, past) else {
-        return unserved(Status::NoMemory, source, sink);
+    let mut session = match Session::<Isar, P>::new(alloc, service, past) {
+        Ok(session) => session,
+        Err(AllocFailed { value }) => return unserved(Status::NoMemory, source, sink, value),
     };
-    let mut session = session;
     let status = serve(alloc, &Isar, &mut source, &mut sink, &mut session, LIMIT);
     Outcome {
         status,
         source,
         sink,
-        session: Some(session),
+        session: Ok(session),
     }
 }
 
@@ -91,10 +93,11 @@ pub(crate) fn check<S: Source, K: Sink, P: Past<Item<Service, Entry>>>(
     alloc: Global,
     source: S,
     sink: K,
+    past: P,
 ) -> Outcome<S, K, P>
     ensures checked { IsChecked isar result.status (S.left source) (S.left result.source)
         (K.contents sink) (K.contents result.sink) }
-    ensures session { result.session ≡ None }
+    ensures session { result.session ≡ Err past }
     ensures read_fault { result.status ≡ Status.ReadFault
         → Rose (S.faults source) (S.faults result.source) }
     ensures write_fault { result.status ≡ Status.WriteFault
@@ -109,6 +112,6 @@ pub(crate) fn check<S: Source, K: Sink, P: Past<Item<Service, Entry>>>(
         status,
         source,
         sink,
-        session: None,
+        session: Err(past),
     }
 }

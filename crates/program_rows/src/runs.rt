@@ -59,7 +59,7 @@ impl Row {
                 && outcome.sink.contents() == output.as_slice()
                 && self
                     .entries
-                    .is_none_or(|count| count == entries_in(outcome.session.as_ref())),
+                    .is_none_or(|count| count == entries_in(outcome.session.as_ref().ok())),
         )
     }
 }

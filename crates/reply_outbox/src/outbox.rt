@@ -1,5 +1,5 @@
 //! The list of what has happened, beside the replies that wait.
-ghost use Rattle.std.specs.Prelude.{◌≡◌, ◌==◌, ◌+◌, ◌*◌, ◌<◌, ◌≤◌, [], ◌∷◌, ◌++◌, length, map, false, IfOk, IfSome, IfNone, OnOk};
+ghost use Rattle.std.specs.Prelude.{◌≡◌, ◌==◌, ◌+◌, ◌*◌, ◌<◌, ◌≤◌, [], ◌∷◌, ◌++◌, length, map, false, IfOk, IfErr, IfSome, IfNone, OnOk};
 ghost use Rattle.std.specs.Option.{option_map, option_to_list};
 ghost use Rattle.reply_outbox.specs.declared.item.Item.TheVariants as item;
 ghost use Rattle.reply_outbox.specs.Items.{is_lost};
@@ -7,7 +7,7 @@ ghost use Rattle.reply_outbox.specs.Waiting.{IsSent, IsStill};
 
 use crate::item::Item;
 use past_items::Past;
-use std::alloc::{AllocError, Global};
+use std::alloc::{AllocError, AllocFailed, Global};
 use std::collections::VecDeque;
 use std::marker::{Model, PhantomData};
 
@@ -51,16 +51,21 @@ pub struct Parts<P> {
 
 impl<O: Drop, E: Drop, P: Past<Item<O, E>> + Drop> Outbox<O, E, P> {
     /// An outbox in which nothing happened but that it began so, with room for one entry. The list
-    /// must be empty.
-    pub fn new(alloc: Global, past: P, opened: O) -> Result<Outbox<O, E, P>, AllocError>
+    /// must be empty; where there is no memory it is handed back, still empty.
+    pub fn new(alloc: Global, past: P, opened: O) -> Result<Outbox<O, E, P>, AllocFailed<P>>
         requires { P.items past ≡ [] }
         ensures items { IfOk result (λ outbox. outbox.items ≡ item.Opened opened ∷ []) }
         ensures waiting { IfOk result (λ outbox. outbox.waiting ≡ []) }
         ensures free { IfOk result (λ outbox. outbox.free ≡ 1) }
+        ensures err { IfErr result (λ failed. P.items failed.value ≡ []) }
     {
-        let waiting = VecDeque::with_capacity(alloc, 1)?;
         let mut past = past;
-        past.reserve(4)?;
+        let Ok(waiting) = VecDeque::with_capacity(alloc, 1) else {
+            return Err(AllocFailed { value: past });
+        };
+        if past.reserve(4).is_err() {
+            return Err(AllocFailed { value: past });
+        }
         past.add(Item::Opened(opened));
         Ok(Outbox {
             past,
