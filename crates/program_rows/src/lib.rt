@@ -7,6 +7,12 @@
 #[cfg(test)]
 mod example;
 #[cfg(test)]
+mod failing;
+#[cfg(test)]
+mod limits;
+#[cfg(test)]
+mod looked;
+#[cfg(test)]
 mod runs;
 #[cfg(test)]
 mod streams;

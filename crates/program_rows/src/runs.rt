@@ -2,11 +2,11 @@
 ghost use Rattle.std.specs.Prelude.{◌<◌};
 
 use crate::example::{MORE, REFUSALS, SENT, WRITTEN};
+use crate::looked::watched;
 use document_session::Session;
 use past_items::Kept;
 use pide_base::Status;
 use pide_io::{MemSink, MemSource};
-use pide_program::pide;
 use reply_outbox::Item;
 use session_rules::{Entry, Service};
 use std::alloc::{AllocError, Global};
@@ -51,8 +51,10 @@ impl Row {
         let fails = Vec::from_slice(alloc, &[self.failing_pull])?;
         let source = MemSource::new(self.input(alloc)?, piece, fails);
         let fails = Vec::from_slice(alloc, &[self.failing_push])?;
-        let sink = MemSink::new(alloc, 4096, fails).ok().ok_or("a sink")?;
-        let outcome = pide(alloc, self.words, source, sink, Kept::new(alloc));
+        let Ok(sink) = MemSink::new(alloc, 4096, fails) else {
+            return Err(Fail::new("no sink"));
+        };
+        let outcome = watched(alloc, self.words, source, sink).outcome;
         let output = self.output(alloc)?;
         Ok(
             outcome.status == self.status

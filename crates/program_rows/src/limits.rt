@@ -1,0 +1,96 @@
+//! Inputs that are longer than a run may take (`document_serve`).
+ghost use Rattle.std.specs.Prelude.{◌≡◌, ◌≤◌, [], ◌∷◌, IfOk};
+ghost use Rattle.message_values.specs.Workers.{most_workers};
+ghost use Rattle.reply_outbox.specs.declared.item.Item.TheVariants.{Opened};
+ghost use Rattle.session_rules.specs.Services.{free_workers};
+
+use crate::example::{SENT, WRITTEN};
+use document_serve::serve;
+use document_session::Session;
+use past_items::Kept;
+use pide_base::Status;
+use pide_io::{MemSink, MemSource};
+use reply_outbox::Item;
+use session_rules::{Entry, Service};
+use std::alloc::Global;
+use std::test::Fail;
+use toplevel::Isar;
+
+/// The list of what has happened.
+type Past = Kept<Item<Service, Entry>>;
+
+/// The worked example, served up to a limit.
+struct Row {
+    /// What the row shows.
+    shows: &'static str,
+    /// How many bytes may be taken.
+    limit: usize,
+    status: Status,
+    /// How many bytes of its replies are written.
+    replies: usize,
+}
+
+const ROWS: &[Row] = &[
+    Row {
+        shows: "where a byte of the first message is missing nothing is written",
+        limit: 157,
+        status: Status::LongInput,
+        replies: 0,
+    },
+    Row {
+        shows: "a message that ends at the limit is answered",
+        limit: 158,
+        status: Status::LongInput,
+        replies: 157,
+    },
+    Row {
+        shows: "an input of as many bytes as the limit says is answered whole, and too long",
+        limit: 205,
+        status: Status::LongInput,
+        replies: 1077,
+    },
+    Row {
+        shows: "an input of fewer bytes is done",
+        limit: 206,
+        status: Status::Done,
+        replies: 1077,
+    },
+];
+
+/// A session in which nothing happened.
+fn begun(alloc: Global, service: Service, past: Past) -> Result<Session<Isar, Past>, Fail>
+    requires empty { past.0 ≡ [] }
+    requires workers { free_workers service ≤ most_workers }
+    ensures service { IfOk result (λ session. session.service ≡ service) }
+    ensures items { IfOk result (λ session. session.items ≡ Opened service ∷ []) }
+{
+    match Session::new(alloc, service, past) {
+        Ok(session) => Ok(session),
+        Err(_) => Err(Fail::new("no session")),
+    }
+}
+
+/// Serves the worked example up to this limit: how that ends, and the sink.
+fn served_within(alloc: Global, limit: usize) -> Result<(Status, MemSink), Fail> {
+    let bytes = Vec::from_slice(alloc, SENT)?;
+    let mut source = MemSource::new(bytes, 50, Vec::new(alloc));
+    let Ok(sink) = MemSink::new(alloc, 4096, Vec::new(alloc)) else {
+        return Err(Fail::new("no sink"));
+    };
+    let mut sink = sink;
+    let service = Service::Workers { count: 0 };
+    let mut session = begun(alloc, service, Past::new(alloc))?;
+    let status = serve(alloc, &Isar, &mut source, &mut sink, &mut session, limit);
+    Ok((status, sink))
+}
+
+#[test]
+fn no_more_than_the_limit_is_taken(rt: HostRuntime) -> Result<(), Fail> {
+    for row in ROWS {
+        let (status, sink) = served_within(rt.alloc(), row.limit)?;
+        let replies = &WRITTEN[..row.replies.min(WRITTEN.len())];
+        assert_eq!(rt; status, row.status, "{}", row.shows);
+        assert_eq!(rt; sink.contents(), replies, "{}", row.shows);
+    }
+    Ok(())
+}
