@@ -1,0 +1,2 @@
+mod StillHeld
+mod Wanted
