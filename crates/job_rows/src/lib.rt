@@ -8,8 +8,6 @@ mod before_updates;
 #[cfg(test)]
 mod laws_called;
 #[cfg(test)]
-mod nth_stop;
-#[cfg(test)]
 mod parity;
 #[cfg(test)]
 mod ran;

@@ -1,11 +1,11 @@
 //! What comes of jobs: each part, from each input, with and without a blob, and stopped.
-use crate::nth_stop::NthStop;
 use crate::parity::Parity;
 use core_jobs::{Done, Input, Job, Ran};
 use doc_nodes::{Aliases, NodeAliases, Shared};
 use exec_rules::{Head, Key};
 use language::{Imported, Imports};
 use pide_base::{ExecId, Flag, NodeName, Part, PartKind};
+use pide_io::NthStop;
 use report_markup::ReportKind;
 use sqlite_items::Items;
 use std::alloc::Global;
