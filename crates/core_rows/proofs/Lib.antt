@@ -1,3 +1,2 @@
 mod Quiet
 mod Moved
-mod Prepared

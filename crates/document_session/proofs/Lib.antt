@@ -6,7 +6,6 @@ mod Refusals
 mod Looked
 mod Settled
 mod Scripted
-mod Prepared
 mod Done
 mod Worked
 mod Called

@@ -43,7 +43,7 @@ use Rattle.session_states.specs.Messages.{UpdateLaw}
 use Rattle.document_session.specs.Makes.{IsMade}
 use Rattle.document_session.proofs.Refusals.{limit_passed}
 use Rattle.document_session.proofs.Rooms.{state, replied_by}
-use Rattle.document_session.proofs.Prepared.{changed, commands, fits, same_update}
+use Rattle.prover_core.proofs.KnownPrepared.{changed, commands, fits, same_update}
 use Rattle.document_session.proofs.Planned.{plan_told, ids_suffice, updated_kept}
 
 -- what was prepared is what is to be made

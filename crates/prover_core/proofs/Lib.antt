@@ -1,3 +1,4 @@
+pub mod KnownPrepared
 mod PartsAlike
 mod FinishedRows
 mod NextParts

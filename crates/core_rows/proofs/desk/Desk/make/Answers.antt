@@ -10,7 +10,7 @@ use Rattle.document_edits.specs.NameSets.{NameSet}
 use Rattle.core_rows.specs.Tally.{counting}
 use Rattle.core_rows.specs.Desk.{DeskState, IsPreparedBy}
 use Rattle.core_rows.proofs.Moved.{told_as, later, updated}
-use Rattle.core_rows.proofs.Prepared.{changed, commands, fits, same_update}
+use Rattle.prover_core.proofs.KnownPrepared.{changed, commands, fits, same_update}
 use Rattle.core_rows.proofs.desk.Desk.make.Goals as goal
 
 pub plan-requires-clause-going : goal.plan-requires-clause-going

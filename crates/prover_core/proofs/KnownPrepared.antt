@@ -1,18 +1,20 @@
--- What the editor's document prepares is what the core asks of a plan.
+-- What an editor's document tells of an update is what a plan asks for.
 use Rattle.std.proofs.Common.{◌≡◌, ℕ, zero, suc, ◌≤◌, Bool, true, false, not, List, [], ◌∷◌, Option, Some, None, refl, sym, ap, subst, ◌∙◌}
 use Rattle.std.proofs.lemmas.Bool.{false≢true}
 use Rattle.std.specs.Prelude.{slice_get, find, is_some, ◌↔◌}
 use Rattle.std.specs.Option.{option_map, option_and_then, option_map_or}
+use Rattle.text_words.proofs.KnownLists.{position_found}
 use Rattle.import_rounds.specs.Looks.{marked}
 use Rattle.shared_map.specs.Pairs.{found, has_key}
 use Rattle.doc_nodes.specs.declared.node.Entry.{Entry}
 use Rattle.doc_nodes.specs.declared.node.Node.{Node}
 use Rattle.doc_nodes.specs.Names.{in_order, equal}
 use Rattle.doc_nodes.specs.Imports.{NodeList, place_of}
+use Rattle.doc_nodes.proofs.KnownNames.{name_itself}
 use Rattle.exec_rules.specs.declared.version.Version.{Version}
 use Rattle.exec_rules.specs.Kept.{BlobList, agree}
 use Rattle.exec_rules.specs.Assigning.{entries_at, entries_in}
-use Rattle.doc_nodes.proofs.KnownNames.{name_is, name_itself}
+use Rattle.exec_rules.proofs.KnownKept.{agree_is}
 use Rattle.pide_base.specs.Ids.{id_end}
 use Rattle.core_rules.specs.declared.event.Event.{Event}
 use Rattle.core_rules.specs.declared.event.Event.TheVariants as event
@@ -20,16 +22,6 @@ use Rattle.core_rules.specs.Doc.{Doc, assignment_of}
 use Rattle.core_rules.specs.Updates.{FitsUpdate}
 use Rattle.exec_assign.specs.Untouched.{AreChanged}
 use Rattle.update_plans.specs.Alive.{HaveCommands}
-use Rattle.document_edits.specs.NameSets.{NameSet}
-use Rattle.document_edits.specs.NameSets.{AreChanged as AreOthers}
-use Rattle.editor_buffer.specs.Cutting.{AreKept}
-use Rattle.document_session.proofs.Looked.{position_found}
-
-agree_is : (a b : Option (List ℕ)) → agree a b ≡ true → a ≡ b
-agree_is None None e = refl
-agree_is None (Some y) e = absurd (cc)
-agree_is (Some x) None e = absurd (cc)
-agree_is (Some x) (Some y) e = ap (λ t. Some t) (name_is x y e)
 
 agree_itself : (a : Option (List ℕ)) → agree a a ≡ true
 agree_itself None = refl
@@ -43,8 +35,10 @@ other_by true a b iff = go (agree a b) refl
     go false e = refl
     go true e = absurd (false≢true (sym (iff.1 (agree_is a b e))))
 
--- blobs that differ are changed
-pub changed : (set : NameSet) (before tip now : BlobList) → tip ≡ before → AreOthers set before now → AreChanged set tip now
+-- blobs that differ are changed: the set has the names of just these
+pub changed : (set : List (List ℕ × Unit {0})) (before tip now : BlobList) → tip ≡ before
+    → ((name : List ℕ) → (is_some (found in_order name set) ≡ false) ↔ (found in_order name now ≡ found in_order name before))
+    → AreChanged set tip now
 changed set before tip now same others name =
     subst (λ (t : BlobList). agree (found in_order name now) (found in_order name t) ≡ not (is_some (found in_order name set))) (sym same)
     (other_by (is_some (found in_order name set)) (found in_order name now) (found in_order name before) (others name))
@@ -72,8 +66,9 @@ marked_at [] p is = absurd (cc)
 marked_at (m ∷ ms) zero is = ap (λ b. Some b) is
 marked_at (m ∷ ms) (suc p) is = marked_at ms p is
 
--- nodes that stayed have the commands that they had
-pub commands : (version : Version) (tip nodes : NodeList) (marks : List Bool) → version.nodes ≡ tip → AreKept tip marks nodes
+-- nodes that stayed, by marks, have the commands that they had
+pub commands : (version : Version) (tip nodes : NodeList) (marks : List Bool) → version.nodes ≡ tip
+    → ((p : ℕ) (pair : List ℕ × Node) → slice_get marks p ≡ Some true → slice_get nodes p ≡ Some pair → found in_order pair.0 tip ≡ Some pair.1)
     → HaveCommands version nodes marks
 commands version tip nodes marks same kept p pair mark at =
     entries_found version tip pair.0 pair.1 same (kept p pair (marked_at marks p mark) at)
