@@ -1,0 +1,9 @@
+mod Fine
+mod CleanParts
+mod ScratchRuns
+mod Believing
+mod Resting
+mod Telling
+mod LiveVersions
+mod Required
+mod Beliefs
