@@ -48,8 +48,10 @@ pub whole_required : ((h : List Event) (id : ℕ) (nodes : List (List ℕ × Nod
     → OfEachNeeded (IsWhole v) v p
 whole_required covers reaches h legal id v live p pair at required ordered =
     let is : IsAssigned v = of_version IsAssigned (doc isar h).live id v live (each_live isar IsAssigned
-    (λ k i nodes blobs may q other there. (covers k i nodes blobs q other may there,
-    λ none. ((all_at (FitsNode (doc isar k)) nodes q other may.1.1.nodes_fit there).bare none).0)) h legal) in
+    (λ k i nodes blobs may q other there. (
+      covers k i nodes blobs q other may there,
+      λ none. ((all_at (FitsNode (doc isar k)) nodes q other may.1.1.nodes_fit there).bare none).0,
+    )) h legal) in
     whole_from v is (reaches v.nodes) p pair at required ordered
 
 module _ (laws : Laws) (service : Service) (h : List Heard) (legal : IsLegalList isar (session isar service h).events) (id : ℕ) (v : Version)
