@@ -1,4 +1,3 @@
-mod LeadLemmas
 mod WordRows
 mod SignRows
 mod QuotedRows

@@ -10,8 +10,8 @@ use Rattle.outer_tokens.specs.declared.bracket.Mark.{Mark}
 use Rattle.outer_tokens.specs.declared.bracket.Mark.TheVariants.{Close, Other}
 use Rattle.outer_tokens.specs.declared.row.Row.{Row}
 use Rattle.outer_tokens.specs.declared.row.Row.TheVariants.{Space, Enclosed, Error, Symbol, LongIdent, Word, Sym}
+use Rattle.outer_tokens.proofs.KnownLeads.{lead, unled}
 use Rattle.lexeme_texts.specs.Lexemes.{IsPlain}
-use Rattle.lexeme_texts.proofs.LeadLemmas.{lead, unled}
 
 -- the text begins with no scalar that fails to be the one
 unbegun : (d c : ℕ) (s : List ℕ) → (c == d) ≡ false → begins (d ∷ []) (c ∷ s) ≡ false

@@ -13,8 +13,8 @@ use Rattle.outer_tokens.specs.declared.bracket.Bracket.{Bracket}
 use Rattle.outer_tokens.specs.declared.bracket.Bracket.TheVariants.{Comment, String, Cartouche}
 use Rattle.outer_tokens.specs.declared.row.Row.{Row}
 use Rattle.outer_tokens.specs.declared.row.Row.TheVariants.{Space, Enclosed, Error, Symbol, LongIdent, Word, Sym}
+use Rattle.outer_tokens.proofs.KnownLeads.{lead, unled}
 use Rattle.lexeme_texts.specs.Lexemes.{EndsSpace, EndsSign}
-use Rattle.lexeme_texts.proofs.LeadLemmas.{lead, unled}
 
 -- one scalar
 single : (c : ℕ) (s : List ℕ) → IsLongest (λ t. length t ≡ 1) (c ∷ s) 1

@@ -12,8 +12,8 @@ use Rattle.outer_tokens.specs.Rows.{HasForm, rank, IsFirstRow}
 use Rattle.outer_tokens.specs.declared.bracket.Bracket.TheVariants.{Comment, String, Cartouche}
 use Rattle.outer_tokens.specs.declared.row.Row.{Row}
 use Rattle.outer_tokens.specs.declared.row.Row.TheVariants.{Space, Enclosed, Error, Symbol, LongIdent, Word, Sym}
+use Rattle.outer_tokens.proofs.KnownLeads.{unled, letter-unled}
 use Rattle.lexeme_texts.specs.Lexemes.{EndsWord}
-use Rattle.lexeme_texts.proofs.LeadLemmas.{unled, letter_led}
 
 -- the run of identifier parts ends with the identifier
 run_ends : (s : List ℕ) → EndsWord s → prefix_len is_identifier_part s ≡ 0
@@ -68,7 +68,7 @@ module _ (x s : List ℕ) (id : IsIdentifier x) (ends : EndsWord s) where
     where
       go : (x : List ℕ) → IsIdentifier x → HasNoFront (HasForm r) (x ++ s)
       go [] id = absurd id
-      go (c ∷ x) id = unled r c (x ++ s) (letter_led r c id.0 low)
+      go (c ∷ x) id = unled r c (x ++ s) (letter-unled r c id.0 low)
 
   before : (r : Row) → rank r < 7 → HasNoFront (HasForm r) (x ++ s)
   before Space low = lettered Space (omega arith)

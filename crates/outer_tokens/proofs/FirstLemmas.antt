@@ -17,7 +17,7 @@ use Rattle.outer_tokens.specs.declared.row.Row.TheVariants.{Space, Enclosed, Err
 use Rattle.outer_tokens.proofs.EnclosedLemmas.{enclosed-some, enclosed-none, enclosed-unopened, opened-some, opened-none}
 use Rattle.outer_tokens.proofs.LongLemmas.{long-unbegun}
 use Rattle.outer_tokens.proofs.RowLemmas.{NoneBefore, none-yet, none-more, single}
-use Rattle.outer_tokens.proofs.LeadLemmas.{unled, before-names, before-bracket, before-error}
+use Rattle.outer_tokens.proofs.KnownLeads.{unled, before-names, before-bracket, before-error}
 
 -- a row after rows that don't fit
 pub after-none : (s : List ℕ) (row : _) (n : ℕ) → NoneBefore s (rank row) → IsLongest (HasForm row) s n → IsFirstRow s row n

@@ -6,7 +6,7 @@ mod EnclosedLemmas
 mod LongLemmas
 mod RowLemmas
 mod TokenLemmas
-mod LeadLemmas
+pub mod KnownLeads
 mod FirstLemmas
 mod ClosingTests
 mod LongTests

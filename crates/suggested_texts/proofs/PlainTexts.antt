@@ -1,5 +1,5 @@
 -- A text all of which is tokens of a formula has no `"` and no `\`.
-use Rattle.std.proofs.Common.{◌≡◌, ℕ, suc, ◌==◌, ◌&&◌, Bool, true, false, cond, List, [], ◌∷◌, take, drop, Option, Some, None, IfSome, option_map, sym, refl, ap, ◌∙◌, subst, arith, ne_eqb}
+use Rattle.std.proofs.Common.{◌≡◌, ℕ, suc, ◌==◌, ◌&&◌, Bool, true, false, cond, List, [], ◌∷◌, take, drop, Option, Some, None, IfSome, option_map, sym, refl, subst, arith}
 use Rattle.std.specs.List.{AllByRecursion, AllPass, prefix_len}
 use Rattle.std.specs.Char.{is_ascii_alphabetic}
 use Rattle.std.proofs.lemmas.Bool.{both_ways, and_parts, eqb-true}
@@ -13,11 +13,8 @@ use Rattle.nj_tokens.specs.declared.token.Token.TheVariants.{Not, And, Or, Impli
 use Rattle.nj_tokens.specs.declared.token.Placed.{Placed}
 use Rattle.nj_tokens.specs.Lexis.{sign, ends_arrow, front_sign, front_name, name_or_sign, first_token}
 use Rattle.nj_tokens.specs.Tokens.{AreTokens, ends, stops, blank, begins}
+use Rattle.outer_tokens.proofs.KnownLeads.{apart}
 use Rattle.lexeme_texts.specs.Lexemes.{IsPlain}
-
--- what passes a test that a number fails isn't the number
-pub apart : (p : ℕ → Bool) (d c : ℕ) → p d ≡ false → p c ≡ true → (c == d) ≡ false
-apart p d c fails passes = ne_eqb c d (λ same. both_ways (p c) (ap p same ∙ fails) passes)
 
 passing : (p : ℕ → Bool) → p 34 ≡ false → p 92 ≡ false → (s : List ℕ) → AllPass p s → AllByRecursion IsPlain s
 passing p quote slash [] pass = tt

@@ -17,6 +17,7 @@ use Rattle.nj_print.specs.Readable.{IsReadable}
 use Rattle.theory_ctx.specs.declared.local.Local.{Local}
 use Rattle.theory_ctx.specs.Locals.{Scoped}
 use Rattle.theory_ctx.specs.Looked.{parts_of}
+use Rattle.outer_tokens.proofs.KnownLeads.{apart}
 use Rattle.proof_terms.specs.declared.term.Term.{Term}
 use Rattle.proof_terms.specs.Marks.{mark, marks}
 use Rattle.proof_terms.specs.Reading.{whole, read_term, proof_of}
@@ -32,7 +33,6 @@ use Rattle.suggested_texts.specs.ProofTexts.{by_token, IsProofText}
 use Rattle.suggested_texts.proofs.AlikeTerms.{checked_alike}
 use Rattle.suggested_texts.proofs.CommandTexts.{IsQuiet, by_lexemes, by_fitting}
 use Rattle.suggested_texts.proofs.LexemeMarks.{marks_of, marks_are}
-use Rattle.suggested_texts.proofs.PlainTexts.{apart}
 use Rattle.suggested_texts.proofs.ReadTerms.{term_read}
 use Rattle.suggested_texts.proofs.SuggestedCommands.{by_lexemes_text}
 use Rattle.suggested_texts.proofs.SuggestedWritten.{suggested_written}

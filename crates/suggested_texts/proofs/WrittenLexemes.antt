@@ -5,6 +5,7 @@ use Rattle.std.specs.Char.{is_ascii_alphabetic}
 use Rattle.text_words.specs.Blanks.{is_blank}
 use Rattle.text_words.specs.Identifier.{IsIdentifier}
 use Rattle.text_words.proofs.KnownLists.{each-both}
+use Rattle.outer_tokens.proofs.KnownLeads.{apart}
 use Rattle.nj_kernel.specs.declared.rule.Rule.{Rule}
 use Rattle.nj_kernel.specs.RuleNames.{rule_name}
 use Rattle.proof_terms.specs.declared.term.Term.{Term}
@@ -12,7 +13,6 @@ use Rattle.proof_terms.specs.Slots.{Slot, formula, object, named, proof, slots}
 use Rattle.lexeme_texts.specs.Lexemes.{Lexeme, word, opening, closing, text_of, EndsWord, EndsSpace, EndsSign, Fitting}
 use Rattle.lexeme_texts.proofs.KnownLexemes.{text_both, fitting_both}
 use Rattle.suggested_texts.specs.Citable.{IsFree}
-use Rattle.suggested_texts.proofs.PlainTexts.{apart}
 use Rattle.suggested_texts.proofs.ReadBack.{plain_text}
 use Rattle.suggested_texts.proofs.RuleParts.{Parts}
 use Rattle.suggested_texts.proofs.CommandTexts.{IsQuiet, EndsSolid}

@@ -46,13 +46,14 @@ unled r c s other zero within form = omega (arith, form-some r [] form)
 unled r c s other (suc m) within form = both_ways (lead r c) other (form-lead r c (take m s) form)
 
 -- what passes a test that a number fails isn't the number
-apart : (p : ℕ → Bool) (d c : ℕ) → p d ≡ false → p c ≡ true → (c == d) ≡ false
+pub apart : (p : ℕ → Bool) (d c : ℕ) → p d ≡ false → p c ≡ true → (c == d) ≡ false
 apart p d c fails passes = go (c == d) refl where
   go : (b : Bool) → (c == d) ≡ b → (c == d) ≡ false
   go true e = absurd (both_ways (p c) (ap p (eqb-true c d e) ∙ fails) passes)
   go false e = e
 
-letter-unled : (r : Row) (c : ℕ) → is_ascii_alphabetic c ≡ true → rank r < 6 → lead r c ≡ false
+-- a letter begins no form of the rows before those of identifiers
+pub letter-unled : (r : Row) (c : ℕ) → is_ascii_alphabetic c ≡ true → rank r < 6 → lead r c ≡ false
 letter-unled Space c letter low =
     let isnt = λ (d : ℕ) (fails : is_ascii_alphabetic d ≡ false). apart is_ascii_alphabetic d c fails letter in
     λ i. ((isnt 32 refl i || isnt 9 refl i) || isnt 13 refl i) || isnt 10 refl i
