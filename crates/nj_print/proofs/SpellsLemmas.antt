@@ -2,7 +2,6 @@
 use Rattle.std.proofs.Common.{◌≡◌, ◌<◌, ◌+◌, ℕ, suc, true, false, List, [], ◌∷◌, ◌++◌, length, take, drop, cond, IsAscii, Some, None, refl, ap, sym, subst, ◌∙◌, arith, add-zero, add-one, append_assoc, length-append}
 use Rattle.std.proofs.Math.Seq.{take-append_seam, drop-append_seam}
 use Rattle.std.proofs.lemmas.Bool.{and_parts, and_from}
-use Rattle.std.proofs.lemmas.Bool.Decides.{nat_tests}
 use Rattle.std.proofs.lemmas.Str.{IsAscii-append}
 use Rattle.std.specs.List.{list_all, prefix_len}
 use Rattle.std.specs.Char.{is_ascii_alphabetic}
@@ -14,7 +13,7 @@ use Rattle.text_words.specs.Blanks.{is_blank}
 use Rattle.text_words.specs.Identifier.{is_identifier_part, is_identifier}
 use Rattle.nj_tokens.specs.Lexis.{name_or_sign, front_name, first_token}
 use Rattle.nj_tokens.specs.Tokens.{AreTokens, blank, begins}
-use Rattle.text_words.proofs.KnownIdentifiers.{letter-part, parts_ascii, part_ascii}
+use Rattle.text_words.proofs.KnownIdentifiers.{letter-part, letter-ink, parts_ascii, part_ascii}
 use Rattle.nj_syntax.specs.Terms.{Deep}
 use Rattle.nj_syntax.specs.Answers.{AreAt}
 
@@ -71,9 +70,6 @@ run_along (c ∷ more) rest all b =
     let one : 1 + prefix_len is_identifier_part (more ++ rest) ≡ suc (length more) = omega (arith, run_along more rest parts.1 b) in
     ap (λ t. cond t (1 + prefix_len is_identifier_part (more ++ rest)) 0) parts.0 ∙ one
 
-ink_of : (c : ℕ) → is_ascii_alphabetic c ≡ true → is_blank c ≡ false
-ink_of c letter = grind (arith, nat_tests)
-
 first_name : (c : ℕ) (more rest : List ℕ) → is_ascii_alphabetic c ≡ true → list_all is_identifier_part more ≡ true
     → prefix_len is_identifier_part rest ≡ 0 → first_token (c ∷ (more ++ rest)) ≡ Some (Tokens.Name (c ∷ more), length more + 1)
 first_name c more rest letter all b =
@@ -109,6 +105,6 @@ name_then (c ∷ more) d {text} is breaks s =
           let inner = s.cut (at + (length more + 1)) rest after stop b (moved (name_length at (length more) (length text) (length-append more text)) h) in (
             record { token = Tokens.Name (c ∷ more); at = at } ∷ inner.0,
             ap (λ ts. Tokens.Name (c ∷ more) ∷ ts) inner.1,
-            begun c more text rest at (ink_of c parts.0) (first_name c more (text ++ rest) parts.0 parts.1 (breaks rest b)) inner.2,
+            begun c more text rest at (letter-ink c parts.0) (first_name c more (text ++ rest) parts.0 parts.1 (breaks rest b)) inner.2,
           );
     }

@@ -11,13 +11,13 @@ use Rattle.outer_tokens.specs.Lexing.{tokens_under}
 use Rattle.outer_tokens.specs.Words.{is_in_force}
 use Rattle.outer_tokens.specs.declared.kind.Kind.TheVariants as kind
 use Rattle.outer_tokens.specs.declared.token.Token.{Token}
+use Rattle.outer_tokens.proofs.KnownLeads.{apart}
 use Rattle.outer_tokens.proofs.KnownProper.{proper-some, proper-none}
 use Rattle.nj_formula.specs.declared.formula.Formula.{Formula}
 use Rattle.nj_print.specs.Readable.{IsReadable}
 use Rattle.theory_ctx.specs.declared.local.Local.{Local}
 use Rattle.theory_ctx.specs.Locals.{Scoped}
 use Rattle.theory_ctx.specs.Looked.{parts_of}
-use Rattle.outer_tokens.proofs.KnownLeads.{apart}
 use Rattle.proof_terms.specs.declared.term.Term.{Term}
 use Rattle.proof_terms.specs.Marks.{mark, marks}
 use Rattle.proof_terms.specs.Reading.{whole, read_term, proof_of}

@@ -1,9 +1,9 @@
 -- The lexemes of a term fit one behind the other, none is a command, and the last is no space.
-use Rattle.std.proofs.Common.{◌≡◌, inl, inr, ℕ, zero, suc, ◌||◌, Bool, true, false, ◌==◌, List, [], ◌∷◌, ◌++◌, sym, refl, ap, ◌∙◌, subst, append_assoc}
+use Rattle.std.proofs.Common.{◌≡◌, inl, inr, ℕ, zero, suc, Bool, false, List, [], ◌∷◌, ◌++◌, sym, refl, ap, ◌∙◌, subst, append_assoc}
 use Rattle.std.specs.List.{AllByRecursion}
 use Rattle.std.specs.Char.{is_ascii_alphabetic}
-use Rattle.text_words.specs.Blanks.{is_blank}
 use Rattle.text_words.specs.Identifier.{IsIdentifier}
+use Rattle.text_words.proofs.KnownIdentifiers.{letter-ink}
 use Rattle.text_words.proofs.KnownLists.{each-both}
 use Rattle.outer_tokens.proofs.KnownLeads.{apart}
 use Rattle.nj_kernel.specs.declared.rule.Rule.{Rule}
@@ -18,15 +18,9 @@ use Rattle.suggested_texts.proofs.RuleParts.{Parts}
 use Rattle.suggested_texts.proofs.CommandTexts.{IsQuiet, EndsSolid}
 use Rattle.suggested_texts.proofs.Written.{AreWritten, IsWritten, parts_lexemes, rule_lexemes, lexemes}
 
-letter_ink : (c : ℕ) → is_ascii_alphabetic c ≡ true → is_blank c ≡ false
-letter_ink c letter = λ i. ((isnt 32 refl i || isnt 9 refl i) || isnt 13 refl i) || isnt 10 refl i
-  where
-    isnt : (d : ℕ) → is_ascii_alphabetic d ≡ false → (c == d) ≡ false
-    isnt d fails = apart is_ascii_alphabetic d c fails letter
-
 word_ink : (x s : List ℕ) → IsIdentifier x → EndsSpace (x ++ s)
 word_ink [] s id = absurd id
-word_ink (c ∷ x) s id = letter_ink c id.0
+word_ink (c ∷ x) s id = letter-ink c id.0
 
 word_sign : (x s : List ℕ) → IsIdentifier x → EndsSign (x ++ s)
 word_sign [] s id = absurd id

@@ -4,9 +4,11 @@ use Rattle.std.specs.List.{prefix_len, AllPass, list_all}
 use Rattle.std.specs.Char.{is_ascii_alphabetic}
 use Rattle.std.specs.Int.{is_in_range}
 use Rattle.std.proofs.lemmas.Bool.{both_ways, cases_lt, cond-true, and_parts, and_from}
+use Rattle.std.proofs.lemmas.Bool.Decides.{nat_tests}
 use Rattle.std.proofs.lemmas.List.Sums.{prefix_len_passes, prefix_len_stops, prefix_len-le-length, AllPass-from_list_all, list_all-from_AllPass}
 use Rattle.std.proofs.lemmas.List.Elements.{All-cons}
 use Rattle.std.specs.Str.{IsAscii}
+use Rattle.text_words.specs.Blanks.{is_blank}
 use Rattle.text_words.specs.Longest.{IsLongest, HasNoFront}
 use Rattle.text_words.specs.Identifier.{is_identifier_part, IsIdentifier, is_identifier}
 
@@ -51,6 +53,10 @@ or-middle false false false e f h = absurd (both_ways false refl h)
 -- an identifier goes on with letters too
 pub letter-part : (c : ℕ) → is_ascii_alphabetic c ≡ true → is_identifier_part c ≡ true
 letter-part c letter = or-middle (is_in_range 48 57 c) (is_in_range 65 90 c) (is_in_range 97 122 c) (c == 95) (c == 39) letter
+
+-- a letter is no blank
+pub letter-ink : (c : ℕ) → is_ascii_alphabetic c ≡ true → is_blank c ≡ false
+letter-ink c letter = grind (arith, nat_tests)
 
 -- an identifier is made of identifier parts
 pub identifier-parts : (s : List ℕ) → IsIdentifier s → AllPass is_identifier_part s
