@@ -1,41 +1,34 @@
 -- A run of blanks as a token.
-use Rattle.std.proofs.Common.{◌≡◌, ℕ, ◌+◌, ◌-◌, ◌<◌, ◌≤◌, Bool, List, ◌∷◌, ◌++◌, length, drop, sym, refl, subst, ⊎_elim, arith, length-take-le}
+use Rattle.std.proofs.Common.{◌≡◌, ℕ, ◌+◌, ◌-◌, ◌<◌, ◌≤◌, Bool, List, ◌∷◌, ◌++◌, length, drop, sym, refl, subst, ⊎_elim, arith}
 use Rattle.std.specs.List.{prefix_len}
 use Rattle.std.proofs.lemmas.Bool.{cases_lt}
 use Rattle.std.proofs.lemmas.List.{drop_at}
 use Rattle.std.proofs.lemmas.List.Sums.{prefix_len-le-length}
 use Rattle.text_words.specs.Blanks.{is_blank}
-use Rattle.text_words.specs.Longest.{IsLongest}
 use Rattle.text_words.proofs.KnownFronts.{same-length}
-use Rattle.text_words.proofs.KnownIdentifiers.{run-passes, run-longest}
+use Rattle.text_words.proofs.KnownIdentifiers.{run-longest}
 use Rattle.outer_tokens.specs.Forms.{IsSpace}
 use Rattle.outer_tokens.specs.Rows.{rank, IsFirstRow}
 use Rattle.outer_tokens.specs.Tokens.{IsToken}
 use Rattle.outer_tokens.specs.declared.row.Row.{Row}
 use Rattle.outer_tokens.specs.declared.row.Row.TheVariants.{Space}
 use Rattle.outer_tokens.specs.declared.kind.Kind.TheVariants as kind
-
-space-longest : (s : List ℕ) → 0 < prefix_len is_blank s → IsLongest IsSpace s (prefix_len is_blank s)
-space-longest s some = record {
-  within = prefix_len-le-length is_blank s;
-  fits = (omega (arith, some, length-take-le (prefix_len is_blank s) s (prefix_len-le-length is_blank s)), run-passes is_blank s);
-  longest = λ m within space. run-longest is_blank s m within space.1;
-}
+use Rattle.outer_tokens.proofs.KnownBlanks.{space-some}
 
 -- a space and the blanks behind it
 pub blank-row : (s : List ℕ) → IsFirstRow (32 ∷ s) Space (1 + prefix_len is_blank s)
-blank-row s = record { longest = space-longest (32 ∷ s) (omega arith); first = λ r low m within form. omega (arith, low) }
+blank-row s = record { longest = space-some (32 ∷ s) (omega arith); first = λ r low m within form. omega (arith, low) }
 
 -- blanks are the first row where there are some
 pub blanks-of : (s : List ℕ) (n : ℕ) → IsFirstRow s Space n → 0 < n → prefix_len is_blank s ≡ n
 blanks-of s n first some =
     let run : n ≤ prefix_len is_blank s = run-longest is_blank s n first.longest.within first.longest.fits.1 in
-    same-length IsSpace s (prefix_len is_blank s) n (space-longest s (omega (arith, some, run))) first.longest
+    same-length IsSpace s (prefix_len is_blank s) n (space-some s (omega (arith, some, run))) first.longest
 
 -- where another row fits, there are none
 pub no-blanks : (s : List ℕ) (row : Row) (n : ℕ) → IsFirstRow s row n → 0 < rank row → prefix_len is_blank s ≡ 0
 no-blanks s row n first other = ⊎_elim
-    (λ (some : 0 < prefix_len is_blank s). absurd (first.first Space other (prefix_len is_blank s) (prefix_len-le-length is_blank s) (space-longest s some).fits))
+    (λ (some : 0 < prefix_len is_blank s). absurd (first.first Space other (prefix_len is_blank s) (prefix_len-le-length is_blank s) (space-some s some).fits))
     (λ (none : prefix_len is_blank s ≤ 0). omega (arith, none))
     (cases_lt 0 (prefix_len is_blank s))
 

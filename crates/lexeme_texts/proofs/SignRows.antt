@@ -2,10 +2,8 @@
 use Rattle.std.proofs.Common.{◌≡◌, ℕ, zero, suc, ◌+◌, ◌<◌, ◌≤◌, false, List, [], ◌∷◌, ◌++◌, length, take, refl, ap, subst, arith, length-take-le}
 use Rattle.std.specs.List.{prefix_len}
 use Rattle.std.proofs.lemmas.Bool.{eqb-false, cond-false}
-use Rattle.std.proofs.lemmas.List.Sums.{prefix_len-le-length}
 use Rattle.text_words.specs.Blanks.{is_blank}
 use Rattle.text_words.specs.Longest.{IsLongest, HasNoFront}
-use Rattle.text_words.proofs.KnownIdentifiers.{run-passes, run-longest}
 use Rattle.outer_tokens.specs.Forms.{IsSpace}
 use Rattle.outer_tokens.specs.Rows.{HasForm, rank, IsFirstRow}
 use Rattle.outer_tokens.specs.Brackets as brackets
@@ -13,6 +11,7 @@ use Rattle.outer_tokens.specs.declared.bracket.Bracket.{Bracket}
 use Rattle.outer_tokens.specs.declared.bracket.Bracket.TheVariants.{Comment, String, Cartouche}
 use Rattle.outer_tokens.specs.declared.row.Row.{Row}
 use Rattle.outer_tokens.specs.declared.row.Row.TheVariants.{Space, Enclosed, Error, Symbol, LongIdent, Word, Sym}
+use Rattle.outer_tokens.proofs.KnownBlanks.{space-some}
 use Rattle.outer_tokens.proofs.KnownLeads.{lead, unled}
 use Rattle.lexeme_texts.specs.Lexemes.{EndsSpace, EndsSign}
 
@@ -74,20 +73,13 @@ opening_first s ends Sym low = absurd (omega (arith, low))
 pub opening_row : (s : List ℕ) → EndsSign s → IsFirstRow (40 ∷ s) Sym 1
 opening_row s ends = record { longest = single 40 s; first = opening_first s ends }
 
--- blanks, the first of which is a space
-blank_longest : (s : List ℕ) → 0 < prefix_len is_blank s → IsLongest IsSpace s (prefix_len is_blank s)
-blank_longest s some = record {
-  within = prefix_len-le-length is_blank s;
-  fits = (omega (arith, some, length-take-le (prefix_len is_blank s) s (prefix_len-le-length is_blank s)), run-passes is_blank s);
-  longest = λ m within space. run-longest is_blank s m within space.1;
-}
-
+-- one space is all the blanks there
 no_blank : (s : List ℕ) → EndsSpace s → 1 + prefix_len is_blank s ≡ 1
 no_blank [] ends = refl
 no_blank (c ∷ s) ends = ap (λ n. 1 + n) (cond-false (is_blank c) (1 + prefix_len is_blank s) 0 ends)
 
 pub space_row : (s : List ℕ) → EndsSpace s → IsFirstRow (32 ∷ s) Space 1
 space_row s ends = record {
-  longest = subst (IsLongest IsSpace (32 ∷ s)) (no_blank s ends) (blank_longest (32 ∷ s) (omega arith));
+  longest = subst (IsLongest IsSpace (32 ∷ s)) (no_blank s ends) (space-some (32 ∷ s) (omega arith));
   first = λ r low m within form. omega (arith, low);
 }

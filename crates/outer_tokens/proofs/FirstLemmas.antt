@@ -1,12 +1,10 @@
 -- The first row of a text by what it begins with.
-use Rattle.std.proofs.Common.{◌≡◌, ℕ, ◌+◌, ◌<◌, true, false, List, [], ◌∷◌, ◌++◌, length, get_or, sym, subst, arith, length-take-le}
+use Rattle.std.proofs.Common.{◌≡◌, ℕ, ◌+◌, ◌<◌, true, false, List, [], ◌∷◌, ◌++◌, length, get_or, sym, subst, arith}
 use Rattle.std.specs.List.{prefix_len}
-use Rattle.std.proofs.lemmas.List.Sums.{prefix_len-le-length}
 use Rattle.std.proofs.lemmas.Bool.{cond-true}
 use Rattle.text_words.specs.Blanks.{is_blank}
 use Rattle.text_words.specs.Identifier.{IsIdentifier}
 use Rattle.text_words.specs.Longest.{IsLongest, HasNoFront}
-use Rattle.text_words.proofs.KnownIdentifiers.{run-passes, run-longest}
 use Rattle.symbols.specs.Names.{IsNamedSymbol}
 use Rattle.outer_tokens.specs.Brackets.{opening, ClosesText, IsEnclosed}
 use Rattle.outer_tokens.specs.Forms.{IsSpace, IsLongIdent}
@@ -17,18 +15,12 @@ use Rattle.outer_tokens.specs.declared.row.Row.TheVariants.{Space, Enclosed, Err
 use Rattle.outer_tokens.proofs.EnclosedLemmas.{enclosed-some, enclosed-none, enclosed-unopened, opened-some, opened-none}
 use Rattle.outer_tokens.proofs.LongLemmas.{long-unbegun}
 use Rattle.outer_tokens.proofs.RowLemmas.{NoneBefore, none-yet, none-more, single}
+use Rattle.outer_tokens.proofs.KnownBlanks.{space-some}
 use Rattle.outer_tokens.proofs.KnownLeads.{unled, before-names, before-bracket, before-error}
 
 -- a row after rows that don't fit
 pub after-none : (s : List ℕ) (row : _) (n : ℕ) → NoneBefore s (rank row) → IsLongest (HasForm row) s n → IsFirstRow s row n
 after-none s row n none is = record { longest = is; first = none.before }
-
-space-some : (s : List ℕ) → 0 < prefix_len is_blank s → IsLongest IsSpace s (prefix_len is_blank s)
-space-some s some = record {
-  within = prefix_len-le-length is_blank s;
-  fits = (omega (arith, length-take-le (prefix_len is_blank s) s (prefix_len-le-length is_blank s)), run-passes is_blank s);
-  longest = λ m within space. run-longest is_blank s m within space.1;
-}
 
 pub blank-first : (s : List ℕ) → 0 < length s → is_blank (get_or s 0 0) ≡ true → IsFirstRow s Space (prefix_len is_blank s)
 blank-first [] some blank = absurd (omega arith)

@@ -7,6 +7,7 @@ mod LongLemmas
 mod RowLemmas
 mod TokenLemmas
 pub mod KnownLeads
+pub mod KnownBlanks
 mod FirstLemmas
 mod ClosingTests
 mod LongTests
