@@ -1,6 +1,5 @@
 -- The tokens of a text's first command: improper ones before it, and behind it none that end a header.
-use Rattle.std.proofs.Common.{◌≡◌, ℕ, zero, suc, ◌+◌, ◌-◌, ◌<◌, ◌≤◌, true, false, cond, List, [], ◌∷◌, ◌++◌, length, map, filter, take, drop, get_or, Some, None, refl, sym, ap, subst, ◌∙◌, arith, get_or-drop, length-drop}
-use Rattle.std.proofs.lemmas.Bool.{false≢true}
+use Rattle.std.proofs.Common.{◌≡◌, ℕ, zero, suc, ◌+◌, ◌-◌, ◌<◌, ◌≤◌, true, false, cond, List, [], ◌∷◌, ◌++◌, length, map, filter, take, drop, get_or, Some, None, sym, ap, subst, ◌∙◌, arith, get_or-drop, length-drop}
 use Rattle.std.proofs.lemmas.List.{take-append-drop, append_assoc}
 use Rattle.std.specs.Prelude.{slice_get}
 use Rattle.std.specs.List.{AllByRecursion, AllWithin}
@@ -9,11 +8,11 @@ use Rattle.pide_base.specs.declared.range.Range.{Range}
 use Rattle.outer_tokens.specs.Kinds.{is_proper}
 use Rattle.outer_tokens.specs.Kinds as kinds
 use Rattle.outer_tokens.specs.Stages.{after_token, end_from}
-use Rattle.outer_tokens.specs.declared.kind.Kind.{Kind}
-use Rattle.outer_tokens.specs.declared.kind.Kind.TheVariants as kind
 use Rattle.outer_tokens.specs.declared.stage.Stage.{Stage}
 use Rattle.outer_tokens.specs.declared.stage.Stage.TheVariants.{Start}
 use Rattle.outer_tokens.specs.declared.token.Token.{Token}
+use Rattle.outer_tokens.proofs.KnownProper.{command-proper}
+use Rattle.outer_tokens.proofs.KnownReading.{IsOn}
 use Rattle.outer_tokens.proofs.KnownLexing.{AreStaged, staged-rises}
 use Rattle.command_spans.specs.Spans.{IsSpan, RunsTo, AreSpansOf}
 use Rattle.command_spans.specs.declared.span.Span.{Span}
@@ -21,7 +20,7 @@ use Rattle.command_spans.specs.declared.span.SpanKind.{SpanKind}
 use Rattle.command_spans.specs.declared.span.SpanKind.TheVariants.{Command, Malformed, Ignored}
 use Rattle.buffer_rules.specs.Cuts.{is_command}
 use Rattle.buffer_laws.proofs.BareTexts.{IsImproper, front_improper}
-use Rattle.buffer_laws.proofs.HeaderSteps.{IsOn, improper_stays, rest_none}
+use Rattle.buffer_laws.proofs.HeaderSteps.{improper_stays, rest_none}
 
 -- the first command's tokens among these, from a place on
 pub record FirstCommand (text : List ℕ) (aliases : List (List ℕ)) (tokens : List Token) (range : Range) : Type 0 where
@@ -35,19 +34,6 @@ pub record FirstCommand (text : List ℕ) (aliases : List (List ℕ)) (tokens : 
   pub staged : AreStaged aliases text Start range.start range.stop (first ∷ others)
   pub within : range.stop ≤ length text
   pub none : (s : Stage) → IsOn s → end_from text s rest ≡ None
-
-command_proper : (k : Kind) → kinds.is_command k ≡ true → is_proper k ≡ true
-command_proper kind.Command e = refl
-command_proper kind.Space e = absurd (false≢true e)
-command_proper kind.Comment e = absurd (false≢true e)
-command_proper kind.String e = refl
-command_proper kind.Cartouche e = refl
-command_proper kind.Error e = refl
-command_proper kind.Symbol e = refl
-command_proper kind.LongIdent e = refl
-command_proper kind.Keyword e = refl
-command_proper kind.Ident e = refl
-command_proper kind.Sym e = refl
 
 module _ (text : List ℕ) (aliases : List (List ℕ)) where
   -- behind improper tokens the header has not begun
@@ -137,7 +123,7 @@ module _ (text : List ℕ) (aliases : List (List ℕ)) where
       go Command span e later =
           let same : s.range ≡ r = cc in
           subst (FirstCommand text aliases ts) same
-          (found from (length text) n ts s is (omega arith) (λ d. command_proper _ (span.0 d)) span.1 first last at end start stop)
+          (found from (length text) n ts s is (omega arith) (λ d. command-proper _ (span.0 d)) span.1 first last at end start stop)
       go Malformed span e later =
           let same : s.range ≡ r = cc in
           subst (FirstCommand text aliases ts) same

@@ -48,10 +48,6 @@ staged-split aliases text s from to (t ∷ ts) zero within ((starts, token), res
 staged-split aliases text s from to (t ∷ ts) (suc k) within ((starts, token), rest) =
     let more = staged-split aliases text (after_token text s t) t.range.stop to ts k (omega arith) rest in (((starts, token), more.0), more.1)
 
-pub staged-append : (aliases : List (List ℕ)) (text : List ℕ) (s : Stage) (from middle to : ℕ) (xs ys : List Token) → AreStaged aliases text s from middle xs → AreStaged aliases text (after_tokens text s xs) middle to ys → AreStaged aliases text s from to (xs ++ ys)
-staged-append aliases text s from middle to [] ys same is = subst (λ p. AreStaged aliases text s p to ys) (sym same) is
-staged-append aliases text s from middle to (x ∷ xs) ys is more = (is.0, staged-append aliases text (after_token text s x) x.range.stop middle to xs ys is.1 more)
-
 -- the first boundary is where the tokens begin
 pub first-boundary : (from to : ℕ) (ts : List Token) → Rising from to ts → boundary_at to ts 0 ≡ from
 first-boundary from to [] is = sym is

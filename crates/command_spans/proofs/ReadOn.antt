@@ -1,20 +1,16 @@
 -- What comes of tokens at a boundary, and of one more.
-use Rattle.std.proofs.Common.{◌≡◌, ℕ, zero, suc, ◌+◌, ◌<◌, ◌≤◌, true, false, None, Some, List, [], ◌∷◌, length, get_or, take, drop, ◌++◌, sym, refl, ap, ◌∙◌, arith, Bool}
+use Rattle.std.proofs.Common.{◌≡◌, ℕ, zero, suc, ◌+◌, ◌<◌, ◌≤◌, true, false, None, Some, List, [], ◌∷◌, length, get_or, take, drop, ◌++◌, sym, refl, ap, ◌∙◌, arith}
 use Rattle.std.proofs.lemmas.List.{take-take, take-append-drop}
-use Rattle.std.specs.Prelude.{nat_lt, slice_get, ◌&&◌, if◌then◌else◌}
+use Rattle.std.specs.Prelude.{nat_lt, slice_get, ◌&&◌}
 use Rattle.std.proofs.lemmas.Bool.{lt-ltb}
-use Rattle.outer_tokens.specs.Kinds.{is_proper}
 use Rattle.outer_tokens.specs.Stages.{after_token, after_tokens}
 use Rattle.outer_tokens.specs.declared.kind.Kind.TheVariants as kind
 use Rattle.outer_tokens.specs.declared.stage.Stage.{Stage}
 use Rattle.outer_tokens.specs.declared.stage.Stage.TheVariants.{Start, Ended, Absent}
 use Rattle.outer_tokens.specs.declared.token.Token.{Token}
+use Rattle.outer_tokens.proofs.KnownReading.{ended-stays, absent-stays}
 use Rattle.command_spans.specs.CutTexts.{boundary_at}
 use Rattle.command_spans.specs.Reparsing.{is_space, is_space_below}
-
-same-if : (b : Bool) (s : Stage) → (if b then s else s) ≡ s
-same-if true s = refl
-same-if false s = refl
 
 -- what a look-up past the end gives
 abbrev pub no_token : Token
@@ -54,11 +50,11 @@ space-other place t other = ap (λ b. b && nat_lt t.range.start place) other
 -- nothing changes a stage at which the header has ended, or the text has none
 pub ended-after : (text : List ℕ) (ts : List Token) → after_tokens text Ended ts ≡ Ended
 ended-after text [] = refl
-ended-after text (t ∷ ts) = ap (λ s. after_tokens text s ts) (same-if (is_proper t.kind) Ended) ∙ ended-after text ts
+ended-after text (t ∷ ts) = ap (λ s. after_tokens text s ts) (ended-stays text t) ∙ ended-after text ts
 
 pub absent-after : (text : List ℕ) (ts : List Token) → after_tokens text Absent ts ≡ Absent
 absent-after text [] = refl
-absent-after text (t ∷ ts) = ap (λ s. after_tokens text s ts) (same-if (is_proper t.kind) Absent) ∙ absent-after text ts
+absent-after text (t ∷ ts) = ap (λ s. after_tokens text s ts) (absent-stays text t) ∙ absent-after text ts
 
 -- tokens one after the other
 pub after-append : (text : List ℕ) (s : Stage) (ts us : List Token) → after_tokens text s (ts ++ us) ≡ after_tokens text (after_tokens text s ts) us

@@ -9,12 +9,12 @@ use Rattle.outer_tokens.specs.Stages.{after_tokens}
 use Rattle.outer_tokens.specs.declared.stage.Stage.{Stage}
 use Rattle.outer_tokens.specs.declared.stage.Stage.TheVariants.{Start}
 use Rattle.outer_tokens.specs.declared.token.Token.{Token}
-use Rattle.outer_tokens.proofs.KnownLexing.{AreStaged, are-tokens, same-lexed, staged-tokens}
+use Rattle.outer_tokens.proofs.KnownLexing.{AreStaged, are-tokens, same-lexed, staged-append, staged-tokens}
 use Rattle.command_spans.specs.Spans.{Is}
 use Rattle.command_spans.specs.CutTexts.{Rising, boundaries, boundary_at}
 use Rattle.command_spans.specs.Reparsing.{is_space_below, moved, is_meeting, past}
 use Rattle.command_spans.specs.Keeping.{IsChange, restaged, ArePassed}
-use Rattle.command_spans.proofs.PlaceLemmas.{rising-order, staged-rising, rising-split, staged-append, text-rising, past-append, found-first}
+use Rattle.command_spans.proofs.PlaceLemmas.{rising-order, staged-rising, rising-split, text-rising, past-append, found-first}
 use Rattle.command_spans.proofs.EdgeLemmas.{restart-place}
 
 -- no boundary before the new end is a meeting

@@ -4,10 +4,10 @@ use Rattle.std.specs.Prelude.{if◌then◌else◌}
 use Rattle.std.specs.List.{AllWithin}
 use Rattle.std.proofs.lemmas.Bool.{both_ways}
 use Rattle.outer_tokens.specs.declared.token.Token.{Token}
+use Rattle.outer_tokens.proofs.KnownProper.{command-proper}
 use Rattle.command_spans.specs.Spans.{Is, proper_token, command_token, RunsTo, IsSpan}
 use Rattle.command_spans.specs.Cutting.{one_more, run_size, improper_size}
 use Rattle.command_spans.specs.declared.span.SpanKind.TheVariants.{Command, Malformed, Ignored}
-use Rattle.command_spans.proofs.SpanLaws.{command-proper}
 
 -- the first n of these tokens belong to the run that they go on with
 record Follows (ts : List Token) (n : ℕ) : Type 0 where

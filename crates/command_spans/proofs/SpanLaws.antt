@@ -6,12 +6,11 @@ use Rattle.std.proofs.lemmas.Bool.{both_ways, cases_lt}
 use Rattle.std.proofs.lemmas.List.Concat.{flat_map-cons}
 use Rattle.text_words.specs.Pieces.{text_between, joined, Tiles}
 use Rattle.text_words.proofs.KnownPieces.{tiles-whole}
-use Rattle.outer_tokens.specs.Kinds.{is_proper, is_command}
 use Rattle.outer_tokens.specs.Headings.{names_at}
 use Rattle.outer_tokens.specs.Tokens.{AreTokensBetween}
-use Rattle.outer_tokens.specs.declared.kind.Kind.{Kind}
 use Rattle.outer_tokens.specs.declared.kind.Kind.TheVariants as kind
 use Rattle.outer_tokens.specs.declared.token.Token.{Token}
+use Rattle.outer_tokens.proofs.KnownProper.{command-proper}
 use Rattle.command_spans.specs.Spans.{Is, proper_token, command_token, RunsTo, IsSpan, Covers, AreSpansOf, AreSpans}
 use Rattle.command_spans.specs.declared.span.SpanKind.{SpanKind}
 use Rattle.command_spans.specs.declared.span.SpanKind.TheVariants.{Command, Malformed, Ignored}
@@ -20,10 +19,6 @@ use Rattle.command_spans.proofs.SpanLemmas.{span-within}
 
 some_token : Token
 some_token = record { kind = kind.Space; range = record { start = 0; stop = 0 } }
-
-pub command-proper : (k : Kind) → is_command k ≡ true → is_proper k ≡ true
-command-proper kind.Command e = refl
-command-proper _ e = cc
 
 run-not-less : (ts : List Token) (m n : ℕ) → RunsTo ts m → RunsTo ts n → m < n → ⊥
 run-not-less ts m n one other less =

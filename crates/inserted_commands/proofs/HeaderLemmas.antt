@@ -5,16 +5,16 @@ use Rattle.std.specs.List.{AllByRecursion}
 use Rattle.std.proofs.lemmas.Bool.{cond-false}
 use Rattle.outer_tokens.specs.Kinds.{is_proper}
 use Rattle.outer_tokens.specs.Lexing.{tokens_from, tokens_under}
-use Rattle.outer_tokens.specs.Stages.{after_word, after_token, after_tokens, is_ended, given}
+use Rattle.outer_tokens.specs.Stages.{after_word, after_token, after_tokens, is_ended}
 use Rattle.outer_tokens.specs.Tokens.{IsToken, text_of, AreTokensBetween}
 use Rattle.outer_tokens.specs.Words.{is_in_force}
 use Rattle.outer_tokens.specs.declared.stage.Stage.{Stage}
-use Rattle.outer_tokens.specs.declared.stage.Stage.TheVariants.{Start, Ended, Absent}
+use Rattle.outer_tokens.specs.declared.stage.Stage.TheVariants.{Start, Absent}
 use Rattle.outer_tokens.specs.declared.token.Token.{Token}
-use Rattle.outer_tokens.proofs.KnownLexing.{AreStaged, all-tokens, same-tokens, rest-tokens, staged-rises}
+use Rattle.outer_tokens.proofs.KnownReading.{IsOn, no-header, absent-stays}
+use Rattle.outer_tokens.proofs.KnownLexing.{AreStaged, given-none, all-tokens, same-tokens, rest-tokens, staged-rises}
 use Rattle.doc_headers.specs.declared.parts.Header.{Header}
 use Rattle.inserted_commands.proofs.SpanSizes.{Waits}
-use Rattle.inserted_commands.proofs.StagedLemmas.{IsOn, no-header, absent-stays}
 
 -- reading on, token by token, until the header ends
 pub record ReadsOn (R : Type 0) (stage : R → Stage) (more : List ℕ → Token → R → R) (told : List ℕ → R → List Token → Option Header) : Type 0 where
@@ -24,10 +24,6 @@ pub record ReadsOn (R : Type 0) (stage : R → Stage) (more : List ℕ → Token
       → told text r (t ∷ ts) ≡ told other r (t ∷ us)
   pub goes : (text : List ℕ) (r : R) (t : Token) (ts : List Token) → is_ended (after_token text (stage r) t) ≡ false → told text r (t ∷ ts) ≡ told text (more text t r) ts
   pub same : (text other : List ℕ) (t : Token) (r : R) → text_of text t ≡ text_of other t → more text t r ≡ more other t r
-
-no-names : (s : Stage) (names : List (List ℕ)) → is_ended s ≡ false → given s names ≡ []
-no-names Ended names on = absurd (cc (on))
-no-names _ names on = refl
 
 module _ {R : Type 0} {stage : R → Stage} {more : List ℕ → Token → R → R} {told : List ℕ → R → List Token → Option Header} (reads : ReadsOn R stage more told) where
   -- where there is no header, none is found
@@ -77,7 +73,7 @@ module _ {R : Type 0} {stage : R → Stage} {more : List ℕ → Token → R →
   bare names text from r [] on is = record { own = []; are = is; same = refl }
   bare names text from r (t ∷ ts) on is =
       go (is_ended (after_token text (stage r) t)) refl
-      (subst (λ g. IsToken (is_in_force g) text t) (no-names (stage r) names on) is.0.1)
+      (subst (λ g. IsToken (is_in_force g) text t) (given-none (stage r) names on) is.0.1)
       (λ e. bare names text t.range.stop (more text t r) ts (ap is_ended (reads.stages text t r) ∙ e)
       (subst (λ s. AreStaged names text s t.range.stop (length text) ts) (sym (reads.stages text t r)) is.1))
     where

@@ -10,6 +10,7 @@ use Rattle.outer_tokens.specs.Stages.{after_tokens, is_ended}
 use Rattle.outer_tokens.specs.declared.stage.Stage.{Stage}
 use Rattle.outer_tokens.specs.declared.stage.Stage.TheVariants.{Start, Ended as EndedStage, Absent}
 use Rattle.outer_tokens.specs.declared.token.Token.{Token}
+use Rattle.outer_tokens.proofs.KnownReading.{IsOn}
 use Rattle.outer_tokens.proofs.KnownLexing.{AreStaged, are-tokens, tokens-staged}
 use Rattle.command_spans.specs.Cutting.{spans_of}
 use Rattle.buffer_rules.specs.Cuts.{command_ranges, source}
@@ -17,7 +18,7 @@ use Rattle.doc_headers.specs.Reading.{nothing, header_in}
 use Rattle.inserted_commands.specs.Insertion.{is_error, EndsWell, IsUnbroken, IsCommandText, sources_in}
 use Rattle.inserted_commands.proofs.SpanLemmas.{ranges}
 use Rattle.inserted_commands.proofs.CutLemmas.{Cut, cut-at}
-use Rattle.inserted_commands.proofs.StagedLemmas.{staged-cut, ends-well, has-started, IsOn, ended-or-on, restaged}
+use Rattle.inserted_commands.proofs.StagedLemmas.{staged-cut, ends-well, has-started, ended-or-on, restaged}
 use Rattle.inserted_commands.proofs.InsideLemmas.{Inside, inside-ended, inside-on}
 use Rattle.inserted_commands.proofs.BehindLemmas.{Behind, behind}
 use Rattle.inserted_commands.proofs.InsertedTokens.{whole, added, kept-front, inserted-staged, inserted-tokens}

@@ -6,10 +6,11 @@ use Rattle.pide_base.specs.declared.range.Range.{Range}
 use Rattle.outer_tokens.specs.declared.stage.Stage.{Stage}
 use Rattle.outer_tokens.specs.declared.stage.Stage.TheVariants.{Start}
 use Rattle.outer_tokens.specs.declared.token.Token.{Token}
+use Rattle.outer_tokens.proofs.KnownProper.{command-proper}
 use Rattle.outer_tokens.proofs.KnownLexing.{AreStaged}
 use Rattle.command_spans.specs.Cutting.{spans_of}
 use Rattle.buffer_rules.specs.Cuts.{source}
-use Rattle.inserted_commands.proofs.SpanSizes.{EndsProper, Waits, command_proper}
+use Rattle.inserted_commands.proofs.SpanSizes.{EndsProper, Waits}
 use Rattle.inserted_commands.proofs.SpanLemmas.{ranges, ranges-append, ranges-improper, spans-over}
 use Rattle.inserted_commands.proofs.RunLemmas.{last_end}
 use Rattle.inserted_commands.proofs.MovedLemmas.{shift, shifted, ranges-moved}
@@ -46,7 +47,7 @@ module _ (names : List (List ℕ)) (p q w : List ℕ) (s next : Stage) (front ba
   inside-ranges : ranges (spans_of (in_it.word ∷ in_it.more)) ≡ record { start = 0; stop = length w } ∷ []
   inside-ranges =
       let stop : last_end (in_it.word ∷ in_it.more) ≡ length w = staged-end names (w ++ 32 ∷ q) s 0 (length w) (in_it.word ∷ in_it.more) in_it.ends in_it.staged in
-      one-range in_it.word in_it.more (command_proper in_it.word.kind in_it.begins) in_it.no_other in_it.ends
+      one-range in_it.word in_it.more (command-proper in_it.word.kind in_it.begins) in_it.no_other in_it.ends
       ∙ (λ i. record { start = in_it.staged.0.0 i; stop = stop i } ∷ [])
 
   added-ranges : ranges (spans_of (added names p q w s next back in_it later)) ≡ own ∷ map (shift (between names p q w)) (ranges (spans_of back))

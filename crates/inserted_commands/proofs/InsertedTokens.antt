@@ -12,11 +12,10 @@ use Rattle.outer_tokens.specs.declared.kind.Kind.TheVariants as kind
 use Rattle.outer_tokens.specs.declared.stage.Stage.{Stage}
 use Rattle.outer_tokens.specs.declared.stage.Stage.TheVariants.{Start}
 use Rattle.outer_tokens.specs.declared.token.Token.{Token}
-use Rattle.outer_tokens.proofs.KnownLexing.{AreStaged, are-tokens, same-lexed, staged-tokens}
+use Rattle.outer_tokens.proofs.KnownLexing.{AreStaged, are-tokens, same-lexed, staged-append, staged-tokens}
 use Rattle.inserted_commands.specs.Insertion.{EndsWell}
 use Rattle.inserted_commands.proofs.SpacedTokens.{Spaced, spaced}
 use Rattle.inserted_commands.proofs.BlankLemmas.{blank-token}
-use Rattle.inserted_commands.proofs.StagedLemmas.{staged-append}
 use Rattle.inserted_commands.proofs.InsideLemmas.{Inside, no-blank-first}
 use Rattle.inserted_commands.proofs.BehindLemmas.{Behind}
 use Rattle.inserted_commands.proofs.MovedLemmas.{shifted, staged-moved, after-moved}

@@ -15,12 +15,13 @@ use Rattle.outer_tokens.specs.declared.row.Row.TheVariants.{Space, Enclosed, Err
 use Rattle.outer_tokens.specs.declared.stage.Stage.{Stage}
 use Rattle.outer_tokens.specs.declared.stage.Stage.TheVariants.{Ended, Absent}
 use Rattle.outer_tokens.specs.declared.token.Token.{Token}
+use Rattle.outer_tokens.proofs.KnownReading.{IsOn, no-header, ended-stays, absent-stays}
 use Rattle.outer_tokens.proofs.KnownLexing.{AreStaged, all-tokens}
 use Rattle.inserted_commands.specs.Insertion.{EndsWell, IsCommandText}
 use Rattle.inserted_commands.proofs.SpacedTokens.{spaced}
 use Rattle.inserted_commands.proofs.SpanSizes.{EndsProper}
 use Rattle.inserted_commands.proofs.BlankLemmas.{no-blanks}
-use Rattle.inserted_commands.proofs.StagedLemmas.{IsOn, on-given, no-header, ended-stays, absent-stays, staged-steady, after-steady}
+use Rattle.inserted_commands.proofs.StagedLemmas.{on-given, staged-steady, after-steady}
 
 pub proper-ends : (ts : List Token) → EndsWell ts → EndsProper ts
 proper-ends [] ends = ends

@@ -1,12 +1,11 @@
 -- A row that fits a text fits it too where a space stands behind what it takes.
-use Rattle.std.proofs.Common.{◌≡◌, inl, inr, ℕ, suc, ◌<◌, ◌≤◌, ◌||◌, ◌==◌, Bool, true, false, eqb, List, [], ◌∷◌, ◌++◌, length, get_or, take, drop, sym, refl, ap, ◌∙◌, subst, arith, length-append, length-drop}
+use Rattle.std.proofs.Common.{◌≡◌, inl, inr, ℕ, suc, ◌<◌, ◌≤◌, Bool, true, false, eqb, List, [], ◌∷◌, ◌++◌, length, get_or, take, drop, sym, refl, ap, ◌∙◌, subst, arith, length-append, length-drop}
 use Rattle.std.specs.Prelude.{All, if◌then◌else◌}
-use Rattle.std.proofs.lemmas.Bool.{and_parts, both_ways, eqb-true, or_left}
+use Rattle.std.proofs.lemmas.Bool.{and_parts, both_ways, eqb-true}
 use Rattle.std.proofs.lemmas.List.{take-append-le, drop-append-le, drop_at, get_or_at, append-nil}
-use Rattle.std.proofs.lemmas.List.Elements.{All-nil, All-cons, All-append, All-head, All-tail, All-weaker}
+use Rattle.std.proofs.lemmas.List.Elements.{All-append}
 use Rattle.std.proofs.Math.Seq.{take-append_seam}
-use Rattle.text_words.specs.Identifier.{is_identifier_part, IsIdentifier}
-use Rattle.text_words.proofs.KnownIdentifiers.{identifier-parts}
+use Rattle.text_words.specs.Identifier.{IsIdentifier}
 use Rattle.symbols.specs.Names.{IsMarkedName, IsNamedSymbol}
 use Rattle.outer_tokens.specs.Brackets.{opening, closing, begins, piece, Reads, closed, after, Closes, IsEnclosed}
 use Rattle.outer_tokens.specs.Forms.{dotted, IsLongIdent}
@@ -14,6 +13,7 @@ use Rattle.outer_tokens.specs.declared.bracket.Bracket.{Bracket}
 use Rattle.outer_tokens.specs.declared.bracket.Bracket.TheVariants.{Comment, String, Cartouche}
 use Rattle.outer_tokens.specs.declared.bracket.Mark.{Mark}
 use Rattle.outer_tokens.specs.declared.bracket.Mark.TheVariants.{Open, Close, Other}
+use Rattle.outer_tokens.proofs.KnownWords.{is_word, identifier-word, dotted-word}
 
 -- the last scalar
 last_of : List ℕ → ℕ
@@ -116,28 +116,15 @@ unnamed u ([], is, e) = omega (arith, sym (marked_last [] is))
 unnamed u (m ∷ marked, is, e) =
     omega (arith, sym (last_push u 32) ∙ ap last_of e ∙ last_over (92 ∷ 60 ∷ []) m marked ∙ marked_last (m ∷ marked) is)
 
--- a scalar of an identifier or a dot
-abbrev is_word : ℕ → Bool
-is_word c = is_identifier_part c || c == 46
-
-identifier_word : (s : List ℕ) → IsIdentifier s → All (λ c. is_word c ≡ true) s
-identifier_word s id = All-weaker (λ c. is_identifier_part c ≡ true) (λ c. is_word c ≡ true) (λ c part. or_left (is_identifier_part c) (c == 46) part) s (identifier-parts s id)
-
-dotted_word : (names : List (List ℕ)) → All IsIdentifier names → All (λ c. is_word c ≡ true) (dotted names)
-dotted_word [] each = All-nil (λ c. is_word c ≡ true)
-dotted_word (x ∷ xs) each =
-    All-append (λ c. is_word c ≡ true) (46 ∷ x) (dotted xs)
-    (All-cons (λ c. is_word c ≡ true) 46 x refl (identifier_word x (All-head IsIdentifier x xs each)))
-    (dotted_word xs (All-tail IsIdentifier x xs each))
-
+-- a space is neither
 unworded : (u : List ℕ) → All (λ c. is_word c ≡ true) (u ++ 32 ∷ []) → ⊥
 unworded u each =
     let there : get_or (u ++ 32 ∷ []) (length u) 0 ≡ 32 = get_or_at u 32 [] 0 (length u) refl in
     both_ways (is_word 32) refl (ap is_word (sym there) ∙ each (length u) 0 (omega (arith, length-append u (32 ∷ []))))
 
 pub unnamed_word : (u : List ℕ) → IsIdentifier (u ++ 32 ∷ []) → ⊥
-unnamed_word u id = unworded u (identifier_word (u ++ 32 ∷ []) id)
+unnamed_word u id = unworded u (identifier-word (u ++ 32 ∷ []) id)
 
 pub unlong : (u : List ℕ) → IsLongIdent (u ++ 32 ∷ []) → ⊥
 unlong u (name, names, id, some, each, e) =
-    unworded u (subst (All (λ c. is_word c ≡ true)) (sym e) (All-append (λ c. is_word c ≡ true) name (dotted names) (identifier_word name id) (dotted_word names each)))
+    unworded u (subst (All (λ c. is_word c ≡ true)) (sym e) (All-append (λ c. is_word c ≡ true) name (dotted names) (identifier-word name id) (dotted-word names each)))

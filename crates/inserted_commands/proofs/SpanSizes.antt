@@ -25,10 +25,6 @@ pub ends_more : (t : Token) (ts : List Token) → EndsProper ts → EndsProper (
 ends_more t [] ends = absurd ends
 ends_more t (u ∷ ts) ends = ends
 
-pub command_proper : (k : Kind) → is_command k ≡ true → is_proper k ≡ true
-command_proper kind.Command e = refl
-command_proper _ e = cc
-
 pub proper_other : (k : Kind) → is_proper k ≡ false → is_command k ≡ false
 proper_other kind.Command e = cc
 proper_other _ e = refl

@@ -1,15 +1,12 @@
 -- A symbol that goes over a place: what it begins with, and what stands before the place.
 use Rattle.std.proofs.Common.{◌≡◌, ℕ, zero, suc, ◌+◌, ◌-◌, ◌<◌, ◌≤◌, ◌||◌, ◌==◌, Bool, true, false, List, [], ◌∷◌, ◌++◌, length, get_or, take, drop, sym, refl, ap, ◌∙◌, inl, inr, ⊎_elim, arith, length-take-le, length-append, get_or-take, get_or-drop}
-use Rattle.std.specs.Prelude.{All}
-use Rattle.std.proofs.lemmas.Bool.{both_ways, or_cases, or_left, or_right, eqb-true}
+use Rattle.std.proofs.lemmas.Bool.{both_ways, or_cases, or_right, eqb-true}
 use Rattle.std.proofs.lemmas.List.{get_or_append_left}
-use Rattle.std.proofs.lemmas.List.Elements.{All-nil, All-cons, All-append, All-head, All-tail, All-weaker}
-use Rattle.text_words.specs.Identifier.{is_identifier_part, IsIdentifier}
+use Rattle.text_words.specs.Identifier.{is_identifier_part}
 use Rattle.symbols.specs.Names.{IsClosedName, IsMarkedName, IsNamedSymbol}
 use Rattle.symbols.specs.Symbols.{IsSymbolAt}
 use Rattle.text_words.proofs.KnownIdentifiers.{identifier-parts}
 use Rattle.text_words.specs.Blanks.{is_blank}
-use Rattle.outer_tokens.specs.Forms.{dotted}
 
 -- a scalar that a named symbol has before its last one
 abbrev pub is_inner : ℕ → Bool
@@ -88,17 +85,3 @@ blank-outer c blank inner =
   where
     out : (d : ℕ) → (c == d) ≡ true → is_inner d ≡ false → ⊥
     out d same outer = both_ways (is_inner d) outer (ap is_inner (sym (eqb-true c d same)) ∙ inner)
-
--- a scalar of an identifier or a dot
-abbrev pub is_word : ℕ → Bool
-is_word c = is_identifier_part c || c == 46
-
-pub identifier-word : (s : List ℕ) → IsIdentifier s → All (λ c. is_word c ≡ true) s
-identifier-word s id = All-weaker (λ c. is_identifier_part c ≡ true) (λ c. is_word c ≡ true) (λ c part. or_left (is_identifier_part c) (c == 46) part) s (identifier-parts s id)
-
-pub dotted-word : (names : List (List ℕ)) → All IsIdentifier names → All (λ c. is_word c ≡ true) (dotted names)
-dotted-word [] each = All-nil (λ c. is_word c ≡ true)
-dotted-word (x ∷ xs) each =
-    All-append (λ c. is_word c ≡ true) (46 ∷ x) (dotted xs)
-    (All-cons (λ c. is_word c ≡ true) 46 x refl (identifier-word x (All-head IsIdentifier x xs each)))
-    (dotted-word xs (All-tail IsIdentifier x xs each))

@@ -16,7 +16,8 @@ use Rattle.outer_tokens.specs.declared.bracket.Bracket.{Bracket}
 use Rattle.outer_tokens.specs.declared.row.Row.{Row}
 use Rattle.outer_tokens.specs.declared.row.Row.TheVariants.{Space, Enclosed, Error, Symbol, LongIdent, Word, Sym}
 use Rattle.outer_tokens.proofs.EnclosedLemmas.{opens-whole}
-use Rattle.outer_tokens.proofs.CrossLemmas.{named-inner, blank-outer, is_word, identifier-word, dotted-word}
+use Rattle.outer_tokens.proofs.CrossLemmas.{named-inner, blank-outer}
+use Rattle.outer_tokens.proofs.KnownWords.{is_word, identifier-word, dotted-word}
 use Rattle.outer_tokens.proofs.OpeningLemmas.{one-enclosed, blank-word, opening-solid, blank-solid, one-opening}
 use Rattle.outer_tokens.proofs.RowLemmas.{rank-top}
 

@@ -1,5 +1,5 @@
 -- The run of blanks at the front of a text.
-use Rattle.std.proofs.Common.{◌≡◌, ℕ, ◌<◌, List, arith, length-take-le}
+use Rattle.std.proofs.Common.{ℕ, ◌<◌, List, arith, length-take-le}
 use Rattle.std.specs.List.{prefix_len}
 use Rattle.std.proofs.lemmas.List.Sums.{prefix_len-le-length}
 use Rattle.text_words.specs.Blanks.{is_blank}

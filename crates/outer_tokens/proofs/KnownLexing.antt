@@ -14,6 +14,7 @@ use Rattle.outer_tokens.proofs.KnownHeadings.{heading-end, one-end}
 use Rattle.outer_tokens.proofs.TokenLaws.{rises, one-token, one-between, one-tokens}
 use Rattle.outer_tokens.proofs.FitLemmas.{are-from, are-under}
 use Rattle.outer_tokens.proofs.KnownStages.{ended-is}
+use Rattle.outer_tokens.proofs.KnownReading.{ended-stays}
 
 -- one token more
 pub tokens-push : (names : ℕ → List ℕ → Bool) (text : List ℕ) (from middle : ℕ) (before : List Token) (t : Token) → AreTokensBetween names text from middle before → t.range.start ≡ middle → IsToken (names middle) text t → AreTokensBetween names text from t.range.stop (before ++ t ∷ [])
@@ -38,6 +39,11 @@ pub staged-push : (aliases : List (List ℕ)) (text : List ℕ) (stage : Stage) 
 staged-push aliases text stage from middle [] t same at = (subst (λ p. IsTokenAt (is_in_force (given stage aliases)) text p t) (sym same) at, refl)
 staged-push aliases text stage from middle (x ∷ xs) t is at = (is.0, staged-push aliases text (after_token text stage x) x.range.stop middle xs t is.1 at)
 
+-- and the tokens from one place on behind those up to it
+pub staged-append : (aliases : List (List ℕ)) (text : List ℕ) (s : Stage) (from middle to : ℕ) (xs ys : List Token) → AreStaged aliases text s from middle xs → AreStaged aliases text (after_tokens text s xs) middle to ys → AreStaged aliases text s from to (xs ++ ys)
+staged-append aliases text s from middle to [] ys same is = subst (λ p. AreStaged aliases text s p to ys) (sym same) is
+staged-append aliases text s from middle to (x ∷ xs) ys is more = (is.0, staged-append aliases text (after_token text s x) x.range.stop middle to xs ys is.1 more)
+
 pub after-push : (text : List ℕ) (stage : Stage) (before : List Token) (t : Token) → after_tokens text stage (before ++ t ∷ []) ≡ after_token text (after_tokens text stage before) t
 after-push text stage [] t = refl
 after-push text stage (x ∷ xs) t = after-push text (after_token text stage x) xs t
@@ -45,12 +51,6 @@ after-push text stage (x ∷ xs) t = after-push text (after_token text stage x) 
 pub given-none : (s : Stage) (aliases : List (List ℕ)) → is_ended s ≡ false → given s aliases ≡ []
 given-none Ended aliases on = absurd (cc (on))
 given-none _ aliases on = refl
-
-ended-stays : (text : List ℕ) (t : Token) → after_token text Ended t ≡ Ended
-ended-stays text t = cond-same _ where
-  cond-same : (b : Bool) → (if b then Ended else Ended) ≡ Ended
-  cond-same true = refl
-  cond-same false = refl
 
 end-above : (names : ℕ → List ℕ → Bool) (text : List ℕ) (s : Stage) (from to : ℕ) (ts : List Token) (end : ℕ) → AreTokensBetween names text from to ts → end_from text s ts ≡ Some end → from < end
 end-above names text s from to [] end is found = absurd (cc (found))

@@ -1,10 +1,16 @@
--- The proper ones of tokens put together.
+-- The proper ones of tokens put together, and that a command is one.
 use Rattle.std.proofs.Common.{◌≡◌, Bool, true, false, cond, List, [], ◌∷◌, ◌++◌, sym, refl, ap, ◌∙◌}
 use Rattle.std.proofs.lemmas.Bool.{cond-true, cond-false}
 use Rattle.std.proofs.lemmas.List.{append-nil}
-use Rattle.outer_tokens.specs.Kinds.{is_proper}
+use Rattle.outer_tokens.specs.Kinds.{is_proper, is_command}
 use Rattle.outer_tokens.specs.Headings.{proper}
+use Rattle.outer_tokens.specs.declared.kind.Kind.{Kind}
+use Rattle.outer_tokens.specs.declared.kind.Kind.TheVariants as kind
 use Rattle.outer_tokens.specs.declared.token.Token.{Token}
+
+pub command-proper : (k : Kind) → is_command k ≡ true → is_proper k ≡ true
+command-proper kind.Command e = refl
+command-proper _ e = cc
 
 pub proper-cons : (t : Token) (ts : List Token) → proper (t ∷ ts) ≡ cond (is_proper t.kind) (t ∷ proper ts) (proper ts)
 proper-cons t ts = refl

@@ -15,10 +15,12 @@ mod FitLemmas
 mod StageLemmas
 pub mod KnownParts
 pub mod KnownStages
+pub mod KnownReading
 pub mod KnownProper
 pub mod KnownHeadings
 mod TokenLaws
 pub mod KnownLexing
+pub mod KnownWords
 mod CrossLemmas
 mod OpeningLemmas
 mod FrontLemmas

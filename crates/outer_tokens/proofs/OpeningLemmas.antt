@@ -11,7 +11,8 @@ use Rattle.outer_tokens.specs.declared.bracket.Bracket.{Bracket}
 use Rattle.outer_tokens.specs.declared.bracket.Bracket.TheVariants.{Comment, String, Cartouche}
 use Rattle.outer_tokens.proofs.BracketLemmas.{down, piece-some}
 use Rattle.outer_tokens.proofs.LeftLemmas.{closes-nothing}
-use Rattle.outer_tokens.proofs.CrossLemmas.{part-inner, blank-outer, is_word}
+use Rattle.outer_tokens.proofs.CrossLemmas.{part-inner, blank-outer}
+use Rattle.outer_tokens.proofs.KnownWords.{is_word}
 
 -- two fronts of a text that close as many open brackets are one
 one-closing : (b : Bracket) (k depth : ℕ) (s : List ℕ) (n m : ℕ) → n ≤ k → n ≤ length s → m ≤ length s → ClosesText b depth (take n s) → ClosesText b depth (take m s) → n ≡ m

@@ -20,7 +20,8 @@ use Rattle.outer_tokens.specs.declared.token.Token.{Token}
 use Rattle.outer_tokens.proofs.ClosingLemmas.{closes-end}
 use Rattle.outer_tokens.proofs.EnclosedLemmas.{opens-whole}
 use Rattle.outer_tokens.proofs.TokenLemmas.{row-some}
-use Rattle.outer_tokens.proofs.CrossLemmas.{is_inner, blank-outer, is_word, identifier-word, dotted-word, named-end, Crosses, crossing, first-is, last-is}
+use Rattle.outer_tokens.proofs.CrossLemmas.{is_inner, blank-outer, named-end, Crosses, crossing, first-is, last-is}
+use Rattle.outer_tokens.proofs.KnownWords.{is_word, identifier-word, dotted-word}
 
 last-of : Bracket → ℕ
 last-of Comment = 41
