@@ -1,3 +1,4 @@
+pub mod KnownLengths
 mod LengthLemmas
 mod EnclosedLemmas
 mod PieceLemmas

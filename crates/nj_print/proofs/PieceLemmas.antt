@@ -11,10 +11,6 @@ use Rattle.nj_print.specs.Prints.{operator_text, is_enclosed, Prints, PrintsBody
 use Rattle.nj_print.specs.Adds.{Adds}
 use Rattle.nj_print.proofs.EnclosedLemmas.{least_priority, in_place}
 
-pub on_ok : {A E P Q : Type 0} (r : Result A E) → (P → Q) → OnOk r P → OnOk r Q
-on_ok (Ok x) f p = f p
-on_ok (Err e) f p = p
-
 pub pushed : {A E : Type 0} (r : Result A E) (old piece : List ℕ) {new : List ℕ} → new ≡ (if is_ok r then old ++ piece else old) → OnOk r (new ≡ old ++ piece)
 pushed (Ok x) old piece e = e
 pushed (Err e) old piece is = tt

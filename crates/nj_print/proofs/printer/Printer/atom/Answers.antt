@@ -1,7 +1,8 @@
 -- A predicate with its arguments, and one with none.
 use Rattle.std.proofs.Common.{rules, ◌≡◌, ◌++◌, [], map, codes, string_bytes}
+use Rattle.std.proofs.lemmas.Result.{on_ok_weaker}
 use Rattle.nj_print.specs.ArgumentText.{listed, argument_text}
-use Rattle.nj_print.proofs.PieceLemmas.{on_ok, pushed, wrote_atom, wrote_predicate}
+use Rattle.nj_print.proofs.PieceLemmas.{pushed, wrote_atom, wrote_predicate}
 use Rattle.nj_print.proofs.printer.Printer.atom.Goals as goal
 
 pub returns-then-is_empty-clause-text : goal.returns-then-is_empty-clause-text
@@ -15,5 +16,5 @@ returns-clause-text c =
     let opened : string_bytes c.push_str-2.new.self ≡ string_bytes c.push_str.new.self ++ codes "(" = search rules in
     let inside : string_bytes c.write_arguments.new.text
     ≡ string_bytes c.push_str-2.new.self ++ listed (map (argument_text c.args.self.now.names.items) c.args.arguments.now) = search rules in
-    on_ok c.push_str-3.result (wrote_predicate c.args.predicate.now c.args.arguments.now some named opened inside)
+    on_ok_weaker c.push_str-3.result (wrote_predicate c.args.predicate.now c.args.arguments.now some named opened inside)
     (pushed c.push_str-3.result (string_bytes c.write_arguments.new.text) (codes ")") c.push_str-3.ensures.bytes)
