@@ -11,9 +11,10 @@ use Rattle.proof_state.specs.Same.{decide}
 use Rattle.proof_terms.specs.declared.fault.TermFault.{TermFault}
 use Rattle.proof_terms.specs.declared.fault.TermFault.TheVariants.{ProvesAnother}
 use Rattle.proof_terms.specs.declared.term.Cite.{Cite}
-use Rattle.proof_terms.specs.declared.term.Term.{Term, out-Term, out-roll-Term, fold-Term, fold-roll-Term}
+use Rattle.proof_terms.specs.declared.term.Term.{Term, out-Term, fold-Term, fold-roll-Term}
 use Rattle.proof_terms.specs.declared.term.Term.TheOpen.{Term-F}
 use Rattle.proof_terms.specs.declared.term.Term.TheVariants.{Fact, ImpI, rolls-Fact, rolls-ImpI}
+use Rattle.proof_terms.proofs.KnownLayers.{out-Fact, out-ImpI}
 use Rattle.proof_checks.specs.Checks.{and_then, cited, by_one, of_step, step_within, checked_within, deepest, checked}
 use Rattle.proof_checks.specs.Rows.{step_of, imp_i}
 use Rattle.proof_checks.specs.Scopes.{inside, remaining}
@@ -25,12 +26,6 @@ use Rattle.isar_rules.specs.Cites.{Cited, cited_layer, refs, cited as cites}
 use Rattle.isar_rules.specs.Forks.{judged, verdict}
 use Rattle.proof_terms.specs.Texts.{fault_text}
 use Rattle.proof_state.proofs.KnownFirst.{is_first_of}
-
-out-Fact : (c : Cite) → out-Term (Fact c) ≡ Term-F.Fact c
-out-Fact c = ap out-Term (sym (rolls-Fact c)) ∙ out-roll-Term (Term-F.Fact c)
-
-out-ImpI : (x : List ℕ) (t : Term) → out-Term (ImpI x t) ≡ Term-F.ImpI x t
-out-ImpI x t = ap out-Term (sym (rolls-ImpI x t)) ∙ out-roll-Term (Term-F.ImpI x t)
 
 abbrev folded : Scoped → Term → Cited
 folded scope = fold-Term Cited (cited_layer scope)

@@ -2,6 +2,7 @@
 use Rattle.std.proofs.Common.{◌≡◌, ℕ, Bool, true, false, if◌then◌else◌, List, [], ◌∷◌, ◌++◌, drop, Result, Ok, Err, refl, inl, inr, subst}
 use Rattle.std.specs.Bool.{⊤}
 use Rattle.std.specs.List.{AllByRecursion, list_any}
+use Rattle.text_words.proofs.KnownLists.{each-both, each-part}
 use Rattle.pide_base.specs.declared.range.Range.{Range}
 use Rattle.outer_tokens.specs.declared.token.Token.{Token}
 use Rattle.nj_formula.specs.declared.formula.Formula.{Formula}
@@ -27,7 +28,8 @@ use Rattle.isar_rules.specs.declared.state.Place.TheVariants as place
 use Rattle.isar_rules.specs.Cites.{Cited, cited, cited_layer, refers, both, under, refs}
 use Rattle.isar_rules.specs.Reports.{report, name_is, whole}
 use Rattle.isar_rules.specs.Forks.{scope_at, verdict, judged, forked_at}
-use Rattle.isar_rules.proofs.Good.{IsPlaced, joined, sorted}
+use Rattle.isar_rules.proofs.Good.{IsPlaced}
+use Rattle.isar_rules.proofs.KnownQuiet.{sorted}
 
 module _ (P : Range → Type 0) (scope : Scoped) where
   abbrev Each : List Report → Type 0
@@ -49,16 +51,10 @@ module _ (P : Range → Type 0) (scope : Scoped) where
       go true = (all.0, tt)
       go false = referred c (looked_in scope c.name) all.0
 
-  first : (cs ds : List Cite) → AllByRecursion (λ c. P c.range) (cs ++ ds) → AllByRecursion (λ c. P c.range) cs
-  first [] ds all = tt
-  first (c ∷ cs) ds all = (all.0, first cs ds all.1)
-
-  second : (cs ds : List Cite) → AllByRecursion (λ c. P c.range) (cs ++ ds) → AllByRecursion (λ c. P c.range) ds
-  second [] ds all = all
-  second (c ∷ cs) ds all = second cs ds all.1
-
   of_both : (cs ds : List Cite) (t u : Cited) → StandThere cs t → StandThere ds u → StandThere (cs ++ ds) (both t u)
-  of_both cs ds t u g h all own = joined (λ r. P r.range) (t own) (u own) (g (first cs ds all) own) (h (second cs ds all) own)
+  of_both cs ds t u g h all own =
+      let parts = each-part (λ (c : Cite). P c.range) cs ds all in
+      each-both (λ (r : Report). P r.range) (t own) (u own) (g parts.0 own) (h parts.1 own)
 
   of_under : (x : List ℕ) (cs : List Cite) (t : Cited) → StandThere cs t → StandThere cs (under x t)
   of_under x cs t g all own = g all (x ∷ own)

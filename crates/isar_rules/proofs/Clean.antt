@@ -18,7 +18,7 @@ use Rattle.isar_rules.specs.declared.state.Given.{Given}
 use Rattle.isar_rules.specs.declared.state.Theory.{Theory}
 use Rattle.isar_rules.specs.declared.state.Place.{Place}
 use Rattle.isar_rules.specs.declared.state.Place.TheVariants as place
-use Rattle.isar_rules.specs.Errors.{Tried, and_then, formula_in, name_differs, name_taken}
+use Rattle.isar_rules.specs.Errors.{and_then, formula_in, name_differs, name_taken}
 use Rattle.isar_rules.specs.BlobLines.{facts_of}
 use Rattle.isar_rules.specs.Reports.{def_report, formula_report, local_report, import_report}
 use Rattle.isar_rules.specs.Effects.{Effect, makes}
@@ -29,15 +29,7 @@ use Rattle.isar_rules.specs.Steps.{acted}
 use Rattle.proof_terms.specs.Cited.{IsPlaceOf}
 use Rattle.isar_rules.proofs.Good.{IsGood, good_token}
 use Rattle.isar_rules.proofs.Spots.{IfSpot, SpotsAre}
-use Rattle.isar_rules.proofs.KnownTried.{IfTried}
-
-chained : {A B : Type 0} (P : A → Type 0) (Q : B → Type 0) (t : Tried A) (next : A → Tried B) → IfTried P t → ((a : A) → P a → IfTried Q (next a)) → IfTried Q (and_then t next)
-chained P Q (Ok a) next p each = each a p
-chained P Q (Err text) next p each = tt
-
-always : {A : Type 0} (t : Tried A) → IfTried (λ _. ⊤) t
-always (Ok a) = tt
-always (Err text) = tt
+use Rattle.isar_rules.proofs.KnownTried.{IfTried, chained, always}
 
 module _ (source : List ℕ) (tokens : List Token) where
   abbrev Good : Report → Type 0

@@ -2,6 +2,7 @@
 use Rattle.std.proofs.Common.{◌≡◌, ℕ, Bool, true, false, if◌then◌else◌, List, [], ◌∷◌, ◌++◌, length, map, Option, Some, None, Ok, Err, refl, ap, inl, inr, arith}
 use Rattle.std.specs.List.{AllByRecursion}
 use Rattle.std.specs.Ordering.{is_gt}
+use Rattle.text_words.proofs.KnownLists.{each-both, each-so}
 use Rattle.pide_base.specs.declared.range.Range.{Range}
 use Rattle.outer_tokens.specs.Kinds.{is_command}
 use Rattle.outer_tokens.specs.declared.token.Token.{Token}
@@ -26,7 +27,8 @@ use Rattle.proof_terms.specs.Cited.{IsPlaceOf}
 use Rattle.proof_terms.specs.declared.term.Term.{Term}
 use Rattle.proof_terms.proofs.KnownCiting.{all_in}
 use Rattle.isar_rules.proofs.Tokens.{Rises, Within, range-within, ranges-treelike, source-rises}
-use Rattle.isar_rules.proofs.Good.{IsGood, IsQuiet, IsPlaced, sorted, joined, all_map, no_errors, good_announced, word_report}
+use Rattle.isar_rules.proofs.Good.{IsGood, IsPlaced, good_announced, word_report}
+use Rattle.isar_rules.proofs.KnownQuiet.{IsQuiet, sorted, no_errors}
 use Rattle.isar_rules.proofs.Citing.{fork-placed}
 use Rattle.isar_rules.proofs.Spots.{IfShape, shape-is}
 use Rattle.isar_rules.proofs.Clean.{IsClean, InSource, acted-clean}
@@ -56,8 +58,8 @@ one-error source (t ∷ ts) text = go (is_command t.kind)
 
 made-kept : (source : List ℕ) (tokens : List Token) (before : State) (t : Tried Effect) → IfTried (IsClean source tokens) t → IsDoneOrRefused before (made_by source tokens before t)
 made-kept source tokens before (Ok e) clean =
-    inl (no_errors _ (all_map (IsGood source tokens) IsQuiet (λ r g. g.quiet) _
-    (sorted (IsGood source tokens) _ (joined (IsGood source tokens) _ _ (good_announced source tokens) clean))))
+    inl (no_errors _ (each-so (IsGood source tokens) IsQuiet (λ r g. g.quiet) _
+    (sorted (IsGood source tokens) _ (each-both (IsGood source tokens) _ _ (good_announced source tokens) clean))))
 made-kept source tokens before (Err text) clean = inr (text, one-error source tokens text, record { state = refl; forks = refl })
 
 module _ (source : List ℕ) (tokens : List Token) where
@@ -74,10 +76,10 @@ module _ (source : List ℕ) (tokens : List Token) where
 
   made-placed : (before : State) (t : Tried Effect) → IfTried (IsClean source tokens) t → AllByRecursion Placed (made_by source tokens before t).reports
   made-placed before (Ok e) clean =
-      sorted Placed _ (joined Placed _ _ (all_map (IsGood source tokens) Placed (λ r g. g.placed) _ (good_announced source tokens))
-      (all_map (IsGood source tokens) Placed (λ r g. g.placed) _ clean))
+      sorted Placed _ (each-both Placed _ _ (each-so (IsGood source tokens) Placed (λ r g. g.placed) _ (good_announced source tokens))
+      (each-so (IsGood source tokens) Placed (λ r g. g.placed) _ clean))
   made-placed before (Err text) clean =
-      sorted Placed _ (joined Placed _ _ (all_map (IsGood source tokens) Placed (λ r g. g.placed) _ (good_announced source tokens)) (inl refl, tt))
+      sorted Placed _ (each-both Placed _ _ (each-so (IsGood source tokens) Placed (λ r g. g.placed) _ (good_announced source tokens)) (inl refl, tt))
 
   module _ (rises : Rises 0 (length source) tokens) where
     within : (r : Range) → IsPlaced source tokens r → Within 0 (length source) r
@@ -103,8 +105,8 @@ module _ (source : List ℕ) (tokens : List Token) where
 
     pub tidy : (rs : List Report) → AllByRecursion Placed rs → AreTidyIn source rs
     tidy rs all = record {
-      lie = all_map Placed (LiesIn source) lies rs all;
-      treelike = all_map Placed _ (λ r here. all_map Placed _ (λ s there. treelike r.range s.range here there) rs all) rs all;
+      lie = each-so Placed (LiesIn source) lies rs all;
+      treelike = each-so Placed _ (λ r here. each-so Placed _ (λ s there. treelike r.range s.range here there) rs all) rs all;
     }
 
 shape-clean : (source : List ℕ) (blob : Option (List ℕ)) (before : State)
@@ -125,7 +127,7 @@ all-tidy source blob before =
     let tokens = source_tokens (aliases_at before.place before.aliases) source in
     let behind = (step source blob before).state in
     tidy source tokens (source-rises (aliases_at before.place before.aliases) source) _
-    (joined (Placed source tokens) _ _
-    (joined (Placed source tokens) _ _ (made-placed source tokens before _ (shape-clean source blob before))
+    (each-both (Placed source tokens) _ _
+    (each-both (Placed source tokens) _ _ (made-placed source tokens before _ (shape-clean source blob before))
     (if-forks source tokens (step source blob before).forks _ (fork-placed source tokens before.place)))
     (inl refl, suggestion-placed source tokens (suggested_at (map (λ pair. pair.0) behind.aliases) behind.place)))

@@ -1,4 +1,5 @@
 pub mod KnownTried
+pub mod KnownQuiet
 mod Printing
 mod Showing
 mod Quantified

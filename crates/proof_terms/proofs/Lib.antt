@@ -11,3 +11,4 @@ mod BuiltLemmas
 mod CitingLemmas
 pub mod KnownCiting
 pub mod KnownTerms
+pub mod KnownLayers

@@ -7,7 +7,7 @@ use Rattle.nj_syntax.specs.declared.fault.FormulaFault.{FormulaFault}
 use Rattle.nj_syntax.proofs.KnownAnswers.{formula_answers}
 use Rattle.nj_print.specs.Readable.{IsReadable}
 use Rattle.nj_print.proofs.KnownReadable.{parsed_readable}
-use Rattle.isar_rules.specs.Errors.{Tried, and_then, formula_or, formula_in}
+use Rattle.isar_rules.specs.Errors.{formula_or, formula_in}
 use Rattle.isar_rules.proofs.KnownTried.{IfTried}
 
 -- a formula that was read is readable
@@ -17,7 +17,3 @@ in_readable content = go (formula_of content) refl
     go : (r : Result Formula FormulaFault) → formula_of content ≡ r → IfTried IsReadable (formula_or r)
     go (Ok f) e = parsed_readable content f (subst (Answers IsFormula content) e (formula_answers content))
     go (Err fault) e = tt
-
-pub chained : {A B : Type 0} (P : A → Type 0) (Q : B → Type 0) (t : Tried A) (behind : A → Tried B) → IfTried P t → ((a : A) → P a → IfTried Q (behind a)) → IfTried Q (and_then t behind)
-chained P Q (Ok a) behind p each = each a p
-chained P Q (Err text) behind p each = tt

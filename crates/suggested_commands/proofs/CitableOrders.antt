@@ -26,10 +26,10 @@ use Rattle.isar_rules.specs.declared.state.Place.{Place}
 use Rattle.isar_rules.specs.Effects.{Effect}
 use Rattle.isar_rules.specs.Errors.{and_then, formula_in}
 use Rattle.isar_rules.specs.Proofs.{Ordered, text_of_name, ordered, levels_or, effect_of, stands, proof_made}
-use Rattle.isar_rules.proofs.KnownTried.{IfTried}
+use Rattle.isar_rules.proofs.KnownTried.{IfTried, chained}
 use Rattle.suggested_texts.specs.Citable.{IsFree}
 use Rattle.suggested_commands.specs.CitableStates.{CitableBlock, CitablePurpose, CitableFrame, CitableLevels, CitablePlace}
-use Rattle.suggested_commands.proofs.ChainedTries.{in_readable, chained}
+use Rattle.suggested_commands.proofs.ChainedTries.{in_readable}
 use Rattle.suggested_commands.proofs.FreeShapes.{ShapeFree}
 
 module _ (aliases : List (List ℕ)) where

@@ -24,16 +24,12 @@ use Rattle.isar_rules.specs.Reports.{def_report, formula_report}
 use Rattle.isar_rules.specs.Shapes.{shape_of}
 use Rattle.isar_rules.specs.Steps.{acted, tried, made_by, after_error, aliases_at, step}
 use Rattle.isar_rules.specs.Theories.{facts_or, begins, begun, has_fact, stated, with_fact}
-use Rattle.isar_rules.proofs.KnownTried.{IfTried}
+use Rattle.isar_rules.proofs.KnownTried.{IfTried, chained, always}
 use Rattle.suggested_commands.specs.CitableStates.{CitablePlace, alias_names, IsCitableState}
-use Rattle.suggested_commands.proofs.ChainedTries.{in_readable, chained}
+use Rattle.suggested_commands.proofs.ChainedTries.{in_readable}
 use Rattle.suggested_commands.proofs.CitableOrders.{proof_citable}
 use Rattle.suggested_commands.proofs.FreeShapes.{ShapeFree, shape_free}
 use Rattle.suggested_commands.proofs.FreeTokens.{tokens_free}
-
-any : {A : Type 0} (t : Tried A) → IfTried (λ _. ⊤) t
-any (Ok a) = tt
-any (Err text) = tt
 
 module _ (aliases : List (List ℕ)) where
   abbrev Citable : Effect → Type 0
@@ -47,7 +43,7 @@ module _ (aliases : List (List ℕ)) where
       began None facts = tt
 
       go : (b : Bool) → IfTried Citable (cond b (and_then (facts_or given) (begins name imports keyword)) (Err name_differs))
-      go true = chained (λ _. ⊤) Citable (facts_or given) (begins name imports keyword) (any (facts_or given)) (λ facts h. began keyword facts)
+      go true = chained (λ _. ⊤) Citable (facts_or given) (begins name imports keyword) (always (facts_or given)) (λ facts h. began keyword facts)
       go false = tt
 
   stated_citable : (next : Formula → Place) (theory : Theory) (name quoted : Spot) → ((f : Formula) → IsReadable f → CitablePlace aliases (next f)) → IfTried Citable (stated next theory name quoted)
@@ -64,7 +60,7 @@ module _ (aliases : List (List ℕ)) where
   load_citable (Some text) theory name = go (facts_of text)
     where
       go : (r : Result (List Listed) ℕ) → IfTried Citable (and_then (listed_or r) (λ facts. and_then (with_all theory facts) (λ more. Ok (loaded name facts more))))
-      go (Ok facts) = chained (λ _. ⊤) Citable (with_all theory facts) _ (any (with_all theory facts)) (λ more h. tt)
+      go (Ok facts) = chained (λ _. ⊤) Citable (with_all theory facts) _ (always (with_all theory facts)) (λ more h. tt)
       go (Err line) = tt
 
   -- the names in a shape are free where a proof is worked on

@@ -34,12 +34,13 @@ use Rattle.isar_rules.specs.Shapes.{shape_by, shape_of}
 use Rattle.isar_rules.specs.Shown.{suggested_at}
 use Rattle.isar_rules.specs.Steps.{tried, made_by, step}
 use Rattle.isar_rules.specs.Verbs.{verb_of}
+use Rattle.isar_rules.proofs.KnownQuiet.{IsQuiet, no_errors, sorted}
 use Rattle.suggested_texts.specs.Citable.{IsCitable}
 use Rattle.suggested_texts.specs.ProofTexts.{by_token, IsProofText}
 use Rattle.suggested_commands.specs.CitableStates.{CitablePlace, alias_names, IsCitableState}
 use Rattle.suggested_commands.specs.Proving.{IsProvedBy}
 use Rattle.suggested_commands.proofs.OpenGoals.{around_citable}
-use Rattle.suggested_commands.proofs.QuietReports.{IsQuiet, no_errors, sorted, refs_quiet}
+use Rattle.suggested_commands.proofs.QuietReports.{refs_quiet}
 
 -- what is known of texts of suggested proofs
 abbrev ProofLaw : Type 0
@@ -48,7 +49,7 @@ ProofLaw = (goal : Formula) (scope : Scoped) (aliases : List (List ℕ)) (t : Te
 
 -- a term that is right is told without an error
 told : (source : List ℕ) (cites : List Report) → AllByRecursion IsQuiet cites → (r : Found) → IsOk r → errors_in (verdict source cites r) ≡ []
-told source cites quiet (Ok assumed) ok = no_errors _ (sorted (report kind.Proved (whole source) [] [] ∷ cites) (refl, quiet))
+told source cites quiet (Ok assumed) ok = no_errors _ (sorted IsQuiet (report kind.Proved (whole source) [] [] ∷ cites) (refl, quiet))
 told source cites quiet (Err fault) ok = absurd (cc (ok))
 
 module _ (theory : Theory) (name : List ℕ) (start goal : Formula) (around : List Frame) (aliases : AliasList) (unnamed : found in_order (codes "by") aliases ≡ None)

@@ -1,7 +1,6 @@
--- Reports that are no errors: sorted ones, and those of the names that a term cites.
-use Rattle.std.proofs.Common.{◌≡◌, ℕ, Bool, true, false, cond, List, [], ◌∷◌, ◌++◌, None, refl, ap, ◌∙◌}
-use Rattle.std.specs.List.{AllByRecursion, cons_option, list_any}
-use Rattle.std.specs.Ordering.{is_gt}
+-- The reports of the names that a term cites are no errors.
+use Rattle.std.proofs.Common.{ℕ, Bool, true, false, cond, List, [], ◌∷◌, ◌++◌, refl}
+use Rattle.std.specs.List.{AllByRecursion, list_any}
 use Rattle.text_words.proofs.KnownLists.{each-both}
 use Rattle.theory_ctx.specs.Answers.{Answer, found, unknown, ambiguous}
 use Rattle.theory_ctx.specs.Locals.{Scoped, looked_in}
@@ -10,32 +9,10 @@ use Rattle.proof_terms.specs.declared.term.Term.{Term, map-Term}
 use Rattle.proof_terms.specs.declared.term.Term.TheOpen.{Term-F}
 use Rattle.proof_terms.proofs.KnownTerms.{folds_agree}
 use Rattle.report_markup.specs.declared.kind.ReportKind.TheVariants as kind
-use Rattle.report_markup.specs.declared.report.Report.{Report}
-use Rattle.report_markup.specs.Order.{report_cmp}
-use Rattle.report_markup.specs.Sorting.{insert_if, insert_report, in_order}
 use Rattle.doc_nodes.specs.Names.{equal}
 use Rattle.isar_rules.specs.Cites.{refers, cited, Cited, cited_layer, refs}
-use Rattle.isar_rules.specs.Kept.{error_at, errors_in}
 use Rattle.isar_rules.specs.Reports.{report, name_is}
-
-abbrev pub IsQuiet : Report → Type 0
-IsQuiet r = error_at r.kind r.text ≡ None
-
-pub no_errors : (rs : List Report) → AllByRecursion IsQuiet rs → errors_in rs ≡ []
-no_errors [] all = refl
-no_errors (r ∷ rs) all = ap (λ o. cons_option o (errors_in rs)) all.0 ∙ no_errors rs all.1
-
-inserted : (r : Report) (rs : List Report) → IsQuiet r → AllByRecursion IsQuiet rs → AllByRecursion IsQuiet (insert_report r rs)
-inserted r [] quiet all = (quiet, tt)
-inserted r (next ∷ rs) quiet all = go (is_gt (report_cmp r next)) (inserted r rs quiet all.1)
-  where
-    go : (b : Bool) → AllByRecursion IsQuiet (insert_report r rs) → AllByRecursion IsQuiet (insert_if b r next rs (insert_report r rs))
-    go true more = (all.0, more)
-    go false more = (quiet, all)
-
-pub sorted : (rs : List Report) → AllByRecursion IsQuiet rs → AllByRecursion IsQuiet (in_order rs)
-sorted [] all = tt
-sorted (r ∷ rs) all = inserted r (in_order rs) all.0 (sorted rs all.1)
+use Rattle.isar_rules.proofs.KnownQuiet.{IsQuiet}
 
 -- a name that is cited
 refers_quiet : (c : Cite) (answer : Answer) → AllByRecursion IsQuiet (refers c answer)

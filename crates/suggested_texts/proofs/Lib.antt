@@ -15,7 +15,6 @@ mod AlikeParts
 mod ReadMarks
 mod ReadTerms
 mod FormulaLayers
-mod TermLayers
 mod TermSteps
 mod AlikeFacts
 mod AlikeRules

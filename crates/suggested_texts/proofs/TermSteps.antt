@@ -9,10 +9,10 @@ use Rattle.proof_terms.specs.declared.term.Cite.{Cite}
 use Rattle.proof_terms.specs.declared.term.Term.{Term, out-Term}
 use Rattle.proof_terms.specs.declared.term.Term.TheOpen.{Term-F}
 use Rattle.proof_terms.specs.declared.term.Term.TheVariants.{Fact, ConjI, ConjE1, ConjE2, DisjI1, DisjI2, DisjE, ImpI, ImpE, NotI, NotE, FalseE}
+use Rattle.proof_terms.proofs.KnownLayers.{out-Fact, out-ConjI, out-ConjE1, out-ConjE2, out-DisjI1, out-DisjI2, out-DisjE, out-ImpI, out-ImpE, out-NotI, out-NotE, out-FalseE}
 use Rattle.proof_checks.specs.Checks.{Found, and_then, cited, by_one, by_two, discharged, of_step, step_within, checked_within}
 use Rattle.proof_checks.specs.Rows.{step_of, conj_i, disj_i1, disj_i2, imp_i, not_i, not_e}
 use Rattle.proof_checks.specs.Scopes.{inside}
-use Rattle.suggested_texts.proofs.TermLayers.{out_Fact, out_ConjI, out_ConjE1, out_ConjE2, out_DisjI1, out_DisjI2, out_DisjE, out_ImpI, out_ImpE, out_NotI, out_NotE, out_FalseE}
 
 -- what one part, two or three come to
 abbrev pub one : Option Local → Found → Found
@@ -33,52 +33,52 @@ module _ (goal : Formula) (scope : Scoped) where
 
   pub fact_at : (n : ℕ) (c : Cite) → checked_within n (Fact c) goal scope ≡ cited c.name goal (looked_in scope c.name)
   unfolding checked_within step_within step_of of_step
-  fact_at zero c = ap (λ l. and_then (step_within zero l goal) (of_step (λ _ _ _. Err ProofTooDeep) scope goal)) (out_Fact c)
-  fact_at (suc n) c = ap (λ l. and_then (step_within (suc n) l goal) (of_step (checked_within n) scope goal)) (out_Fact c)
+  fact_at zero c = ap (λ l. and_then (step_within zero l goal) (of_step (λ _ _ _. Err ProofTooDeep) scope goal)) (out-Fact c)
+  fact_at (suc n) c = ap (λ l. and_then (step_within (suc n) l goal) (of_step (checked_within n) scope goal)) (out-Fact c)
 
   pub deep_ConjI : (t u : Term) → checked_within zero (ConjI t u) goal scope ≡ Err ProofTooDeep
   unfolding step_within
-  deep_ConjI t u = too_deep _ _ (out_ConjI t u) refl
+  deep_ConjI t u = too_deep _ _ (out-ConjI t u) refl
 
   pub deep_ConjE1 : (b : Formula) (t : Term) → checked_within zero (ConjE1 b t) goal scope ≡ Err ProofTooDeep
   unfolding step_within
-  deep_ConjE1 b t = too_deep _ _ (out_ConjE1 b t) refl
+  deep_ConjE1 b t = too_deep _ _ (out-ConjE1 b t) refl
 
   pub deep_ConjE2 : (a : Formula) (t : Term) → checked_within zero (ConjE2 a t) goal scope ≡ Err ProofTooDeep
   unfolding step_within
-  deep_ConjE2 a t = too_deep _ _ (out_ConjE2 a t) refl
+  deep_ConjE2 a t = too_deep _ _ (out-ConjE2 a t) refl
 
   pub deep_DisjI1 : (t : Term) → checked_within zero (DisjI1 t) goal scope ≡ Err ProofTooDeep
   unfolding step_within
-  deep_DisjI1 t = too_deep _ _ (out_DisjI1 t) refl
+  deep_DisjI1 t = too_deep _ _ (out-DisjI1 t) refl
 
   pub deep_DisjI2 : (t : Term) → checked_within zero (DisjI2 t) goal scope ≡ Err ProofTooDeep
   unfolding step_within
-  deep_DisjI2 t = too_deep _ _ (out_DisjI2 t) refl
+  deep_DisjI2 t = too_deep _ _ (out-DisjI2 t) refl
 
   pub deep_DisjE : (a b : Formula) (t : Term) (x : List ℕ) (u : Term) (y : List ℕ) (v : Term) → checked_within zero (DisjE a b t x u y v) goal scope ≡ Err ProofTooDeep
   unfolding step_within
-  deep_DisjE a b t x u y v = too_deep _ _ (out_DisjE a b t x u y v) refl
+  deep_DisjE a b t x u y v = too_deep _ _ (out-DisjE a b t x u y v) refl
 
   pub deep_ImpI : (x : List ℕ) (t : Term) → checked_within zero (ImpI x t) goal scope ≡ Err ProofTooDeep
   unfolding step_within
-  deep_ImpI x t = too_deep _ _ (out_ImpI x t) refl
+  deep_ImpI x t = too_deep _ _ (out-ImpI x t) refl
 
   pub deep_ImpE : (a : Formula) (t u : Term) → checked_within zero (ImpE a t u) goal scope ≡ Err ProofTooDeep
   unfolding step_within
-  deep_ImpE a t u = too_deep _ _ (out_ImpE a t u) refl
+  deep_ImpE a t u = too_deep _ _ (out-ImpE a t u) refl
 
   pub deep_NotI : (x : List ℕ) (t : Term) → checked_within zero (NotI x t) goal scope ≡ Err ProofTooDeep
   unfolding step_within
-  deep_NotI x t = too_deep _ _ (out_NotI x t) refl
+  deep_NotI x t = too_deep _ _ (out-NotI x t) refl
 
   pub deep_NotE : (a : Formula) (t u : Term) → checked_within zero (NotE a t u) goal scope ≡ Err ProofTooDeep
   unfolding step_within
-  deep_NotE a t u = too_deep _ _ (out_NotE a t u) refl
+  deep_NotE a t u = too_deep _ _ (out-NotE a t u) refl
 
   pub deep_FalseE : (t : Term) → checked_within zero (FalseE t) goal scope ≡ Err ProofTooDeep
   unfolding step_within
-  deep_FalseE t = too_deep _ _ (out_FalseE t) refl
+  deep_FalseE t = too_deep _ _ (out-FalseE t) refl
 
   module _ (n : ℕ) where
     ruled : (t : Term) (layer : Term-F Term) → out-Term t ≡ layer → checked_within (suc n) t goal scope ≡ and_then (step_of layer goal) (of_step (checked_within n) scope goal)
@@ -93,44 +93,44 @@ module _ (goal : Formula) (scope : Scoped) where
 
     pub at_ConjI : (t u : Term) → checked_within (suc n) (ConjI t u) goal scope ≡ and_then (conj_i t u (out-Formula goal)) (of_step (checked_within n) scope goal)
     unfolding step_of
-    at_ConjI t u = ruled (ConjI t u) (Term-F.ConjI t u) (out_ConjI t u)
+    at_ConjI t u = ruled (ConjI t u) (Term-F.ConjI t u) (out-ConjI t u)
 
     pub at_ConjE1 : (b : Formula) (t : Term) → checked_within (suc n) (ConjE1 b t) goal scope ≡ one None (sub t (F.And goal b))
     unfolding step_of of_step by_one
-    at_ConjE1 b t = ruled (ConjE1 b t) (Term-F.ConjE1 b t) (out_ConjE1 b t)
+    at_ConjE1 b t = ruled (ConjE1 b t) (Term-F.ConjE1 b t) (out-ConjE1 b t)
 
     pub at_ConjE2 : (a : Formula) (t : Term) → checked_within (suc n) (ConjE2 a t) goal scope ≡ one None (sub t (F.And a goal))
     unfolding step_of of_step by_one
-    at_ConjE2 a t = ruled (ConjE2 a t) (Term-F.ConjE2 a t) (out_ConjE2 a t)
+    at_ConjE2 a t = ruled (ConjE2 a t) (Term-F.ConjE2 a t) (out-ConjE2 a t)
 
     pub at_DisjI1 : (t : Term) → checked_within (suc n) (DisjI1 t) goal scope ≡ and_then (disj_i1 t (out-Formula goal)) (of_step (checked_within n) scope goal)
     unfolding step_of
-    at_DisjI1 t = ruled (DisjI1 t) (Term-F.DisjI1 t) (out_DisjI1 t)
+    at_DisjI1 t = ruled (DisjI1 t) (Term-F.DisjI1 t) (out-DisjI1 t)
 
     pub at_DisjI2 : (t : Term) → checked_within (suc n) (DisjI2 t) goal scope ≡ and_then (disj_i2 t (out-Formula goal)) (of_step (checked_within n) scope goal)
     unfolding step_of
-    at_DisjI2 t = ruled (DisjI2 t) (Term-F.DisjI2 t) (out_DisjI2 t)
+    at_DisjI2 t = ruled (DisjI2 t) (Term-F.DisjI2 t) (out-DisjI2 t)
 
     pub at_DisjE : (a b : Formula) (t : Term) (x : List ℕ) (u : Term) (y : List ℕ) (v : Term) → checked_within (suc n) (DisjE a b t x u y v) goal scope ≡ three None (Some (record { name = x; formula = a })) (Some (record { name = y; formula = b })) (sub t (F.Or a b)) (under x a u goal) (under y b v goal)
     unfolding step_of of_step
-    at_DisjE a b t x u y v = ruled (DisjE a b t x u y v) (Term-F.DisjE a b t x u y v) (out_DisjE a b t x u y v)
+    at_DisjE a b t x u y v = ruled (DisjE a b t x u y v) (Term-F.DisjE a b t x u y v) (out-DisjE a b t x u y v)
 
     pub at_ImpI : (x : List ℕ) (t : Term) → checked_within (suc n) (ImpI x t) goal scope ≡ and_then (imp_i x t (out-Formula goal)) (of_step (checked_within n) scope goal)
     unfolding step_of
-    at_ImpI x t = ruled (ImpI x t) (Term-F.ImpI x t) (out_ImpI x t)
+    at_ImpI x t = ruled (ImpI x t) (Term-F.ImpI x t) (out-ImpI x t)
 
     pub at_ImpE : (a : Formula) (t u : Term) → checked_within (suc n) (ImpE a t u) goal scope ≡ two None None (sub t (F.Implies a goal)) (sub u a)
     unfolding step_of of_step by_two
-    at_ImpE a t u = ruled (ImpE a t u) (Term-F.ImpE a t u) (out_ImpE a t u)
+    at_ImpE a t u = ruled (ImpE a t u) (Term-F.ImpE a t u) (out-ImpE a t u)
 
     pub at_NotI : (x : List ℕ) (t : Term) → checked_within (suc n) (NotI x t) goal scope ≡ and_then (not_i x t (out-Formula goal)) (of_step (checked_within n) scope goal)
     unfolding step_of
-    at_NotI x t = ruled (NotI x t) (Term-F.NotI x t) (out_NotI x t)
+    at_NotI x t = ruled (NotI x t) (Term-F.NotI x t) (out-NotI x t)
 
     pub at_NotE : (a : Formula) (t u : Term) → checked_within (suc n) (NotE a t u) goal scope ≡ and_then (not_e a t u (out-Formula goal)) (of_step (checked_within n) scope goal)
     unfolding step_of
-    at_NotE a t u = ruled (NotE a t u) (Term-F.NotE a t u) (out_NotE a t u)
+    at_NotE a t u = ruled (NotE a t u) (Term-F.NotE a t u) (out-NotE a t u)
 
     pub at_FalseE : (t : Term) → checked_within (suc n) (FalseE t) goal scope ≡ one None (sub t F.False)
     unfolding step_of of_step by_one
-    at_FalseE t = ruled (FalseE t) (Term-F.FalseE t) (out_FalseE t)
+    at_FalseE t = ruled (FalseE t) (Term-F.FalseE t) (out-FalseE t)
