@@ -23,48 +23,33 @@ pub record Cut (j : ℕ) (ts : List Token) (k : ℕ) (r : Range) : Type 0 where
   pub waits : Waits back
   pub count : length (ranges (spans_from j front)) ≡ k + 1
 
-cut-more : (t : Token) (j : ℕ) (ts : List Token) (k : ℕ) (r : Range) → Cut j ts k r → Cut (suc j) (t ∷ ts) k r
-cut-more t j ts k r c = record {
+-- one token more before the cut
+cut-on : {i j : ℕ} {k l : ℕ} (t : Token) (ts : List Token) (r : Range) (c : Cut i ts k r) → length (ranges (spans_from j (t ∷ c.front))) ≡ l + 1 → Cut j (t ∷ ts) l r
+cut-on t ts r c count = record {
   front = t ∷ c.front;
   back = c.back;
   is = ap (λ xs. t ∷ xs) c.is;
   ends = ends_more t c.front c.ends;
   last = last-more t c.front c.ends ∙ c.last;
   waits = c.waits;
-  count = c.count;
+  count = count;
 }
 
 cut-improper : (t : Token) (ts : List Token) (k : ℕ) (r : Range) → is_proper t.kind ≡ false → Cut (improper_size ts) ts k r → Cut zero (t ∷ ts) k r
 cut-improper t ts k r improper c =
     let size : improper_size ts ≡ improper_size c.front = ap improper_size c.is ∙ improper-over c.front c.back c.ends in
-    record {
-      front = t ∷ c.front;
-      back = c.back;
-      is = ap (λ xs. t ∷ xs) c.is;
-      ends = ends_more t c.front c.ends;
-      last = last-more t c.front c.ends ∙ c.last;
-      waits = c.waits;
-      count =
-          ap length (ranges-ignored t c.front (spans_from (rest_size t c.front) c.front) improper)
-          ∙ ap (λ n. length (ranges (spans_from n c.front))) (cond-false (proper_token t) (run_size c.front) (improper_size c.front) improper ∙ sym size) ∙ c.count;
-    }
+    cut-on t ts r c
+    (ap length (ranges-ignored t c.front (spans_from (rest_size t c.front) c.front) improper)
+    ∙ ap (λ n. length (ranges (spans_from n c.front))) (cond-false (proper_token t) (run_size c.front) (improper_size c.front) improper ∙ sym size) ∙ c.count)
 
 cut-later : (t : Token) (ts : List Token) (k : ℕ) (r : Range) → is_proper t.kind ≡ true → Cut (run_size ts) ts k r → Cut zero (t ∷ ts) (suc k) r
 cut-later t ts k r proper c =
     let size : run_size ts ≡ run_size c.front = ap run_size c.is ∙ run-over c.front c.back c.waits in
     let more : suc (k + 1) ≡ suc k + 1 = omega arith in
-    record {
-      front = t ∷ c.front;
-      back = c.back;
-      is = ap (λ xs. t ∷ xs) c.is;
-      ends = ends_more t c.front c.ends;
-      last = last-more t c.front c.ends ∙ c.last;
-      waits = c.waits;
-      count =
-          ap length (ranges-counted t c.front (spans_from (rest_size t c.front) c.front) proper)
-          ∙ ap (λ n. suc (length (ranges (spans_from n c.front)))) (cond-true (proper_token t) (run_size c.front) (improper_size c.front) proper ∙ sym size)
-          ∙ ap suc c.count ∙ more;
-    }
+    cut-on t ts r c
+    (ap length (ranges-counted t c.front (spans_from (rest_size t c.front) c.front) proper)
+    ∙ ap (λ n. suc (length (ranges (spans_from n c.front)))) (cond-true (proper_token t) (run_size c.front) (improper_size c.front) proper ∙ sym size)
+    ∙ ap suc c.count ∙ more)
 
 -- all tokens are left out
 pub all-out : (ts : List Token) (n : ℕ) → length ts ≤ n → spans_from n ts ≡ []
@@ -106,7 +91,7 @@ same-range a b e = let same : a ≡ b = cc (e) in ap (λ r. r.stop) same
 -- tokens can be cut behind each command
 pub cut-at : (j : ℕ) (ts : List Token) (k : ℕ) (r : Range) → slice_get (ranges (spans_from j ts)) k ≡ Some r → Cut j ts k r
 cut-at j [] k r found = absurd (cc (found))
-cut-at (suc j) (t ∷ ts) k r found = cut-more t j ts k r (cut-at j ts k r found)
+cut-at (suc j) (t ∷ ts) k r found = let c = cut-at j ts k r found in cut-on t ts r c c.count
 cut-at zero (t ∷ ts) k r found = go (is_proper t.kind) refl k found (λ (n m : ℕ) (e : slice_get (ranges (spans_from n ts)) m ≡ Some r). cut-at n ts m r e)
   where
     go : (b : Bool) → is_proper t.kind ≡ b → (k : ℕ) → slice_get (ranges (first_span t ts ∷ spans_from (rest_size t ts) ts)) k ≡ Some r

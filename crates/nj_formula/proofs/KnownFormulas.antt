@@ -1,7 +1,7 @@
 -- An induction over formulas, and what a fold gives for each form.
 use Rattle.std.proofs.Common.{◌≡◌, ℕ, List, ap, sym, subst, ◌∙◌}
 use Rattle.nj_formula.specs.declared.argument.Argument.{Argument}
-use Rattle.nj_formula.specs.declared.formula.Formula.{Formula, fold-Formula, fold-roll-Formula, ind-Formula, roll-Formula, map-Formula, out-Formula, out-roll-Formula}
+use Rattle.nj_formula.specs.declared.formula.Formula.{Formula, fold-Formula, fold-roll-Formula, ind-Formula, roll-Formula, map-Formula, out-Formula, out-roll-Formula, roll-out-Formula}
 use Rattle.nj_formula.specs.declared.formula.Formula.TheOpen.{Formula-F}
 use Rattle.nj_formula.specs.declared.formula.Formula.TheVariants.{False, Atom, Not, And, Or, Implies, All, Exists, rolls-False, rolls-Atom, rolls-Not, rolls-And, rolls-Or, rolls-Implies, rolls-All, rolls-Exists}
 
@@ -52,3 +52,7 @@ module _ (P : Formula → Type 0) (false : P False) (atom : (p : List ℕ) (argu
 
 pub out-Implies : (a b : Formula) → out-Formula (Implies a b) ≡ Formula-F.Implies a b
 out-Implies a b = ap out-Formula (sym (rolls-Implies a b)) ∙ out-roll-Formula (Formula-F.Implies a b)
+
+-- a formula of this outermost layer
+pub is_rolled : (f : Formula) (layer : Formula-F Formula) → out-Formula f ≡ layer → f ≡ roll-Formula layer
+is_rolled f layer e = sym (roll-out-Formula f) ∙ ap roll-Formula e

@@ -1,10 +1,11 @@
 -- A fact that says the goal proves it, and what the search tests of formulas.
 use Rattle.std.proofs.Common.{◌≡◌, ℕ, zero, suc, Bool, true, not, List, [], ◌∷◌, cond, None, Ok, Err, refl, ap, sym, ◌∙◌}
-use Rattle.nj_formula.specs.declared.formula.Formula.{Formula, out-Formula, roll-Formula, roll-out-Formula}
+use Rattle.nj_formula.specs.declared.formula.Formula.{Formula, out-Formula}
 use Rattle.nj_formula.specs.declared.formula.Formula.TheOpen.{Formula-F}
 use Rattle.nj_formula.specs.declared.formula.Formula.TheVariants.{rolls-And, rolls-Implies}
 use Rattle.nj_formula.specs.Meaning.{meaning}
 use Rattle.nj_formula.specs.Statement.{conj, implies}
+use Rattle.nj_formula.proofs.KnownFormulas.{is_rolled}
 use Rattle.nj_formula.proofs.KnownMeaning.{meaning-And, meaning-Implies}
 use Rattle.theory_ctx.specs.Answers.{found}
 use Rattle.theory_ctx.specs.declared.local.Local.{Local}
@@ -24,10 +25,6 @@ use Rattle.suggest_rules.specs.Names.{is_alias}
 use Rattle.suggest_rules.specs.Search.{says_same, is_false, citing}
 use Rattle.nj_suggest.proofs.ProvenLemmas.{IsRight}
 use Rattle.nj_suggest.proofs.SeenLemmas.{Means}
-
--- a formula of this outermost layer
-pub is_rolled : (f : Formula) (layer : Formula-F Formula) → out-Formula f ≡ layer → f ≡ roll-Formula layer
-is_rolled f layer e = sym (roll-out-Formula f) ∙ ap roll-Formula e
 
 pub same_so : (a b : Formula) → says_same a b ≡ true → meaning a ≡ meaning b
 same_so a b e = first_is (decide (meaning a) (meaning b)) e

@@ -7,6 +7,7 @@ use Rattle.nj_formula.specs.declared.formula.Formula.TheVariants as F
 use Rattle.nj_formula.specs.declared.formula.Formula.TheVariants.{rolls-False, rolls-Not, rolls-Or}
 use Rattle.nj_formula.specs.Meaning.{meaning}
 use Rattle.nj_formula.specs.Statement.{conj, implies}
+use Rattle.nj_formula.proofs.KnownFormulas.{is_rolled}
 use Rattle.nj_formula.proofs.KnownMeaning.{meaning-And, meaning-Implies}
 use Rattle.theory_ctx.specs.declared.local.Local.{Local}
 use Rattle.theory_ctx.specs.Locals.{Scoped}
@@ -22,7 +23,7 @@ use Rattle.suggest_rules.specs.Search.{if_so, says_same, is_false, citing, found
 use Rattle.nj_suggest.proofs.KnownFound.{either, so, mapped, paired, among, passing}
 use Rattle.nj_suggest.proofs.ProvenLemmas.{IsRight, by_conj_i, by_disj_i1, by_disj_i2, by_imp_i, by_not_i, by_conj_e1, by_conj_e2, by_imp_e, by_not_e, by_false_e, by_disj_e}
 use Rattle.nj_suggest.proofs.SeenLemmas.{Means, Sees, assuming-seen}
-use Rattle.nj_suggest.proofs.FactLemmas.{is_rolled, same_so, so_same, false_is, fact_right, usable, says_conj, says_implies}
+use Rattle.nj_suggest.proofs.FactLemmas.{same_so, so_same, false_is, fact_right, usable, says_conj, says_implies}
 
 module _ (aliases : List (List ℕ)) (n : ℕ) (sub : Names → Formula → Option Term) (names : Names) (scope : Scoped) (goal : Formula) where
   -- what `sub` finds of parts is right

@@ -1,13 +1,13 @@
 -- Names of rules that are no aliases are free, and parts of readable formulas are readable.
-use Rattle.std.proofs.Common.{◌≡◌, ℕ, ◌||◌, Bool, true, false, not, List, sym, refl, ap, ◌∙◌, subst}
+use Rattle.std.proofs.Common.{◌≡◌, ℕ, ◌||◌, Bool, true, false, not, List, refl, ap, ◌∙◌, subst}
 use Rattle.text_words.specs.Identifier.{IsIdentifier}
 use Rattle.text_words.proofs.KnownIdentifiers.{identifier-tested}
 use Rattle.outer_tokens.specs.Words.{is_base_command, is_minor_keyword}
-use Rattle.nj_formula.specs.declared.formula.Formula.{Formula, out-Formula, roll-Formula, roll-out-Formula}
+use Rattle.nj_formula.specs.declared.formula.Formula.{Formula, out-Formula}
 use Rattle.nj_formula.specs.declared.formula.Formula.TheOpen.{Formula-F}
 use Rattle.nj_formula.specs.declared.formula.Formula.TheVariants as F
 use Rattle.nj_formula.specs.declared.formula.Formula.TheVariants.{rolls-Not, rolls-And, rolls-Or, rolls-Implies}
-use Rattle.nj_formula.proofs.KnownFormulas.{fold-False}
+use Rattle.nj_formula.proofs.KnownFormulas.{fold-False, is_rolled}
 use Rattle.nj_formula.proofs.KnownMeaning.{meaning-False}
 use Rattle.nj_kernel.specs.declared.rule.Rule.{Rule}
 use Rattle.nj_kernel.specs.declared.rule.Rule.TheVariants.{ConjI, ConjE1, ConjE2, DisjI1, DisjI2, DisjE, ImpI, ImpE, NotI, NotE, FalseE, AllI, AllE, ExI, ExE}
@@ -51,10 +51,6 @@ rule_free aliases r usable =
     let bare = rule_bare r in
     let unaliased = denied (is_alias aliases (rule_name r)) usable in
     (bare.0, (λ i. bare.1 i || unaliased i), bare.2)
-
--- a formula of this outermost layer
-is_rolled : (f : Formula) (layer : Formula-F Formula) → out-Formula f ≡ layer → f ≡ roll-Formula layer
-is_rolled f layer e = sym (roll-out-Formula f) ∙ ap roll-Formula e
 
 pub and_readable : (f a b : Formula) → out-Formula f ≡ Formula-F.And a b → IsReadable f → IsReadable a × IsReadable b
 and_readable f a b out readable = operands_readable Operator.And a b (subst IsReadable (is_rolled f (Formula-F.And a b) out ∙ rolls-And a b) readable)
