@@ -1,5 +1,5 @@
 -- Sorted pairs: taken apart at one of them, and put together.
-use Rattle.std.proofs.Common.{◌≡◌, Bool, true, false, cond, refl, List, [], ◌∷◌, ◌++◌, filter, ◌∙◌, ap, subst}
+use Rattle.std.proofs.Common.{◌≡◌, ◌<◌, Bool, true, false, cond, refl, List, [], ◌∷◌, ◌++◌, length, filter, ◌∙◌, ap, subst, arith, length-append}
 use Rattle.std.specs.Cmp.{IsTotalOrder}
 use Rattle.std.specs.declared.cmp.Ordering.{Ordering}
 use Rattle.std.specs.declared.cmp.Ordering.TheVariants.{Less, Equal, Greater}
@@ -30,6 +30,13 @@ module _ {K V : Type 0} (cmp : K → K → Ordering) where
 
   pub fork_of : (all l : List (K × V)) (x : K × V) (r : List (K × V)) → all ≡ l ++ x ∷ r → IsSorted cmp all → IsFork cmp l x r
   fork_of all l x r e sorted = forked l x r (subst (IsSorted cmp) e sorted)
+
+  -- each part is sorted and shorter than the whole
+  pub left_of : (all l : List (K × V)) (x : K × V) (r : List (K × V)) → all ≡ l ++ x ∷ r → IsSorted cmp all → IsSorted cmp l × (length l < length all)
+  left_of all l x r e sorted = ((fork_of all l x r e sorted).left, omega (arith, ap length e, length-append l (x ∷ r)))
+
+  pub right_of : (all l : List (K × V)) (x : K × V) (r : List (K × V)) → all ≡ l ++ x ∷ r → IsSorted cmp all → IsSorted cmp r × (length r < length all)
+  right_of all l x r e sorted = ((fork_of all l x r e sorted).right, omega (arith, ap length e, length-append l (x ∷ r)))
 
   pub IsSorted-filter : (f : K × V → Bool) (xs : List (K × V)) → IsSorted cmp xs → IsSorted cmp (filter f xs)
   IsSorted-filter f [] sorted = tt

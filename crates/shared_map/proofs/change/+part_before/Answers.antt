@@ -1,8 +1,8 @@
-use Rattle.std.proofs.Common.{rules, ◌≡◌, ◌<◌, ◌++◌, ◌∷◌, length, sym, ◌∙◌, ap, arith, length-append}
+use Rattle.std.proofs.Common.{rules, ◌≡◌, ◌<◌, ◌++◌, ◌∷◌, length, sym, ◌∙◌, ap}
 use Rattle.std.specs.Arc.{arc_value}
 use Rattle.std.specs.declared.cmp.Ordering.TheVariants.{Less}
 use Rattle.shared_map.specs.Pairs.{IsSorted}
-use Rattle.shared_map.proofs.KnownSorted.{IsFork, fork_of}
+use Rattle.shared_map.proofs.KnownSorted.{IsFork, fork_of, left_of, right_of}
 use Rattle.shared_map.specs.Cuts.{before}
 use Rattle.shared_map.proofs.Lists.{ok_along}
 use Rattle.shared_map.proofs.Places.{before_less, before_later, later_of}
@@ -11,19 +11,17 @@ use Rattle.shared_map.proofs.change.+part_before.Goals as goal
 pub part_before-requires : goal.part_before-requires
 part_before-requires g t c κs within =
     let whole : c.args.pairs.now ≡ c.in-Some.parts.left.now ++ arc_value c.in-Some.parts.item.now ∷ c.in-Some.parts.right.now = search rules in
-    let fork : IsFork g.K.Ord.cmp c.in-Some.parts.left.now (arc_value c.in-Some.parts.item.now) c.in-Some.parts.right.now = fork_of g.K.Ord.cmp _ _ _ _ whole c.requires in
-    let sorted : IsSorted g.K.Ord.cmp c.in-Some.parts.right.now = fork.right in
-    let shorter : length c.in-Some.parts.right.now < length c.args.pairs.now =
-    omega (arith, ap length whole, length-append c.in-Some.parts.left.now (arc_value c.in-Some.parts.item.now ∷ c.in-Some.parts.right.now)) in
+    let right = right_of g.K.Ord.cmp _ _ _ _ whole c.requires in
+    let sorted : IsSorted g.K.Ord.cmp c.in-Some.parts.right.now = right.0 in
+    let shorter : length c.in-Some.parts.right.now < length c.args.pairs.now = right.1 in
     search rules
 
 pub part_before-requires-in-Equal : goal.part_before-requires-in-Equal
 part_before-requires-in-Equal g t c κs within =
     let whole : c.args.pairs.now ≡ c.in-Some.parts.left.now ++ arc_value c.in-Some.parts.item.now ∷ c.in-Some.parts.right.now = search rules in
-    let fork : IsFork g.K.Ord.cmp c.in-Some.parts.left.now (arc_value c.in-Some.parts.item.now) c.in-Some.parts.right.now = fork_of g.K.Ord.cmp _ _ _ _ whole c.requires in
-    let sorted : IsSorted g.K.Ord.cmp c.in-Some.parts.left.now = fork.left in
-    let shorter : length c.in-Some.parts.left.now < length c.args.pairs.now =
-    omega (arith, ap length whole, length-append c.in-Some.parts.left.now (arc_value c.in-Some.parts.item.now ∷ c.in-Some.parts.right.now)) in
+    let left = left_of g.K.Ord.cmp _ _ _ _ whole c.requires in
+    let sorted : IsSorted g.K.Ord.cmp c.in-Some.parts.left.now = left.0 in
+    let shorter : length c.in-Some.parts.left.now < length c.args.pairs.now = left.1 in
     search rules
 
 pub returns-in_ok-right-in-Less : goal.returns-in_ok-right-in-Less

@@ -2,7 +2,7 @@ use Rattle.std.proofs.Common.{rules, ◌≡◌, ◌<◌, ◌++◌, ◌∷◌, le
 use Rattle.std.specs.Arc.{arc_value}
 use Rattle.std.specs.declared.cmp.Ordering.TheVariants.{Less}
 use Rattle.shared_map.specs.Pairs.{IsSorted}
-use Rattle.shared_map.proofs.KnownSorted.{IsFork, fork_of}
+use Rattle.shared_map.proofs.KnownSorted.{IsFork, fork_of, left_of, right_of}
 use Rattle.std.specs.Ordering.{is_lt}
 use Rattle.shared_map.specs.Cuts.{before}
 use Rattle.shared_map.proofs.Lists.{filter_shorter}
@@ -12,19 +12,17 @@ use Rattle.shared_map.proofs.search.+count_before.Goals as goal
 pub count_before-requires : goal.count_before-requires
 count_before-requires g t c κs within =
     let whole : c.args.pairs.now ≡ c.in-Some.parts.left.now ++ arc_value c.in-Some.parts.item.now ∷ c.in-Some.parts.right.now = search rules in
-    let fork : IsFork g.K.Ord.cmp c.in-Some.parts.left.now (arc_value c.in-Some.parts.item.now) c.in-Some.parts.right.now = fork_of g.K.Ord.cmp _ _ _ _ whole c.requires in
-    let sorted : IsSorted g.K.Ord.cmp c.in-Some.parts.right.now = fork.right in
-    let shorter : length c.in-Some.parts.right.now < length c.args.pairs.now =
-    omega (arith, ap length whole, length-append c.in-Some.parts.left.now (arc_value c.in-Some.parts.item.now ∷ c.in-Some.parts.right.now)) in
+    let right = right_of g.K.Ord.cmp _ _ _ _ whole c.requires in
+    let sorted : IsSorted g.K.Ord.cmp c.in-Some.parts.right.now = right.0 in
+    let shorter : length c.in-Some.parts.right.now < length c.args.pairs.now = right.1 in
     search rules
 
 pub count_before-requires-in-Equal : goal.count_before-requires-in-Equal
 count_before-requires-in-Equal g t c κs within =
     let whole : c.args.pairs.now ≡ c.in-Some.parts.left.now ++ arc_value c.in-Some.parts.item.now ∷ c.in-Some.parts.right.now = search rules in
-    let fork : IsFork g.K.Ord.cmp c.in-Some.parts.left.now (arc_value c.in-Some.parts.item.now) c.in-Some.parts.right.now = fork_of g.K.Ord.cmp _ _ _ _ whole c.requires in
-    let sorted : IsSorted g.K.Ord.cmp c.in-Some.parts.left.now = fork.left in
-    let shorter : length c.in-Some.parts.left.now < length c.args.pairs.now =
-    omega (arith, ap length whole, length-append c.in-Some.parts.left.now (arc_value c.in-Some.parts.item.now ∷ c.in-Some.parts.right.now)) in
+    let left = left_of g.K.Ord.cmp _ _ _ _ whole c.requires in
+    let sorted : IsSorted g.K.Ord.cmp c.in-Some.parts.left.now = left.0 in
+    let shorter : length c.in-Some.parts.left.now < length c.args.pairs.now = left.1 in
     search rules
 
 pub overflow_add-result : goal.overflow_add-result

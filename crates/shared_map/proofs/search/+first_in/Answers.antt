@@ -1,36 +1,33 @@
-use Rattle.std.proofs.Common.{rules, ◌≡◌, ◌<◌, ◌++◌, ◌∷◌, length, ap, arith, length-append}
+use Rattle.std.proofs.Common.{rules, ◌≡◌, ◌<◌, ◌++◌, ◌∷◌, length}
 use Rattle.std.specs.Arc.{arc_value}
 use Rattle.std.specs.declared.cmp.Ordering.TheVariants.{Less, Equal, Greater}
 use Rattle.shared_map.specs.Pairs.{IsSorted}
-use Rattle.shared_map.proofs.KnownSorted.{IsFork, fork_of}
+use Rattle.shared_map.proofs.KnownSorted.{IsFork, fork_of, left_of, right_of}
 use Rattle.shared_map.proofs.Places.{first_less, first_greater, first_equal}
 use Rattle.shared_map.proofs.search.+first_in.Goals as goal
 
 pub first_in-requires : goal.first_in-requires
 first_in-requires g t c κs within =
     let whole : c.args.pairs.now ≡ c.in_ok-parts.parts.left.now ++ arc_value c.in_ok-parts.parts.item.now ∷ c.in_ok-parts.parts.right.now = search rules in
-    let fork : IsFork g.K.Ord.cmp c.in_ok-parts.parts.left.now (arc_value c.in_ok-parts.parts.item.now) c.in_ok-parts.parts.right.now = fork_of g.K.Ord.cmp _ _ _ _ whole c.requires in
-    let sorted : IsSorted g.K.Ord.cmp c.in_ok-parts.parts.right.now = fork.right in
-    let shorter : length c.in_ok-parts.parts.right.now < length c.args.pairs.now =
-    omega (arith, ap length whole, length-append c.in_ok-parts.parts.left.now (arc_value c.in_ok-parts.parts.item.now ∷ c.in_ok-parts.parts.right.now)) in
+    let right = right_of g.K.Ord.cmp _ _ _ _ whole c.requires in
+    let sorted : IsSorted g.K.Ord.cmp c.in_ok-parts.parts.right.now = right.0 in
+    let shorter : length c.in_ok-parts.parts.right.now < length c.args.pairs.now = right.1 in
     search rules
 
 pub first_in-requires-in-Greater : goal.first_in-requires-in-Greater
 first_in-requires-in-Greater g t c κs within =
     let whole : c.args.pairs.now ≡ c.in_ok-parts.parts.left.now ++ arc_value c.in_ok-parts.parts.item.now ∷ c.in_ok-parts.parts.right.now = search rules in
-    let fork : IsFork g.K.Ord.cmp c.in_ok-parts.parts.left.now (arc_value c.in_ok-parts.parts.item.now) c.in_ok-parts.parts.right.now = fork_of g.K.Ord.cmp _ _ _ _ whole c.requires in
-    let sorted : IsSorted g.K.Ord.cmp c.in_ok-parts.parts.left.now = fork.left in
-    let shorter : length c.in_ok-parts.parts.left.now < length c.args.pairs.now =
-    omega (arith, ap length whole, length-append c.in_ok-parts.parts.left.now (arc_value c.in_ok-parts.parts.item.now ∷ c.in_ok-parts.parts.right.now)) in
+    let left = left_of g.K.Ord.cmp _ _ _ _ whole c.requires in
+    let sorted : IsSorted g.K.Ord.cmp c.in_ok-parts.parts.left.now = left.0 in
+    let shorter : length c.in_ok-parts.parts.left.now < length c.args.pairs.now = left.1 in
     search rules
 
 pub first_in-requires-in-Equal : goal.first_in-requires-in-Equal
 first_in-requires-in-Equal g t c κs within =
     let whole : c.args.pairs.now ≡ c.in_ok-parts.parts.left.now ++ arc_value c.in_ok-parts.parts.item.now ∷ c.in_ok-parts.parts.right.now = search rules in
-    let fork : IsFork g.K.Ord.cmp c.in_ok-parts.parts.left.now (arc_value c.in_ok-parts.parts.item.now) c.in_ok-parts.parts.right.now = fork_of g.K.Ord.cmp _ _ _ _ whole c.requires in
-    let sorted : IsSorted g.K.Ord.cmp c.in_ok-parts.parts.left.now = fork.left in
-    let shorter : length c.in_ok-parts.parts.left.now < length c.args.pairs.now =
-    omega (arith, ap length whole, length-append c.in_ok-parts.parts.left.now (arc_value c.in_ok-parts.parts.item.now ∷ c.in_ok-parts.parts.right.now)) in
+    let left = left_of g.K.Ord.cmp _ _ _ _ whole c.requires in
+    let sorted : IsSorted g.K.Ord.cmp c.in_ok-parts.parts.left.now = left.0 in
+    let shorter : length c.in_ok-parts.parts.left.now < length c.args.pairs.now = left.1 in
     search rules
 
 pub returns-in-Less : goal.returns-in-Less
