@@ -1,5 +1,5 @@
 -- A text with another one in it and the text shorter it, each as cuts of the other.
-use Rattle.std.proofs.Common.{◌≡◌, Result, Err, ℕ, ◌+◌, ◌≤◌, List, ◌++◌, length, take, drop, refl, sym, ap, subst, ◌∙◌, arith, length-take, take-append-drop}
+use Rattle.std.proofs.Common.{◌≡◌, ◌↔◌, Result, Err, ℕ, ◌+◌, ◌≤◌, List, ◌++◌, length, take, drop, refl, sym, ap, subst, ◌∙◌, arith, length-take, take-append-drop}
 use Rattle.std.proofs.Math.Seq.{take-append_seam, drop-append_seam, drop-append-add}
 use Rattle.std.proofs.lemmas.Grind.{common_steps}
 use Rattle.text_edits.specs.declared.edit.Edit.{Edit}
@@ -39,5 +39,9 @@ taken_upto start stop x text size within h =
     subst (λ k. PutsIn start x (take start text ++ drop k text) text) (sym size) (taken_out start (length x) x text (omega arith) refl h)
 
 -- a fault handed on is the same fault
-pub same-fault : {A B : Type 0} (x y : EditFault) → ◌≡◌ {A = Result A EditFault} (Err x) (Err y) → ◌≡◌ {A = Result B EditFault} (Err x) (Err y)
+same-fault : {A B : Type 0} (x y : EditFault) → ◌≡◌ {A = Result A EditFault} (Err x) (Err y) → ◌≡◌ {A = Result B EditFault} (Err x) (Err y)
 same-fault x y e = let same : x ≡ y = cc (e) in ap Err same
+
+-- so what it tells is told by it too
+pub same-faults : {A B P : Type 0} {x y : EditFault} → (◌≡◌ {A = Result A EditFault} (Err x) (Err y) ↔ P) → (◌≡◌ {A = Result B EditFault} (Err x) (Err y) ↔ P)
+same-faults {x = x} {y = y} h = (λ e. h.0 (same-fault x y e), λ is. same-fault x y (h.1 is))

@@ -1,5 +1,5 @@
 use Rattle.std.proofs.Common.{◌≡◌, ◌+◌, ◌-◌, arith}
-use Rattle.text_edits.proofs.EditLemmas.{taken_upto, same-fault}
+use Rattle.text_edits.proofs.EditLemmas.{taken_upto, same-faults}
 use Rattle.text_edits.proofs.change.remove.Goals as goal
 
 pub returns-in-Ok-clause-applied : goal.returns-in-Ok-clause-applied
@@ -9,9 +9,7 @@ returns-in-Ok-clause-applied c =
     rw (c.remove.ensures, upto) (taken_upto c.args.start c.in-Ok.stop c.args.removed.now c.args.text.now stands.0 stands.1 stands.2)
 
 pub returns-in-Err-clause-out_of_range : goal.returns-in-Err-clause-out_of_range
-returns-in-Err-clause-out_of_range c at len =
-    let h = c.in-Err.ensures.out_of_range at len in (λ e. h.0 (same-fault _ _ e), λ is. same-fault _ _ (h.1 is))
+returns-in-Err-clause-out_of_range c at len = same-faults (c.in-Err.ensures.out_of_range at len)
 
 pub returns-in-Err-clause-differs : goal.returns-in-Err-clause-differs
-returns-in-Err-clause-differs c at =
-    let h = c.in-Err.ensures.differs at in (λ e. h.0 (same-fault _ _ e), λ is. same-fault _ _ (h.1 is))
+returns-in-Err-clause-differs c at = same-faults (c.in-Err.ensures.differs at)
