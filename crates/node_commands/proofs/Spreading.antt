@@ -2,9 +2,10 @@
 use Rattle.std.proofs.Common.{◌≡◌, ℕ, zero, suc, ◌<◌, ◌≤◌, Bool, true, false, ◌||◌, cond, max, List, [], ◌∷◌, length, filter, get_or, refl, sym, ap, subst, ◌∙◌, arith}
 use Rattle.std.specs.Prelude.{nat_lt}
 use Rattle.std.specs.List.{All}
-use Rattle.std.specs.List.Sorted.{IsNonDecreasingBy}
+use Rattle.std.specs.List.Sorted.{IsNonDecreasingBy, IsPermutation}
 use Rattle.std.proofs.lemmas.Bool.Decides.{nat_tests}
 use Rattle.std.proofs.lemmas.List.Elements.{filter_passes}
+use Rattle.std.proofs.lemmas.List.Sorted.{All-permutation}
 use Rattle.std.specs.Cmp.Derive.{one_truth}
 use Rattle.pide_base.specs.declared.range.Range.{Range}
 use Rattle.buffer_rules.specs.Cuts.{share, is_seen}
@@ -35,8 +36,13 @@ filled_alike (r ∷ rs) range = go (nat_lt r.start r.stop) refl (filled_alike rs
   go true e rest = ap (λ b. share range r || b) rest
   go false e rest = rest ∙ ap (λ b. b || is_seen rs range) (sym (empty_none range r e))
 
-pub all_filled : (ranges : List Range) → All (λ (r : Range). r.start < r.stop) (kept ranges)
+all_filled : (ranges : List Range) → All (λ (r : Range). r.start < r.stop) (kept ranges)
 all_filled ranges k d lt = let passes = filter_passes (λ (r : Range). nat_lt r.start r.stop) ranges k d lt in grind (arith, nat_tests)
+
+-- in whatever order they stand
+pub sorted_filled : (ranges all sorted : List Range) → all ≡ kept ranges → IsPermutation all sorted → All (λ (r : Range). r.start < r.stop) sorted
+sorted_filled ranges all sorted is moved =
+    All-permutation (λ (r : Range). r.start < r.stop) all sorted moved (subst (λ rs. All (λ (r : Range). r.start < r.stop) rs) (sym is) (all_filled ranges))
 
 -- of two ranges the second may end as far as the first
 further : (a reach : ℕ) (r range : Range) → a < reach → a ≤ r.start → r.start < r.stop → share range (record { start = a; stop = reach }) ≡ false
