@@ -1,5 +1,5 @@
-//! The executions with an unfinished part, as lists, and what came of a node's commands: by rows and
-//! a table of executions.
+//! The executions with an unfinished part, as lists, and what came of a node's commands: by rows
+//! and a table of executions.
 //!
 //! It must not know a language, what has happened, tasks or workers.
 #![tactic(auto)]

@@ -12,3 +12,4 @@ mod Keeping
 pub mod KnownTidy
 mod Checking
 mod Forking
+mod WorkedSources

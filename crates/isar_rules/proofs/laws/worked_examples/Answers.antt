@@ -8,6 +8,7 @@ use Rattle.isar_rules.proofs.Printing.{p_text, implies_text, not_p_text, itself_
 use Rattle.isar_rules.proofs.Showing.{fix_accepted, show_state, show_reports}
 use Rattle.isar_rules.proofs.Quantified.{quantified_text}
 use Rattle.isar_rules.proofs.Forking.{unknown, theory_fact, local_fact, own_fact}
+use Rattle.isar_rules.proofs.WorkedSources.{headers, an_alias, a_missing_alias, a_load, blob_lines}
 use Rattle.isar_rules.proofs.laws.worked_examples.Goals as goal
 
 pub returns-clause-each_place : goal.returns-clause-each_place
@@ -50,19 +51,7 @@ returns-clause-stated_facts c = record {
 }
 
 pub returns-clause-headers : goal.returns-clause-headers
-returns-clause-headers c = record {
-  imports_reported = refl;
-  seen = refl;
-  name_first = refl;
-  import_next = refl;
-  first_import = refl;
-  keyword_last = refl;
-  unfinished = refl;
-  no_command = refl;
-  open_comment = refl;
-  no_theory = refl;
-  bad_header = refl;
-}
+returns-clause-headers c = headers
 
 pub returns-clause-taken_names : goal.returns-clause-taken_names
 unfolding digits
@@ -107,43 +96,16 @@ returns-clause-proof_errors c = record {
 }
 
 pub returns-clause-alias : goal.returns-clause-alias
-returns-clause-alias c = record {
-  header = refl;
-  inside = refl;
-  claimed = rw implies_text refl;
-  no_name = refl;
-  in_header = refl;
-}
+returns-clause-alias c = an_alias
 
 pub returns-clause-missing_alias : goal.returns-clause-missing_alias
-returns-clause-missing_alias c = record { header = refl; next = refl; end = refl }
+returns-clause-missing_alias c = a_missing_alias
 
 pub returns-clause-load : goal.returns-clause-load
-unfolding digits
-returns-clause-load c = record {
-  loaded = refl;
-  fact_added = refl;
-  absent = refl;
-  bad_line = refl;
-  line_first = refl;
-  name_next = refl;
-  twice = refl;
-  kept = refl;
-}
+returns-clause-load c = a_load
 
 pub returns-clause-blob_lines : goal.returns-clause-blob_lines
-returns-clause-blob_lines c = record {
-  none = refl;
-  blank = refl;
-  return_dropped = refl;
-  return_alone = refl;
-  last_return = refl;
-  blank_first = refl;
-  long_name = refl;
-  command = refl;
-  keyword = refl;
-  bad_formula = refl;
-}
+returns-clause-blob_lines c = blob_lines
 
 pub returns-clause-prints : goal.returns-clause-prints
 returns-clause-prints c = record {
