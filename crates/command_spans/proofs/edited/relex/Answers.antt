@@ -1,7 +1,7 @@
 use Rattle.std.proofs.Common.{◌≡◌, ◌⊎◌, ◌≤◌, ◌<◌, ◌-◌, ◌^◌, ℕ, Bool, true, false, List, ◌++◌, length, take, drop, map, sym, ap, ◌∙◌, subst, arith, length-drop}
-use Rattle.std.specs.Prelude.{nat_le, All, find}
+use Rattle.std.specs.Prelude.{All, find}
 use Rattle.std.specs.Bool.{OnTrue}
-use Rattle.std.proofs.lemmas.Bool.{both_ways, and_parts, leb-true}
+use Rattle.std.proofs.lemmas.Bool.{both_ways}
 use Rattle.std.proofs.lemmas.List.{take_rest, length-map}
 use Rattle.std.proofs.lemmas.List.Elements.{All-push}
 use Rattle.outer_tokens.specs.Words.{is_in_force}
@@ -12,14 +12,13 @@ use Rattle.outer_tokens.specs.declared.token.Token.{Token}
 use Rattle.outer_tokens.specs.declared.stage.Stage.{Stage}
 use Rattle.outer_tokens.specs.declared.stage.Stage.TheVariants.{Start}
 use Rattle.outer_tokens.proofs.KnownLexing.{AreStaged, staged-push, after-push}
-use Rattle.command_spans.specs.declared.change.Change.{Change}
 use Rattle.command_spans.specs.Spans.{Is}
 use Rattle.command_spans.specs.CutTexts.{CutText, Cuts, Rising, tokens_in, boundaries, boundary_at}
 use Rattle.command_spans.specs.Reparsing.{is_space_below, moved, is_meeting, past}
 use Rattle.command_spans.specs.Keeping.{moved_token, restaged, ArePassed}
 use Rattle.command_spans.proofs.PlaceLemmas.{staged-rising, rising-split, text-rising}
 use Rattle.command_spans.proofs.ChangeLemmas.{is-change}
-use Rattle.command_spans.proofs.MeetingLemmas.{end-meets}
+use Rattle.command_spans.proofs.MeetingLemmas.{end-meets, meets-at}
 use Rattle.command_spans.proofs.KeepLemmas.{restaged-length}
 use Rattle.command_spans.proofs.EdgeLemmas.{same-lengths, front-same, front-other, back-same, back-other}
 use Rattle.command_spans.proofs.RelexLemmas.{begins, can-move, renamed-last, all-read, all-past}
@@ -30,8 +29,7 @@ pub lexed-init : goal.lexed-init
 lexed-init c =
     let e = c.requires.edited in
     let old : CutText = record { text = e.text; aliases = c.args.old.now.aliases } in
-    let kept : List Token = c.tokens-kept.result.now in
-    let k : kept ≡ tokens_in old = c.tokens-kept.ensures ∙ ap (λ (x : Cuts). x.tokens) e.are_cuts in
+    let k : c.tokens-kept.result.now ≡ tokens_in old = c.tokens-kept.ensures ∙ ap (λ (x : Cuts). x.tokens) e.are_cuts in
     let n : c.args.was.len ≡ length old.text = e.len_is in
     let text : List ℕ = c.args.text.now in
     let aliases : List (List ℕ) = c.args.aliases.now in
@@ -61,8 +59,6 @@ pub meets-requires-clause-within : goal.meets-requires-clause-within
 meets-requires-clause-within c =
     let e = c.requires.edited in
     let old : CutText = record { text = e.text; aliases = c.args.old.now.aliases } in
-    let kept : List Token = c.tokens-kept.result.now in
-    let k : kept ≡ tokens_in old = c.tokens-kept.ensures ∙ ap (λ (x : Cuts). x.tokens) e.are_cuts in
     let n : c.args.was.len ≡ length old.text = e.len_is in
     let text : List ℕ = c.args.text.now in
     let change = is-change c.args.edit.now c.of-change.result old.text text e.applied c.of-change.ensures.start c.of-change.ensures.old_end c.of-change.ensures.new_end in
@@ -72,8 +68,7 @@ pub unreachable-requires : goal.unreachable-requires
 unreachable-requires c =
     let e = c.requires.edited in
     let old : CutText = record { text = e.text; aliases = c.args.old.now.aliases } in
-    let kept : List Token = c.tokens-kept.result.now in
-    let k : kept ≡ tokens_in old = c.tokens-kept.ensures ∙ ap (λ (x : Cuts). x.tokens) e.are_cuts in
+    let k : c.tokens-kept.result.now ≡ tokens_in old = c.tokens-kept.ensures ∙ ap (λ (x : Cuts). x.tokens) e.are_cuts in
     let n : c.args.was.len ≡ length old.text = e.len_is in
     let text : List ℕ = c.args.text.now in
     let change = is-change c.args.edit.now c.of-change.result old.text text e.applied c.of-change.ensures.start c.of-change.ensures.old_end c.of-change.ensures.new_end in
@@ -84,11 +79,6 @@ unreachable-requires c =
 
 pub lexed-preserved : goal.lexed-preserved
 lexed-preserved c =
-    let e = c.requires.edited in
-    let old : CutText = record { text = e.text; aliases = c.args.old.now.aliases } in
-    let kept : List Token = c.tokens-kept.result.now in
-    let k : kept ≡ tokens_in old = c.tokens-kept.ensures ∙ ap (λ (x : Cuts). x.tokens) e.are_cuts in
-    let n : c.args.was.len ≡ length old.text = e.len_is in
     let text : List ℕ = c.args.text.now in
     let aliases : List (List ℕ) = c.args.aliases.now in
     let before : List Token = c.lexed.tokens.items in
@@ -96,7 +86,7 @@ lexed-preserved c =
     let at : IsTokenAt (is_in_force (given (after_tokens text Start before) aliases)) text c.lexed.place t =
     subst (λ (s : Stage). IsTokenAt (is_in_force (given s aliases)) text c.lexed.place t) c.lexed.invariant.stage
     (subst (λ (ns : List (List ℕ)). IsTokenAt (is_in_force ns) text c.lexed.place t) c.given.ensures c.in-Some.ensures) in
-    let test : ℕ → Bool = is_meeting c.of-change.result.old_end c.of-change.result.new_end (boundaries c.args.was.len kept) in
+    let test : ℕ → Bool = is_meeting c.of-change.result.old_end c.of-change.result.new_end (boundaries c.args.was.len c.tokens-kept.result.now) in
     let none : Token → Type 0 = λ u. test u.range.start ≡ false in
     let here : test t.range.start ≡ false = ap test at.0 ∙ sym c.meets.ensures.told ∙ c.lexed-test.true in
     record {
@@ -107,23 +97,11 @@ lexed-preserved c =
       none = subst (All none) (sym c.in_ok-push.ensures.items) (All-push none before t c.lexed.invariant.none here);
     }
 
--- the boundary at which the lexing ends is a meeting
-abbrev Meets : CutText → Change → ℕ → ℕ → Type 0
-Meets old change place next = (change.new_end ≤ place)
-    × (next ≤ length (tokens_in old))
-    × (boundary_at (length old.text) (tokens_in old) next ≡ moved change.new_end change.old_end place)
-
-met : (old : CutText) (change : Change) (place next : ℕ) (told : Bool) → told ≡ is_meeting change.old_end change.new_end (boundaries (length old.text) (tokens_in old)) place → told ≡ true → next ≤ length (tokens_in old) → boundary_at (length old.text) (tokens_in old) next ≡ moved change.new_end change.old_end place → Meets old change place next
-met old change place next told is holds within there =
-    let parts = and_parts (nat_le change.new_end place) _ (sym is ∙ holds) in
-    (leb-true change.new_end place parts.0, within, there)
-
 pub push_moved-requires : goal.push_moved-requires
 push_moved-requires c =
     let e = c.requires.edited in
     let old : CutText = record { text = e.text; aliases = c.args.old.now.aliases } in
-    let kept : List Token = c.tokens-kept.result.now in
-    let k : kept ≡ tokens_in old = c.tokens-kept.ensures ∙ ap (λ (x : Cuts). x.tokens) e.are_cuts in
+    let k : c.tokens-kept.result.now ≡ tokens_in old = c.tokens-kept.ensures ∙ ap (λ (x : Cuts). x.tokens) e.are_cuts in
     let n : c.args.was.len ≡ length old.text = e.len_is in
     let text : List ℕ = c.args.text.now in
     let change = is-change c.args.edit.now c.of-change.result old.text text e.applied c.of-change.ensures.start c.of-change.ensures.old_end c.of-change.ensures.new_end in
@@ -131,7 +109,7 @@ push_moved-requires c =
     let ne : ℕ = c.of-change.result.new_end in
     let next : ℕ = c.meets.new.next in
     let from : ℕ = boundary_at (length old.text) (tokens_in old) next in
-    let meets = met old c.of-change.result c.lexed.place next c.meets.result (c.meets.ensures.told ∙ (λ i. is_meeting oe ne (boundaries (n i) (k i)) c.lexed.place)) c.lexed-test.false (subst (λ (ts : List Token). next ≤ length ts) k c.meets.ensures.passed.0) (sym (λ i. boundary_at (n i) (k i) next) ∙ c.lexed-test.ensures.met) in
+    let meets = meets-at old c.of-change.result c.lexed.place next c.meets.result k n c.meets.ensures.told c.lexed-test.false c.meets.ensures.passed.0 c.lexed-test.ensures.met in
     let rest_is : take (length c.tokens-kept.result.now - next) (drop next c.tokens-kept.result.now) ≡ drop next (tokens_in old) = take_rest c.tokens-kept.result.now next ∙ ap (λ (ts : List Token). drop next ts) k in
     let small : length text < 2 ^ 64 = omega arith in
     let rises = (rising-split 0 (length old.text) (tokens_in old) next meets.1 (text-rising old.text old.aliases)).1 in
@@ -141,8 +119,7 @@ pub returns-clause-tokens : goal.returns-clause-tokens
 returns-clause-tokens c =
     let e = c.requires.edited in
     let old : CutText = record { text = e.text; aliases = c.args.old.now.aliases } in
-    let kept : List Token = c.tokens-kept.result.now in
-    let k : kept ≡ tokens_in old = c.tokens-kept.ensures ∙ ap (λ (x : Cuts). x.tokens) e.are_cuts in
+    let k : c.tokens-kept.result.now ≡ tokens_in old = c.tokens-kept.ensures ∙ ap (λ (x : Cuts). x.tokens) e.are_cuts in
     let n : c.args.was.len ≡ length old.text = e.len_is in
     let text : List ℕ = c.args.text.now in
     let aliases : List (List ℕ) = c.args.aliases.now in
@@ -153,7 +130,7 @@ returns-clause-tokens c =
     let place : ℕ = c.lexed.place in
     let ts : List Token = c.lexed.tokens.items in
     let moves : List Token = map (moved_token oe ne) (drop next (tokens_in old)) in
-    let meets = met old c.of-change.result place next c.meets.result (c.meets.ensures.told ∙ (λ i. is_meeting oe ne (boundaries (n i) (k i)) place)) c.lexed-test.false (subst (λ (ts : List Token). next ≤ length ts) k c.meets.ensures.passed.0) (sym (λ i. boundary_at (n i) (k i) next) ∙ c.lexed-test.ensures.met) in
+    let meets = meets-at old c.of-change.result place next c.meets.result k n c.meets.ensures.told c.lexed-test.false c.meets.ensures.passed.0 c.lexed-test.ensures.met in
     let rest_is : take (length c.tokens-kept.result.now - next) (drop next c.tokens-kept.result.now) ≡ drop next (tokens_in old) = take_rest c.tokens-kept.result.now next ∙ ap (λ (xs : List Token). drop next xs) k in
     let pushed : c.push_moved.new.tokens.items ≡ ts ++ moves = c.in_ok-push_moved.ensures ∙ ap (λ (xs : List Token). ts ++ map (moved_token oe ne) xs) rest_is in
     elim c.if-not-same-2.branch [
@@ -172,8 +149,7 @@ pub returns-clause-back : goal.returns-clause-back
 returns-clause-back c =
     let e = c.requires.edited in
     let old : CutText = record { text = e.text; aliases = c.args.old.now.aliases } in
-    let kept : List Token = c.tokens-kept.result.now in
-    let k : kept ≡ tokens_in old = c.tokens-kept.ensures ∙ ap (λ (x : Cuts). x.tokens) e.are_cuts in
+    let k : c.tokens-kept.result.now ≡ tokens_in old = c.tokens-kept.ensures ∙ ap (λ (x : Cuts). x.tokens) e.are_cuts in
     let n : c.args.was.len ≡ length old.text = e.len_is in
     let text : List ℕ = c.args.text.now in
     let aliases : List (List ℕ) = c.args.aliases.now in
@@ -185,7 +161,7 @@ returns-clause-back c =
     let ts : List Token = c.lexed.tokens.items in
     let s : Stage = after_tokens text Start ts in
     let moves : List Token = map (moved_token oe ne) (drop next (tokens_in old)) in
-    let meets = met old c.of-change.result place next c.meets.result (c.meets.ensures.told ∙ (λ i. is_meeting oe ne (boundaries (n i) (k i)) place)) c.lexed-test.false (subst (λ (ts : List Token). next ≤ length ts) k c.meets.ensures.passed.0) (sym (λ i. boundary_at (n i) (k i) next) ∙ c.lexed-test.ensures.met) in
+    let meets = meets-at old c.of-change.result place next c.meets.result k n c.meets.ensures.told c.lexed-test.false c.meets.ensures.passed.0 c.lexed-test.ensures.met in
     let others = back-other c.of-change.result.start oe ne old.text text old.aliases change place next meets.1 meets.0 meets.2 aliases s in
     let test : ℕ → Bool = is_meeting oe ne (boundaries (length old.text) (tokens_in old)) in
     let size : length (restaged aliases text s moves) ≡ length (tokens_in old) - next = restaged-length aliases text s moves ∙ length-map (drop next (tokens_in old)) (moved_token oe ne) ∙ length-drop next (tokens_in old) in
