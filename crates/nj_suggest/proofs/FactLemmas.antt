@@ -13,8 +13,6 @@ use Rattle.theory_ctx.specs.Locals.{Scoped, local_of, local_first, looked_in}
 use Rattle.theory_ctx.specs.Looked.{looked}
 use Rattle.nj_kernel.specs.declared.rule.Rule.{Rule}
 use Rattle.nj_kernel.specs.RuleNames.{rule_name}
-use Rattle.proof_state.specs.Same.{decide}
-use Rattle.proof_state.proofs.KnownFirst.{first_is, is_first_of}
 use Rattle.proof_terms.specs.declared.fault.TermFault.TheVariants.{ProvesAnother, ProofTooDeep}
 use Rattle.proof_terms.specs.declared.term.Term.{out-Term, out-roll-Term}
 use Rattle.proof_terms.specs.declared.term.Term.TheOpen.{Term-F}
@@ -25,12 +23,6 @@ use Rattle.suggest_rules.specs.Names.{is_alias}
 use Rattle.suggest_rules.specs.Search.{says_same, is_false, citing}
 use Rattle.nj_suggest.proofs.ProvenLemmas.{IsRight}
 use Rattle.nj_suggest.proofs.SeenLemmas.{Means}
-
-pub same_so : (a b : Formula) → says_same a b ≡ true → meaning a ≡ meaning b
-same_so a b e = first_is (decide (meaning a) (meaning b)) e
-
-pub so_same : (a b : Formula) → meaning a ≡ meaning b → says_same a b ≡ true
-so_same a b e = is_first_of (decide (meaning a) (meaning b)) e
 
 pub false_is : (layer : Formula-F Formula) → is_false layer ≡ true → layer ≡ Formula-F.False
 false_is Formula-F.False e = refl

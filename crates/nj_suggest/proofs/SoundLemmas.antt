@@ -16,6 +16,7 @@ use Rattle.proof_terms.specs.declared.term.Term.{Term}
 use Rattle.proof_terms.specs.declared.term.Term.TheVariants.{ConjI, ConjE1, ConjE2, DisjI1, DisjI2, DisjE, ImpI, ImpE, NotI, NotE, FalseE}
 use Rattle.proof_checks.specs.Checks.{checked_within}
 use Rattle.proof_checks.specs.Scopes.{inside}
+use Rattle.proof_checks.proofs.KnownStatements.{same_is, so_same}
 use Rattle.suggest_rules.specs.declared.names.Names.{Names}
 use Rattle.suggest_rules.specs.Names.{next_name, assuming}
 use Rattle.suggest_rules.specs.Search as S
@@ -23,7 +24,7 @@ use Rattle.suggest_rules.specs.Search.{if_so, says_same, is_false, citing, found
 use Rattle.nj_suggest.proofs.KnownFound.{either, so, mapped, paired, among, passing}
 use Rattle.nj_suggest.proofs.ProvenLemmas.{IsRight, by_conj_i, by_disj_i1, by_disj_i2, by_imp_i, by_not_i, by_conj_e1, by_conj_e2, by_imp_e, by_not_e, by_false_e, by_disj_e}
 use Rattle.nj_suggest.proofs.SeenLemmas.{Means, Sees, assuming-seen}
-use Rattle.nj_suggest.proofs.FactLemmas.{same_so, so_same, false_is, fact_right, usable, says_conj, says_implies}
+use Rattle.nj_suggest.proofs.FactLemmas.{false_is, fact_right, usable, says_conj, says_implies}
 
 module _ (aliases : List (List ℕ)) (n : ℕ) (sub : Names → Formula → Option Term) (names : Names) (scope : Scoped) (goal : Formula) where
   -- what `sub` finds of parts is right
@@ -77,38 +78,38 @@ module _ (aliases : List (List ℕ)) (n : ℕ) (sub : Names → Formula → Opti
         let second = so (says_same a goal) (Some (ConjE1 b (citing local))) t first.1 in
         subst (λ u. IsRight (checked_within (suc n) u goal scope)) (same_Some (ConjE1 b (citing local)) t second.1)
         (by_conj_e1 n scope goal b (citing local) (fact_right n scope local (F.And goal b) means
-        (so_same local.formula (F.And goal b) (says_conj local.formula a b out ∙ (ap (λ s. conj s (meaning b)) (same_so a goal second.0) ∙ sym (meaning-And goal b)))))))
+        (so_same (meaning local.formula) (meaning (F.And goal b)) (says_conj local.formula a b out ∙ (ap (λ s. conj s (meaning b)) (same_is (meaning a) (meaning goal) second.0) ∙ sym (meaning-And goal b)))))))
         (λ right. let first = so (usable aliases R.ConjE2) (if_so (says_same b goal) (Some (ConjE2 a (citing local)))) t right in
         let second = so (says_same b goal) (Some (ConjE2 a (citing local))) t first.1 in
         subst (λ u. IsRight (checked_within (suc n) u goal scope)) (same_Some (ConjE2 a (citing local)) t second.1)
         (by_conj_e2 n scope goal a (citing local) (fact_right n scope local (F.And a goal) means
-        (so_same local.formula (F.And a goal) (says_conj local.formula a b out ∙ (ap (conj (meaning a)) (same_so b goal second.0) ∙ sym (meaning-And a goal)))))))
+        (so_same (meaning local.formula) (meaning (F.And a goal)) (says_conj local.formula a b out ∙ (ap (conj (meaning a)) (same_is (meaning b) (meaning goal) second.0) ∙ sym (meaning-And a goal)))))))
         (either (S.by_rule aliases R.ConjE1 (if_so (says_same a goal) (Some (ConjE1 b (citing local))))) (S.by_rule aliases R.ConjE2 (if_so (says_same b goal) (Some (ConjE2 a (citing local))))) t e)
     eliminated_right local means (Formula-F.Implies a b) out t e =
         let second = so (says_same b goal) (option_map (ImpE a (citing local)) (sub names a)) t (so (usable aliases R.ImpE) (if_so (says_same b goal) (option_map (ImpE a (citing local)) (sub names a))) t e).1 in
         let m = mapped (ImpE a (citing local)) (sub names a) t second.1 in
         subst (λ u. IsRight (checked_within (suc n) u goal scope)) m.made
         (by_imp_e n scope goal a (citing local) m.part (fact_right n scope local (F.Implies a goal) means
-        (so_same local.formula (F.Implies a goal) (says_implies local.formula a b out ∙ (ap (implies (meaning a)) (same_so b goal second.0) ∙ sym (meaning-Implies a goal)))))
+        (so_same (meaning local.formula) (meaning (F.Implies a goal)) (says_implies local.formula a b out ∙ (ap (implies (meaning a)) (same_is (meaning b) (meaning goal) second.0) ∙ sym (meaning-Implies a goal)))))
         (parts names scope sees a m.part m.found_is))
     eliminated_right local means (Formula-F.Not a) out t e =
         let second = so (is_false (out-Formula goal)) (option_map (NotE a (citing local)) (sub names a)) t (so (usable aliases R.NotE) (if_so (is_false (out-Formula goal)) (option_map (NotE a (citing local)) (sub names a))) t e).1 in
         let m = mapped (NotE a (citing local)) (sub names a) t second.1 in
         subst (λ u. IsRight (checked_within (suc n) u goal scope)) m.made
         (by_not_e n scope goal a (citing local) m.part (false_is (out-Formula goal) second.0) (fact_right n scope local (F.Not a) means
-        (so_same local.formula (F.Not a) (ap meaning (is_rolled local.formula (Formula-F.Not a) out ∙ rolls-Not a))))
+        (so_same (meaning local.formula) (meaning (F.Not a)) (ap meaning (is_rolled local.formula (Formula-F.Not a) out ∙ rolls-Not a))))
         (parts names scope sees a m.part m.found_is))
     eliminated_right local means (Formula-F.Or a b) out t e =
         let m = paired (λ u v. DisjE a b (citing local) (next_name aliases names) u (next_name aliases names) v) (sub (assuming aliases names a) goal) (sub (assuming aliases names b) goal) t
         (so (usable aliases R.DisjE) (S.by_cases aliases sub names goal (citing local) a b) t e).1 in
         subst (λ u. IsRight (checked_within (suc n) u goal scope)) m.made
         (by_disj_e n scope goal a b (citing local) (next_name aliases names) m.left m.right (fact_right n scope local (F.Or a b) means
-        (so_same local.formula (F.Or a b) (ap meaning (is_rolled local.formula (Formula-F.Or a b) out ∙ rolls-Or a b))))
+        (so_same (meaning local.formula) (meaning (F.Or a b)) (ap meaning (is_rolled local.formula (Formula-F.Or a b) out ∙ rolls-Or a b))))
         (under_own a goal m.left m.left_is) (under_own b goal m.right m.right_is))
     eliminated_right local means Formula-F.False out t e =
         subst (λ u. IsRight (checked_within (suc n) u goal scope)) (same_Some (FalseE (citing local)) t (so (usable aliases R.FalseE) (Some (FalseE (citing local))) t e).1)
         (by_false_e n scope goal (citing local) (fact_right n scope local F.False means
-        (so_same local.formula F.False (ap meaning (is_rolled local.formula Formula-F.False out ∙ rolls-False)))))
+        (so_same (meaning local.formula) (meaning F.False) (ap meaning (is_rolled local.formula Formula-F.False out ∙ rolls-False)))))
     eliminated_right local means (Formula-F.Atom p args) out t e = cc
     eliminated_right local means (Formula-F.All x a) out t e = cc
     eliminated_right local means (Formula-F.Exists x a) out t e = cc

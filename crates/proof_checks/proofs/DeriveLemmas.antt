@@ -22,7 +22,7 @@ use Rattle.proof_checks.specs.Scopes.{inside, remaining}
 use Rattle.proof_checks.specs.Statements.{is_free_among}
 use Rattle.proof_checks.proofs.ProvingLemmas.{fits_of}
 use Rattle.proof_checks.proofs.StandLemmas.{parted, fresh_found, one_found, two_found, cited_found}
-use Rattle.proof_checks.proofs.StatementLemmas.{same_is}
+use Rattle.proof_checks.proofs.KnownStatements.{same_is}
 use Rattle.proof_checks.proofs.NjLemmas.{one_nj, two_nj, three_nj}
 use Rattle.proof_checks.proofs.SameAnswers.{same_found}
 

@@ -1,5 +1,5 @@
 mod SameAnswers
-mod StatementLemmas
+pub mod KnownStatements
 mod SetLemmas
 mod SettleLemmas
 mod RuleLemmas

@@ -16,7 +16,7 @@ use Rattle.proof_checks.specs.Fits.{FitsOne, FitsTwo, FitsThree, fresh_one, fres
 use Rattle.proof_checks.specs.Scopes.{remaining}
 use Rattle.proof_checks.specs.Statements.{is_free_among, without}
 use Rattle.proof_checks.proofs.SetLemmas.{Same, joined, left_out}
-use Rattle.proof_checks.proofs.StatementLemmas.{lists_without, fresh_among, first_fresh}
+use Rattle.proof_checks.proofs.KnownStatements.{lists_without, fresh_among, first_fresh}
 
 itself : (s : List Statement) → Same (members s) (members s)
 itself s f = (λ m. m, λ m. m)

@@ -23,7 +23,7 @@ use Rattle.proof_checks.specs.Statements.{without}
 use Rattle.proof_checks.proofs.SetLemmas.{Same, joined, left_out}
 use Rattle.proof_checks.proofs.RuleLemmas.{Left, left_same}
 use Rattle.proof_checks.proofs.SettleLemmas.{fit_made, made, depending}
-use Rattle.proof_checks.proofs.StatementLemmas.{fresh_among, among_fresh, first_fresh, more_fresh}
+use Rattle.proof_checks.proofs.KnownStatements.{fresh_among, among_fresh, first_fresh, more_fresh}
 
 two_made : (rule : Binary) (o k : Option Local) (a b : List Statement) (p q g : Statement) (r : Answer)
     → FitsTwo rule o k p q g → TwoAnswers rule a p b q r → fresh_two rule ≡ None → Makes r (Left o a ∪ Left k b) g

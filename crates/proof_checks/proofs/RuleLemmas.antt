@@ -24,7 +24,7 @@ use Rattle.proof_checks.specs.Scopes.{remaining}
 use Rattle.proof_checks.specs.Statements.{without}
 use Rattle.proof_checks.proofs.SetLemmas.{Same, joined, left_out}
 use Rattle.proof_checks.proofs.SettleLemmas.{fit_made, made, depending}
-use Rattle.proof_checks.proofs.StatementLemmas.{fresh_among, among_fresh, first_fresh, more_fresh}
+use Rattle.proof_checks.proofs.KnownStatements.{fresh_among, among_fresh, first_fresh, more_fresh}
 
 -- what is left of a premise's assumptions
 abbrev pub Left : Option Local → List Statement → Statement → Type 0

@@ -4,7 +4,7 @@ use Rattle.nj_formula.specs.Statement.{Statement}
 use Rattle.nj_kernel.specs.Sets.{members, ◌∪◌, ◌∖◌, Lists}
 use Rattle.proof_state.proofs.KnownSets.{in_left, in_right, in_either}
 use Rattle.proof_checks.specs.Statements.{without}
-use Rattle.proof_checks.proofs.StatementLemmas.{lists_without}
+use Rattle.proof_checks.proofs.KnownStatements.{lists_without}
 
 -- two sets have the same members
 abbrev pub Same : (Statement → Type 0) → (Statement → Type 0) → Type 0

@@ -21,7 +21,7 @@ use Rattle.proof_checks.specs.Checks.{Found, and_then, cited, if_fresh, by_one, 
 use Rattle.proof_checks.specs.Scopes.{inside, remaining, Stands}
 use Rattle.proof_checks.specs.Statements.{is_same, is_free_among}
 use Rattle.proof_state.proofs.KnownSets.{in_either}
-use Rattle.proof_checks.proofs.StatementLemmas.{lists_without}
+use Rattle.proof_checks.proofs.KnownStatements.{lists_without}
 use Rattle.proof_checks.proofs.LookLemmas.{looked_stands}
 use Rattle.proof_checks.proofs.SameAnswers.{same_found}
 

@@ -11,9 +11,12 @@ use Rattle.proof_checks.specs.Statements.{is_same, without, is_free_among}
 pub same_is : (a b : Statement) → is_same a b ≡ true → a ≡ b
 same_is a b e = first_is (decide a b) e
 
+pub so_same : (a b : Statement) → a ≡ b → is_same a b ≡ true
+so_same a b e = is_first_of (decide a b) e
+
 -- a test that says yes just there is this test
 pub tested : (a b : Statement) (r : Bool) → (IsTrue r ↔ (a ≡ b)) → r ≡ is_same a b
-tested a b true iff = sym (is_first_of (decide a b) (iff.0 refl))
+tested a b true iff = sym (so_same a b (iff.0 refl))
 tested a b false iff = by (is_same a b) refl
   where
     by : (d : Bool) → is_same a b ≡ d → false ≡ d
