@@ -1,5 +1,5 @@
 -- A fact that says the goal proves it, and what the search tests of formulas.
-use Rattle.std.proofs.Common.{◌≡◌, ℕ, zero, suc, Bool, true, not, List, [], ◌∷◌, cond, None, Ok, Err, refl, ap, sym, ◌∙◌}
+use Rattle.std.proofs.Common.{◌≡◌, ℕ, zero, suc, Bool, true, not, List, [], ◌∷◌, cond, None, Ok, Err, refl, ap, ◌∙◌}
 use Rattle.nj_formula.specs.declared.formula.Formula.{Formula, out-Formula}
 use Rattle.nj_formula.specs.declared.formula.Formula.TheOpen.{Formula-F}
 use Rattle.nj_formula.specs.declared.formula.Formula.TheVariants.{rolls-And, rolls-Implies}
@@ -14,9 +14,9 @@ use Rattle.theory_ctx.specs.Looked.{looked}
 use Rattle.nj_kernel.specs.declared.rule.Rule.{Rule}
 use Rattle.nj_kernel.specs.RuleNames.{rule_name}
 use Rattle.proof_terms.specs.declared.fault.TermFault.TheVariants.{ProvesAnother, ProofTooDeep}
-use Rattle.proof_terms.specs.declared.term.Term.{out-Term, out-roll-Term}
+use Rattle.proof_terms.specs.declared.term.Term.{out-Term}
 use Rattle.proof_terms.specs.declared.term.Term.TheOpen.{Term-F}
-use Rattle.proof_terms.specs.declared.term.Term.TheVariants.{rolls-Fact}
+use Rattle.proof_terms.proofs.KnownLayers.{out-Fact}
 use Rattle.proof_checks.specs.Checks.{and_then, cited, of_step, step_within, checked_within}
 use Rattle.proof_checks.specs.Rows.{step_of}
 use Rattle.suggest_rules.specs.Names.{is_alias}
@@ -41,7 +41,7 @@ unfolding checked_within step_within step_of of_step
 fact_right n scope local goal means same = record { from = meaning local.formula ∷ []; is = at n }
   where
     out : out-Term (citing local) ≡ Term-F.Fact (record { name = local.name; range = record { start = 0; stop = 0 } })
-    out = ap out-Term (sym (rolls-Fact _)) ∙ out-roll-Term _
+    out = out-Fact _
 
     looked_is : looked_in scope local.name ≡ found None local.name local.formula
     looked_is =
