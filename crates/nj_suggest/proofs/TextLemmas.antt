@@ -1,6 +1,5 @@
 -- A rule's text, added piece by piece.
-use Rattle.std.proofs.Common.{◌≡◌, ℕ, List, [], ◌∷◌, ◌++◌, Result, Ok, Err, codes, refl, ap, sym, ◌∙◌, append_assoc, append-nil}
-use Rattle.std.specs.Prelude.{OnOk}
+use Rattle.std.proofs.Common.{◌≡◌, ℕ, List, [], ◌∷◌, ◌++◌, codes, refl, ap, sym, ◌∙◌, append_assoc, append-nil}
 use Rattle.std.specs.List.{flat_map}
 use Rattle.nj_kernel.specs.declared.rule.Rule.{Rule}
 use Rattle.nj_kernel.specs.RuleNames.{rule_name}
@@ -52,8 +51,3 @@ module _ (rule : Rule) (old new : List ℕ) (parts : List (List ℕ)) (begun : I
   last_two x y end e =
       closed rule old (new ++ (32 ∷ x ++ 32 ∷ y)) ((parts ++ x ∷ []) ++ y ∷ []) end (two_more x y (new ++ (32 ∷ x ++ 32 ∷ y)) refl)
       (e ∙ (ap (λ l. new ++ l) (sym (append_assoc (32 ∷ x) (32 ∷ y) (codes ")"))) ∙ sym (append_assoc new (32 ∷ x ++ 32 ∷ y) (codes ")"))))
-
--- what holds of a success, by what holds of it
-pub on_ok : {T E : Type 0} {P Q : Type 0} (r : Result T E) → OnOk r P → (P → Q) → OnOk r Q
-on_ok (Ok x) p f = f p
-on_ok (Err e) p f = tt

@@ -1,9 +1,10 @@
 use Rattle.std.proofs.Common.{◌≡◌, ◌∙◌, [], ◌∷◌, ◌++◌, string_bytes, ap, sym}
+use Rattle.std.proofs.lemmas.Result.{on_ok_weaker}
 use Rattle.nj_kernel.specs.declared.rule.Rule.TheVariants as R
 use Rattle.nj_print.specs.ArgumentText.{argument_text}
 use Rattle.proof_terms.proofs.KnownTerms.{fold-ConjI, fold-DisjE, fold-ImpE, fold-NotE, fold-AllE, fold-ExI, fold-ExE}
 use Rattle.suggest_rules.specs.TermText.{quoted, formula, ruled, term_layer, term_text}
-use Rattle.nj_suggest.proofs.TextLemmas.{none_yet, one_yet, one_more, two_more, last, last_two, on_ok}
+use Rattle.nj_suggest.proofs.TextLemmas.{none_yet, one_yet, one_more, two_more, last, last_two}
 use Rattle.nj_suggest.proofs.text.+add_term.Goals as goal
 
 pub add_term-returns-in_ok-add_part-in-ConjI : goal.add_term-returns-in_ok-add_part-in-ConjI
@@ -17,8 +18,9 @@ add_term-returns-in_ok-add_part-in-ConjI t c =
     ap (λ z. ruled R.ConjI (term_text z ∷ term_text c.get-in-ConjI.result.now ∷ [])) g0
     ∙ (ap (λ z. ruled R.ConjI (term_text c.in-ConjI.t ∷ term_text z ∷ [])) g1
     ∙ sym (ap term_text c.in-ConjI.is ∙ fold-ConjI term_layer c.in-ConjI.t c.in-ConjI.u)) in
-    on_ok c.add_last.result c.add_last.ensures
+    on_ok_weaker c.add_last.result
     (λ e. last R.ConjI old (string_bytes c.add_part.new.text) (term_text c.get.result.now ∷ []) s1 (term_text c.get-in-ConjI.result.now) (string_bytes c.add_last.new.text) e ∙ ap (λ w. old ++ w) is)
+    c.add_last.ensures
 
 pub add_term-returns-in_ok-add_case-in-DisjE : goal.add_term-returns-in_ok-add_case-in-DisjE
 add_term-returns-in_ok-add_case-in-DisjE t c =
@@ -39,8 +41,9 @@ add_term-returns-in_ok-add_case-in-DisjE t c =
     ∙ (ap (λ z. ruled R.DisjE (formula c.in-DisjE.a ∷ formula c.in-DisjE.b ∷ term_text c.in-DisjE.t ∷ c.in-DisjE.x ∷ term_text z ∷ c.in-DisjE.y ∷ term_text c.get-in-DisjE-5.result.now ∷ [])) g4
     ∙ (ap (λ z. ruled R.DisjE (formula c.in-DisjE.a ∷ formula c.in-DisjE.b ∷ term_text c.in-DisjE.t ∷ c.in-DisjE.x ∷ term_text c.in-DisjE.u ∷ c.in-DisjE.y ∷ term_text z ∷ [])) g6
     ∙ sym (ap term_text c.in-DisjE.is ∙ fold-DisjE term_layer c.in-DisjE.a c.in-DisjE.b c.in-DisjE.t c.in-DisjE.x c.in-DisjE.u c.in-DisjE.y c.in-DisjE.v))))) in
-    on_ok c.add_last_case.result c.add_last_case.ensures
+    on_ok_weaker c.add_last_case.result
     (λ e. last_two R.DisjE old (string_bytes c.add_case.new.text) (formula c.get-in-DisjE.result.now ∷ formula c.get-in-DisjE-2.result.now ∷ term_text c.get-in-DisjE-3.result.now ∷ c.in-DisjE.x ∷ term_text c.get-in-DisjE-4.result.now ∷ []) s3 c.in-DisjE.y (term_text c.get-in-DisjE-5.result.now) (string_bytes c.add_last_case.new.text) e ∙ ap (λ w. old ++ w) is)
+    c.add_last_case.ensures
 
 pub add_term-returns-in_ok-add_part-in-ImpE : goal.add_term-returns-in_ok-add_part-in-ImpE
 add_term-returns-in_ok-add_part-in-ImpE t c =
@@ -55,8 +58,9 @@ add_term-returns-in_ok-add_part-in-ImpE t c =
     ∙ (ap (λ z. ruled R.ImpE (formula c.in-ImpE.a ∷ term_text z ∷ term_text c.get-in-ImpE-3.result.now ∷ [])) g1
     ∙ (ap (λ z. ruled R.ImpE (formula c.in-ImpE.a ∷ term_text c.in-ImpE.t ∷ term_text z ∷ [])) g2
     ∙ sym (ap term_text c.in-ImpE.is ∙ fold-ImpE term_layer c.in-ImpE.a c.in-ImpE.t c.in-ImpE.u))) in
-    on_ok c.add_last-in-ImpE.result c.add_last-in-ImpE.ensures
+    on_ok_weaker c.add_last-in-ImpE.result
     (λ e. last R.ImpE old (string_bytes c.add_part-in-ImpE.new.text) (formula c.get-in-ImpE.result.now ∷ term_text c.get-in-ImpE-2.result.now ∷ []) s1 (term_text c.get-in-ImpE-3.result.now) (string_bytes c.add_last-in-ImpE.new.text) e ∙ ap (λ w. old ++ w) is)
+    c.add_last-in-ImpE.ensures
 
 pub add_term-returns-in_ok-add_part-in-NotE : goal.add_term-returns-in_ok-add_part-in-NotE
 add_term-returns-in_ok-add_part-in-NotE t c =
@@ -71,8 +75,9 @@ add_term-returns-in_ok-add_part-in-NotE t c =
     ∙ (ap (λ z. ruled R.NotE (formula c.in-NotE.a ∷ term_text z ∷ term_text c.get-in-NotE-3.result.now ∷ [])) g1
     ∙ (ap (λ z. ruled R.NotE (formula c.in-NotE.a ∷ term_text c.in-NotE.t ∷ term_text z ∷ [])) g2
     ∙ sym (ap term_text c.in-NotE.is ∙ fold-NotE term_layer c.in-NotE.a c.in-NotE.t c.in-NotE.u))) in
-    on_ok c.add_last-in-NotE.result c.add_last-in-NotE.ensures
+    on_ok_weaker c.add_last-in-NotE.result
     (λ e. last R.NotE old (string_bytes c.add_part-in-NotE.new.text) (formula c.get-in-NotE.result.now ∷ term_text c.get-in-NotE-2.result.now ∷ []) s1 (term_text c.get-in-NotE-3.result.now) (string_bytes c.add_last-in-NotE.new.text) e ∙ ap (λ w. old ++ w) is)
+    c.add_last-in-NotE.ensures
 
 pub add_term-returns-in_ok-add_object-in-AllE : goal.add_term-returns-in_ok-add_object-in-AllE
 add_term-returns-in_ok-add_object-in-AllE t c =
@@ -87,8 +92,9 @@ add_term-returns-in_ok-add_object-in-AllE t c =
     ∙ (ap (λ z. ruled R.AllE (formula c.in-AllE.q ∷ quoted (argument_text [] z) ∷ term_text c.get-in-AllE-3.result.now ∷ [])) g1
     ∙ (ap (λ z. ruled R.AllE (formula c.in-AllE.q ∷ quoted (argument_text [] c.in-AllE.s) ∷ term_text z ∷ [])) g2
     ∙ sym (ap term_text c.in-AllE.is ∙ fold-AllE term_layer c.in-AllE.q c.in-AllE.s c.in-AllE.t))) in
-    on_ok c.add_last-in-AllE.result c.add_last-in-AllE.ensures
+    on_ok_weaker c.add_last-in-AllE.result
     (λ e. last R.AllE old (string_bytes c.add_object.new.text) (formula c.get-in-AllE.result.now ∷ quoted (argument_text [] c.get-in-AllE-2.result.now) ∷ []) s1 (term_text c.get-in-AllE-3.result.now) (string_bytes c.add_last-in-AllE.new.text) e ∙ ap (λ w. old ++ w) is)
+    c.add_last-in-AllE.ensures
 
 pub add_term-returns-in_ok-add_object-in-ExI : goal.add_term-returns-in_ok-add_object-in-ExI
 add_term-returns-in_ok-add_object-in-ExI t c =
@@ -101,8 +107,9 @@ add_term-returns-in_ok-add_object-in-ExI t c =
     ap (λ z. ruled R.ExI (quoted (argument_text [] z) ∷ term_text c.get-in-ExI-2.result.now ∷ [])) g0
     ∙ (ap (λ z. ruled R.ExI (quoted (argument_text [] c.in-ExI.s) ∷ term_text z ∷ [])) g1
     ∙ sym (ap term_text c.in-ExI.is ∙ fold-ExI term_layer c.in-ExI.s c.in-ExI.t)) in
-    on_ok c.add_last-in-ExI.result c.add_last-in-ExI.ensures
+    on_ok_weaker c.add_last-in-ExI.result
     (λ e. last R.ExI old (string_bytes c.add_object-in-ExI.new.text) (quoted (argument_text [] c.get-in-ExI.result.now) ∷ []) s1 (term_text c.get-in-ExI-2.result.now) (string_bytes c.add_last-in-ExI.new.text) e ∙ ap (λ w. old ++ w) is)
+    c.add_last-in-ExI.ensures
 
 pub add_term-returns-in_ok-add_case-in-ExE : goal.add_term-returns-in_ok-add_case-in-ExE
 add_term-returns-in_ok-add_case-in-ExE t c =
@@ -118,5 +125,6 @@ add_term-returns-in_ok-add_case-in-ExE t c =
     ∙ (ap (λ z. ruled R.ExE (formula c.in-ExE.q ∷ c.in-ExE.x ∷ c.in-ExE.h ∷ term_text z ∷ term_text c.get-in-ExE-3.result.now ∷ [])) g3
     ∙ (ap (λ z. ruled R.ExE (formula c.in-ExE.q ∷ c.in-ExE.x ∷ c.in-ExE.h ∷ term_text c.in-ExE.t ∷ term_text z ∷ [])) g4
     ∙ sym (ap term_text c.in-ExE.is ∙ fold-ExE term_layer c.in-ExE.q c.in-ExE.x c.in-ExE.h c.in-ExE.t c.in-ExE.u))) in
-    on_ok c.add_last-in-ExE.result c.add_last-in-ExE.ensures
+    on_ok_weaker c.add_last-in-ExE.result
     (λ e. last R.ExE old (string_bytes c.add_case-in-ExE.new.text) (formula c.get-in-ExE.result.now ∷ c.in-ExE.x ∷ c.in-ExE.h ∷ term_text c.get-in-ExE-2.result.now ∷ []) s2 (term_text c.get-in-ExE-3.result.now) (string_bytes c.add_last-in-ExE.new.text) e ∙ ap (λ w. old ++ w) is)
+    c.add_last-in-ExE.ensures
