@@ -36,7 +36,7 @@ use Rattle.theory_laws.specs.Imports.{AreCleanFrom, IsAxiomFrom, Needs, itself, 
 use Rattle.session_soundness.specs.Believed.{IsSoundAt}
 use Rattle.session_soundness.specs.Seen.{HasNoPending, IsQuiet, OfEachNeeded}
 use Rattle.session_soundness.proofs.CleanParts.{commands_clean}
-use Rattle.session_soundness.proofs.Fine.{fine}
+use Rattle.theory_laws.proofs.KnownFine.{fine}
 use Rattle.session_soundness.proofs.ScratchRuns.{IsRunOf, all_run, each_on, found_of}
 
 -- what holds of documents, of what they show, and of theories

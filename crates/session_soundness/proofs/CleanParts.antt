@@ -21,7 +21,7 @@ use Rattle.session_laws.specs.Promises.{are_all_shown}
 use Rattle.isar_rules.specs.declared.state.State.{State}
 use Rattle.isar_rules.specs.Isar.{isar}
 use Rattle.theory_laws.specs.Clean.{AreClean, told}
-use Rattle.session_soundness.proofs.Fine.{AreFine, behind, both, front, unmoved, without_errors}
+use Rattle.theory_laws.proofs.KnownFine.{AreFine, behind, both, front, unmoved, without_errors}
 
 module _ (h : List Event) where
   -- a part that is shown is shown with its reports

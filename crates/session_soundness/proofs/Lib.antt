@@ -1,4 +1,3 @@
-mod Fine
 mod CleanParts
 mod ScratchRuns
 mod Believing

@@ -22,7 +22,12 @@ use Rattle.session_laws.proofs.KnownLooked.{seen_version}
 use Rattle.isar_rules.specs.Isar.{isar}
 use Rattle.isar_rules.specs.Kept.{errors_in}
 use Rattle.session_soundness.specs.Seen.{HasNoPending, TellsNoError}
-use Rattle.session_soundness.proofs.Fine.{fine, unleft, unordered, without_errors}
+use Rattle.theory_laws.proofs.KnownFine.{AreFine, fine, unordered, without_errors}
+
+-- where no edits are pending, none is left out
+unleft : (rs : List Report) → AreFine (left_by [] rs) → AreFine rs
+unleft [] f = tt
+unleft (r ∷ rs) f = (f.0, unleft rs f.1)
 
 module _ (service : Service) (h : List Heard) (id : ℕ) (v : Version) (live : version_of (document isar (session isar service h)).live id ≡ Some v)
     (plain : (session isar service h).protocol ≡ Scalars) (name : List ℕ) (tells_none : TellsNoError service h id name) where

@@ -19,7 +19,7 @@ use Rattle.theory_laws.specs.Clean.{AreClean, told}
 use Rattle.theory_laws.specs.Facts.{FactsFollow}
 use Rattle.text_check.proofs.KnownOneNode.{order_one}
 use Rattle.text_laws.specs.Sound.{IsSound}
-use Rattle.text_laws.proofs.Fine.{AreFine, behind, fine, front, unmoved, unordered, without_errors}
+use Rattle.theory_laws.proofs.KnownFine.{AreFine, behind, fine, front, unmoved, unordered, without_errors}
 
 -- a node alone rests on its own axioms
 abbrev pub RestsOnItself : ℕ × Run State → Type 0

@@ -1,4 +1,5 @@
 mod Cutting
+pub mod KnownFine
 mod Places
 mod Judged
 mod Proving

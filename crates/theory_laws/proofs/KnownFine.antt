@@ -49,3 +49,7 @@ front (r ∷ rs) more f = (f.0, front rs more f.1)
 pub behind : (rs more : List Report) → AreFine (rs ++ more) → AreFine more
 behind [] more f = f
 behind (r ∷ rs) more f = behind rs more f.1
+
+pub both : (rs more : List Report) → AreFine rs → AreFine more → AreFine (rs ++ more)
+both [] more f g = g
+both (r ∷ rs) more f g = (f.0, both rs more f.1 g)
