@@ -1,6 +1,7 @@
 -- What a node inherits is told by its key.
 use Rattle.std.proofs.Common.{◌≡◌, ℕ, Bool, true, false, cond, List, [], ◌∷◌, ◌++◌, map, find, Option, Some, None, refl, ap, sym, ◌∙◌}
 use Rattle.std.proofs.lemmas.Bool.{or_parts}
+use Rattle.std.proofs.lemmas.Option.{slice_get_within}
 use Rattle.std.specs.Prelude.{slice_get}
 use Rattle.std.specs.List.{list_any, flat_map, AllByRecursion}
 use Rattle.std.specs.Option.{option_map_or}
@@ -18,7 +19,7 @@ use Rattle.exec_rules.specs.Assigning.{entries_at}
 use Rattle.core_rules.specs.FromScratch.{last_by, key_from, is_open_last, has_open}
 use Rattle.core_rules.proofs.Tables.{AreOlder}
 use Rattle.core_rules.proofs.Facts.{NodeFacts}
-use Rattle.core_rules.proofs.Places.{place_found, get_within}
+use Rattle.core_rules.proofs.KnownPlaces.{place_found}
 use Rattle.core_rules.proofs.ImportAliases.{ImportStands, pairs_by, handed_by, handed_at, own_found, found_pairs}
 
 -- the commands of the node at a place
@@ -73,6 +74,6 @@ module _ (nodes : NodeList) (facts : NodeFacts nodes) (homes : List Home) (older
         → aliases_at nodes p ≡ folded no_aliases (handed_by homes key ++ own_pairs pair.1)
     aliases_by_key key e shut stands =
         let handed = handed_key (find (is_bad nodes) pair.1.imports) refl stands (sym (ap has_open e) ∙ shut) in
-        facts.fold p (get_within nodes p pair at)
+        facts.fold p (slice_get_within nodes p pair at)
         ∙ ap (λ xs. folded no_aliases (xs ++ own_at nodes p)) (handed ∙ ap (handed_by homes) (sym e))
         ∙ ap (λ xs. folded no_aliases (handed_by homes key ++ xs)) (own_found nodes facts p pair at)

@@ -2,6 +2,7 @@
 use Rattle.std.proofs.Common.{◌≡◌, ◌⊎◌, inl, inr, ℕ, zero, suc, true, ◌||◌, List, [], ◌∷◌, ◌++◌, length, Some, refl, ap, sym, ◌∙◌, arith}
 use mathlib.Core.Bool.{or_assoc}
 use Rattle.std.proofs.lemmas.Bool.{eqb-true, eq-eqb, or_left, or_right, or_cases}
+use Rattle.std.proofs.lemmas.Option.{slice_get_within}
 use Rattle.std.specs.Prelude.{◌==◌, slice_get, flat_map}
 use Rattle.std.specs.Option.{option_map_or}
 use Rattle.import_rounds.specs.Rounds.{has}
@@ -12,9 +13,9 @@ use Rattle.exec_rules.specs.declared.version.Version.{Version}
 use Rattle.exec_rules.specs.Keys.{nothing}
 use Rattle.exec_rules.specs.Listed.{executions, print_list}
 use Rattle.exec_rules.proofs.KnownListed.{in_print}
+use Rattle.exec_rules.proofs.KnownThere.{get_there}
 use Rattle.core_rules.specs.Assigned.{assigns}
 use Rattle.core_rules.specs.FromScratch.{assigned_to}
-use Rattle.core_rules.proofs.Places.{get_within, get_there}
 use Rattle.import_rounds.proofs.KnownHas.{has_both}
 
 -- the execution is one of the row's
@@ -83,7 +84,7 @@ pub assigned_at_row : (v : Version) (e : ℕ) → length v.assigned ≡ length v
     → RowAt v (λ row. IsIn row e)
 assigned_at_row v e long is =
     let found = in_assigned v.assigned e is in
-    let lt = get_within v.assigned found.0 found.1 found.2 in
+    let lt = slice_get_within v.assigned found.0 found.1 found.2 in
     let node = get_there v.nodes found.0 (omega (arith, long, lt)) in
     let row = in_rows found.1.rows e found.3 in
     record {

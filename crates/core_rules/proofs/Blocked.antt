@@ -1,20 +1,20 @@
 -- Where nothing is ready and nothing held, an unfinished part that can be worked on waits for one
 -- that is stuck.
-use Rattle.std.proofs.Common.{◌≡◌, ℕ, Bool, true, false, not, ◌&&◌, ◌||◌, List, [], ◌∷◌, None, refl, ap, ◌∙◌}
-use Rattle.std.proofs.lemmas.Bool.{true≢false, or_right}
-use Rattle.std.specs.List.{list_any, list_all, AllByRecursion}
+use Rattle.std.proofs.Common.{◌≡◌, ℕ, Bool, true, false, not, ◌&&◌, ◌||◌, List, None, refl, ap, ◌∙◌}
+use Rattle.std.specs.List.{list_any, AllByRecursion}
 use Rattle.import_rounds.specs.Rounds.{has}
 use Rattle.pide_base.specs.declared.part.Part.{Part}
 use Rattle.language.specs.Lang.{Lang}
 use Rattle.core_rules.specs.declared.event.Event.{Event}
 use Rattle.core_rules.specs.Assigned.{is_assigned}
-use Rattle.core_rules.specs.Parts.{waits_for, evaluation}
+use Rattle.core_rules.specs.Parts.{waits_for}
 use Rattle.core_rules.specs.Standing.{Standing, Free, Held, Done, standing, is_done, is_free, is_finished, held}
 use Rattle.core_rules.specs.Doc.{Doc, doc}
 use Rattle.core_rules.specs.Legal.{IsLegal}
 use Rattle.core_rules.specs.Ready.{is_part, is_wanted, has_inputs, is_ready}
 use Rattle.core_rules.specs.Stuck.{is_marked, stuck_marks, is_stuck}
 use Rattle.core_rules.proofs.Holders.{tells_all}
+use Rattle.core_rules.proofs.KnownStuck.{OverBy, one_stuck}
 
 module _ {S : Type 0} (l : Lang S) (h : List Event) (legal : IsLegal l h) (nothing : (p : Part) → is_ready l h p ≡ false)
     (idle : (w : ℕ) → held h w ≡ None) where
@@ -26,25 +26,12 @@ module _ {S : Type 0} (l : Lang S) (h : List Event) (legal : IsLegal l h) (nothi
 
   -- the evaluation is finished or stuck
   abbrev pub IsOver : ℕ → Type 0
-  IsOver e = (is_finished h (evaluation e) || marked e) ≡ true
+  IsOver e = OverBy h marked e
 
   is_free_by : (p : Part) (s : Standing) → standing h p ≡ s → is_done s ≡ false → is_free s ≡ true
   is_free_by p Free e open_ = refl
   is_free_by p (Held w) e open_ = let mine = (tells_all l h legal w p).1 e in let none = idle w in absurd (cc)
   is_free_by p Done e open_ = absurd (cc)
-
-  -- something that is waited for and unfinished is stuck
-  one_stuck : (es : List ℕ) → AllByRecursion IsOver es → list_all (λ e. is_finished h (evaluation e)) es ≡ false
-      → list_any marked es ≡ true
-  one_stuck [] all open_ = absurd (true≢false open_)
-  one_stuck (e ∷ es) all open_ = go (is_finished h (evaluation e)) refl all.0 open_ (one_stuck es all.1)
-    where
-      go : (b : Bool) → is_finished h (evaluation e) ≡ b → (b || marked e) ≡ true
-          → (b && list_all (λ x. is_finished h (evaluation x)) es) ≡ false
-          → (list_all (λ x. is_finished h (evaluation x)) es ≡ false → list_any marked es ≡ true)
-          → (marked e || list_any marked es) ≡ true
-      go true same over open_ rest = or_right (marked e) (list_any marked es) (rest open_)
-      go false same over open_ rest = ap (λ b. b || list_any marked es) over
 
   waits_by : (a b c e : Bool) → a ≡ true → b ≡ true → c ≡ true → (a && (b && (c && e))) ≡ false → e ≡ false
   waits_by true true true e p q r is = is
@@ -61,6 +48,6 @@ module _ {S : Type 0} (l : Lang S) (h : List Event) (legal : IsLegal l h) (nothi
           → (a || (not a && (b || list_any marked (waits_for d.homes p)))) ≡ true
       go true e b f = refl
       go false e true f = refl
-      go false e false f = one_stuck (waits_for d.homes p) all
+      go false e false f = one_stuck h marked (waits_for d.homes p) all
           (waits_by (is_part l d.homes p) (is_wanted d p.exec) (is_free (standing h p)) (has_inputs h d.homes p) part
           (ap (λ b. b && not (has d.cancelled p.exec)) live ∙ ap not f) (is_free_by p (standing h p) refl e) (nothing p))

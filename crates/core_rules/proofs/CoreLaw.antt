@@ -1,15 +1,13 @@
 -- What holds of each live version after a legal list of events.
 use Rattle.std.proofs.Common.{◌≡◌, ℕ, List, [], Option, Some, None, refl, ap, sym, ◌∙◌, ◌≤◌, length, ◌∷◌}
 use Rattle.std.specs.Prelude.{slice_get}
-use Rattle.std.specs.Option.{option_map_or, option_and_then}
+use Rattle.std.specs.Option.{option_map_or}
 use Rattle.doc_nodes.specs.declared.node.Node.{Node}
 use Rattle.doc_nodes.specs.Imports.{NodeList, place_of}
 use Rattle.doc_nodes.specs.Wanted.{wanted_at}
 use Rattle.doc_versions.specs.declared.versions.Live.{Live}
-use Rattle.exec_rules.specs.declared.row.Assigned.{Assigned}
 use Rattle.exec_rules.specs.declared.home.Input.TheVariants as input
 use Rattle.exec_rules.specs.declared.version.Version.{Version}
-use Rattle.exec_rules.specs.Keys.{nothing}
 use Rattle.exec_rules.specs.Assigning.{entries_at, rows_in}
 use Rattle.language.specs.Lang.{Lang}
 use Rattle.core_rules.specs.declared.event.Event.{Event}
@@ -24,24 +22,13 @@ use Rattle.core_rules.specs.Scratch.{scratch_at}
 use Rattle.core_rules.specs.Shown.{commands_parts, parts_shown, scratches_parts, scratch_shown}
 use Rattle.core_rules.proofs.Tables.{AreOlder}
 use Rattle.core_rules.proofs.Facts.{Facts, NodeFacts}
-use Rattle.core_rules.proofs.Places.{place_found}
+use Rattle.core_rules.proofs.KnownPlaces.{place_found, rows_found}
 use Rattle.core_rules.proofs.AliasesByKey.{entries_found}
 use Rattle.core_rules.proofs.Sound.{IsSound}
 use Rattle.core_rules.proofs.SoundDoc.{doc_sound}
 use Rattle.core_rules.proofs.ScratchDone.{scratch_agrees}
 use Rattle.core_rules.proofs.FromScratchLaw.{from_scratch}
 use Rattle.core_rules.proofs.ShownLaw.{all_parts}
-
--- the rows at the place of a name
-pub rows_found : (v : Version) (name : List ℕ) (q : ℕ) → place_of v.nodes name ≡ Some q → rows_in v name ≡ (assigned_to v q).rows
-rows_found v name q e =
-    ap (λ o. option_map_or (λ (a : Assigned). a.rows) (option_and_then (slice_get v.assigned) o) []) e
-    ∙ go (slice_get v.assigned q)
-  where
-    go : (o : Option Assigned) → option_map_or (λ (a : Assigned). a.rows) o []
-        ≡ (option_map_or (λ (a : Assigned). a) o nothing).rows
-    go None = refl
-    go (Some a) = refl
 
 module _ {S : Type 0} (l : Lang S) (h : List Event) (d : Doc) (older : AreOlder d.homes) (v : Version)
     (facts : NodeFacts v.nodes) (sound : IsSound d.homes v) where

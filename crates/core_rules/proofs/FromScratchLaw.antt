@@ -1,5 +1,6 @@
 -- Each assigned execution of a sound version comes to what it does from nothing.
 use Rattle.std.proofs.Common.{◌≡◌, ℕ, zero, suc, List, [], ◌∷◌, Option, Some, None, refl, ap, sym, subst, ◌∙◌, arith}
+use Rattle.std.proofs.lemmas.Option.{slice_get_within}
 use Rattle.std.specs.Prelude.{slice_get}
 use Rattle.std.specs.Option.{option_map, option_map_or}
 use Rattle.doc_nodes.specs.declared.node.Entry.{Entry}
@@ -11,6 +12,7 @@ use Rattle.exec_rules.specs.declared.home.Input.TheVariants as input
 use Rattle.exec_rules.specs.declared.version.Version.{Version}
 use Rattle.exec_rules.specs.Homes.{home}
 use Rattle.exec_rules.specs.Kept.{BlobList, blob_of}
+use Rattle.exec_rules.proofs.KnownThere.{get_there}
 use Rattle.language.specs.Lang.{Lang}
 use Rattle.core_rules.specs.Numbered.{numbered}
 use Rattle.core_rules.specs.Settings.{Setting, state_behind, setting}
@@ -20,7 +22,6 @@ use Rattle.core_rules.specs.Updates.{source_in}
 use Rattle.core_rules.proofs.Tables.{AreOlder}
 use Rattle.core_rules.proofs.HomedRows.{Homes, evals, EvalsHomed, PrintHomed, PrintsHomed}
 use Rattle.core_rules.proofs.Facts.{NodeFacts}
-use Rattle.core_rules.proofs.Places.{get_within, get_there}
 use Rattle.core_rules.proofs.Sound.{IsSound}
 use Rattle.core_rules.proofs.SettingsBy.{setting_at}
 use Rattle.core_rules.proofs.RunAgree.{agree_at}
@@ -35,7 +36,7 @@ from_rest : (first : Input) (r : Row) (rs : List Row) (j : ℕ) (row : Row) → 
     → input_from (input.Next r.evaluation) rs j ≡ input_from first (r ∷ rs) (suc j)
 from_rest first r rs zero row at = refl
 from_rest first r rs (suc j) row at =
-    let lt = get_within rs (suc j) row at in
+    let lt = slice_get_within rs (suc j) row at in
     let there = get_there rs j (omega (arith, lt)) in
     ap (λ o. option_map_or (λ (row : Row). input.Next row.evaluation) o (input.Next r.evaluation)) there.1
     ∙ sym (ap (λ o. option_map_or (λ (row : Row). input.Next row.evaluation) o first) there.1)
@@ -104,7 +105,7 @@ module _ {S : Type 0} (l : Lang S) where
       → AllFromScratch l d v
   from_scratch d older v facts sound p i pair row at is =
       let here = sound.each p pair at in
-      let lt = get_within (assigned_to v p).rows i row is in
+      let lt = slice_get_within (assigned_to v p).rows i row is in
       let head : Head = head_in v.nodes p pair (assigned_to v p).key in
       let homed = homed_at (numbered d.homes) pair.1 v.blobs pair.1.entries (assigned_to v p).rows (input.First head) i row
       here.stands.homed.evaluate here.stands.homed.print is in

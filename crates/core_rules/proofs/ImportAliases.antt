@@ -1,6 +1,7 @@
 -- The aliases of a node are told by what it rests on and by its own header.
 use Rattle.std.proofs.Common.{◌≡◌, ℕ, Bool, true, false, cond, List, [], ◌∷◌, ◌++◌, length, map, Option, Some, None, refl, ap, sym, ◌∙◌}
 use Rattle.std.proofs.lemmas.Bool.{false≢true}
+use Rattle.std.proofs.lemmas.Option.{slice_get_within}
 use Rattle.std.specs.Prelude.{slice_get}
 use Rattle.std.specs.List.{flat_map}
 use Rattle.std.specs.Option.{option_map_or}
@@ -24,7 +25,7 @@ use Rattle.core_rules.proofs.Tables.{AreOlder}
 use Rattle.core_rules.proofs.HomedRows.{RowsHomed}
 use Rattle.core_rules.proofs.Heads.{head_of, last_head}
 use Rattle.core_rules.proofs.Facts.{NodeFacts}
-use Rattle.core_rules.proofs.Places.{get_within, aims_found}
+use Rattle.core_rules.proofs.KnownPlaces.{aims_found}
 
 -- a node without commands has no imports and no aliases
 abbrev pub IsBare : List ℕ × Node → Type 0
@@ -69,7 +70,7 @@ module _ (nodes : NodeList) (facts : NodeFacts nodes) where
       let handed : handed_down nodes p ≡ [] = handed_at p pair at
       ∙ no_imports (is_ordered nodes p) p (aims_of nodes pair.1) (ap (map (place_of nodes)) parts.0) in
       let own : own_at nodes p ≡ [] = own_found p pair at ∙ ap (map (λ pair. (pair.name, pair.target))) parts.1 in
-      facts.fold p (get_within nodes p pair at) ∙ ap (λ xs. folded no_aliases (xs ++ own_at nodes p)) handed
+      facts.fold p (slice_get_within nodes p pair at) ∙ ap (λ xs. folded no_aliases (xs ++ own_at nodes p)) handed
       ∙ ap (folded no_aliases) own
 
   module _ (homes : List Home) (older : AreOlder homes) (blobs : BlobList) (assigned : ℕ → Assigned) where

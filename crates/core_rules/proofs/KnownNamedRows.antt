@@ -20,9 +20,8 @@ use Rattle.language.specs.Lang.{Lang}
 use Rattle.core_rules.specs.Doc.{Doc}
 use Rattle.core_rules.specs.FromScratch.{assigned_to, AllFromScratch}
 use Rattle.core_rules.specs.Placed.{RowOf}
-use Rattle.core_rules.proofs.Places.{place_found}
+use Rattle.core_rules.proofs.KnownPlaces.{place_found, rows_found}
 use Rattle.core_rules.proofs.AssignedRows.{IsIn, RowAt, assigned_at_row, node_in}
-use Rattle.core_rules.proofs.CoreLaw.{rows_found}
 use Rattle.core_rules.proofs.PlacedOnce.{stands_once}
 
 in_executions : (row : Row) (e : ℕ) → IsIn row e → has (executions row) e ≡ true

@@ -18,7 +18,7 @@ use Rattle.core_rules.specs.Parts.{made_by, lasts_of}
 use Rattle.core_rules.specs.FromScratch.{last_by, key_from}
 use Rattle.core_rules.proofs.Tables.{AtMost}
 use Rattle.core_rules.proofs.HomedRows.{evals}
-use Rattle.core_rules.proofs.Places.{place_found}
+use Rattle.core_rules.proofs.KnownPlaces.{place_found}
 use Rattle.core_rules.proofs.ImportAliases.{ImportStands}
 use Rattle.core_rules.proofs.TipNode.{evals_within}
 

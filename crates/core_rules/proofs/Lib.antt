@@ -10,9 +10,10 @@ mod SameCommands
 mod NodeMade
 mod Facts
 mod Heads
-mod Places
+pub mod KnownPlaces
 mod ImportAliases
 mod AliasesByKey
+pub mod KnownKeys
 pub mod KnownCommands
 mod Sound
 mod BeforeNode
@@ -41,6 +42,7 @@ mod NotCancelled
 mod CancelledLaw
 pub mod KnownMarks
 mod RowEvals
+pub mod KnownStuck
 mod Blocked
 mod RestLaw
 mod SettledLaw

@@ -1,8 +1,9 @@
 -- The version that an update makes is sound.
-use Rattle.std.proofs.Common.{◌≡◌, ℕ, zero, suc, ◌+◌, ◌<◌, ◌≤◌, true, false, List, [], ◌∷◌, ◌++◌, length, map, Some, refl, ap, sym, subst, ◌∙◌, arith, append_assoc, append-nil}
+use Rattle.std.proofs.Common.{◌≡◌, ℕ, ◌+◌, ◌<◌, ◌≤◌, true, false, List, [], ◌∷◌, ◌++◌, length, map, Some, refl, ap, sym, subst, ◌∙◌, arith, append_assoc, append-nil}
 use Rattle.std.proofs.lemmas.Bool.{or_right}
 use Rattle.std.proofs.lemmas.List.{length-map}
 use Rattle.std.proofs.lemmas.List.FromFn.{length-range_with_len}
+use Rattle.std.proofs.lemmas.Option.{slice_get_within}
 use Rattle.std.specs.Prelude.{slice_get}
 use Rattle.std.specs.List.{range_with_len, AllByRecursion}
 use Rattle.std.specs.Option.{option_map_or}
@@ -15,16 +16,17 @@ use Rattle.exec_rules.specs.declared.version.Version.{Version}
 use Rattle.exec_rules.specs.Kept.{BlobList}
 use Rattle.exec_rules.specs.Keys.{nothing, assigned_at, key_of}
 use Rattle.exec_rules.specs.Assigning.{Work, added, given, assign_one, assign_all, assigned_all}
+use Rattle.exec_rules.proofs.KnownThere.{get_there, all_at}
 use Rattle.core_rules.specs.Numbered.{grown, next_number}
 use Rattle.core_rules.specs.Doc.{Doc, update_of, assignment_of, version_of}
 use Rattle.core_rules.specs.FromScratch.{assigned_to, has_open}
 use Rattle.core_rules.specs.Updates.{FitsNode}
 use Rattle.core_rules.proofs.Facts.{Facts}
-use Rattle.core_rules.proofs.Places.{get_there, get_within, all_at}
 use Rattle.import_rounds.proofs.KnownHas.{has_both, has_itself}
 use Rattle.core_rules.proofs.ImportAliases.{Stands}
 use Rattle.core_rules.proofs.Sound.{IsSoundAt, IsSound, IsSoundTip}
-use Rattle.core_rules.proofs.Progress.{Progress, key_rests}
+use Rattle.core_rules.proofs.KnownKeys.{key_rests, listed}
+use Rattle.core_rules.proofs.Progress.{Progress}
 use Rattle.core_rules.proofs.Step.{step}
 
 module _ (facts : Facts) (d : Doc) (tip : IsSoundTip d) (nodes : NodeList) (blobs : BlobList)
@@ -60,14 +62,6 @@ module _ (facts : Facts) (d : Doc) (tip : IsSoundTip d) (nodes : NodeList) (blob
   abbrev pub new : Version
   new = version_of nodes blobs (assignment_of d nodes blobs)
 
-  listed : (done : List (ℕ × Assigned)) (a n p : ℕ) → p < n
-      → slice_get (map (assigned_at done) (range_with_len a n)) p ≡ Some (assigned_at done (a + p))
-  listed done a zero p lt = absurd (omega arith)
-  listed done a (suc n) zero lt = let e : a ≡ a + 0 = omega arith in ap (λ x. Some (assigned_at done x)) e
-  listed done a (suc n) (suc p) lt =
-      let e : a + 1 + p ≡ a + suc p = omega arith in
-      listed done (a + 1) n p (omega arith) ∙ ap (λ x. Some (assigned_at done x)) e
-
   -- what is assigned is listed by place
   pub listed_at : (p : ℕ) → p < length nodes → assigned_to new p ≡ assigned_at work.done p
   listed_at p lt =
@@ -88,7 +82,7 @@ module _ (facts : Facts) (d : Doc) (tip : IsSoundTip d) (nodes : NodeList) (blob
       sound_at : (p : ℕ) (pair : List ℕ × Node) → slice_get nodes p ≡ Some pair
           → IsSoundAt (grown d.homes (assignment_of d nodes blobs).homes) nodes blobs (assigned_to new) p pair
       sound_at p pair at =
-          let lt = get_within nodes p pair at in
+          let lt = slice_get_within nodes p pair at in
           let is = ((facts.nodes nodes).every p).1 lt in
           let done = all_done.each p pair is at in
           record {
@@ -104,5 +98,5 @@ module _ (facts : Facts) (d : Doc) (tip : IsSoundTip d) (nodes : NodeList) (blob
   pub new_covers : (p : ℕ) (pair : List ℕ × Node) → slice_get nodes p ≡ Some pair
       → wanted_at nodes p ≤ length (assigned_to new p).rows
   new_covers p pair at =
-      let is = ((facts.nodes nodes).every p).1 (get_within nodes p pair at) in
+      let is = ((facts.nodes nodes).every p).1 (slice_get_within nodes p pair at) in
       subst (λ (a : Assigned). wanted_at nodes p ≤ length a.rows) (same_assigned p is) (all_done.each p pair is at).covers

@@ -15,6 +15,7 @@ use Rattle.exec_rules.specs.Keys.{same_key}
 use Rattle.exec_rules.specs.Kept.{Times, same_blob, keeps, kept}
 use Rattle.exec_rules.specs.Rows.{live_print, live_prints, first_print, takes_print, behind, with_prints, behind_prints}
 use Rattle.exec_rules.specs.Assigning.{Update, times, assigned_in, entries_in, rows_in, kept_of, given}
+use Rattle.exec_rules.proofs.KnownGiven.{next_below}
 use Rattle.core_rules.proofs.Tables.{AtMost}
 use Rattle.core_rules.proofs.HomedRows.{evals}
 
@@ -87,17 +88,13 @@ print_not c m next true None all lt live = new_not c m next all lt
 print_not c m next true (Some q) all lt live = live
 print_not c m next false live all lt is = tt
 
-behind_not : (m next : ℕ) (b : Bool) → m < next → m < cond b (suc next) next
-behind_not m next true lt = omega arith
-behind_not m next false lt = lt
-
 rows_not : (c : List ℕ) (m : ℕ) → AtMost m c → (es : List Entry) (vs : List ℕ) (live : List (Option ℕ)) (next : ℕ) → NoneOf c vs
     → LiveNot c live → m < next → RowsNot c (with_prints es vs live next) × (m < behind_prints es vs live next)
 rows_not c m all [] vs live next a b lt = (tt, lt)
 rows_not c m all (e ∷ es) [] live next a b lt = (tt, lt)
 rows_not c m all (e ∷ es) (v ∷ vs) live next a b lt =
     let rest = rows_not c m all es vs (drop 1 live) (behind e (first_print live) next) a.1 (rest_not c live b)
-    (behind_not m next (takes_print e (first_print live)) lt) in
+    (next_below m next (takes_print e (first_print live)) lt) in
     (((a.0, print_not c m next e.visible (first_print live) all lt (first_not c live b)), rest.0), rest.1)
 
 module _ (u : Update) (m : ℕ) (all : AtMost m u.cancelled) where

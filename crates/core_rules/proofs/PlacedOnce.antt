@@ -1,5 +1,6 @@
 -- An execution stands at one place of a version.
 use Rattle.std.proofs.Common.{◌≡◌, inl, inr, ℕ, zero, suc, true, List, Option, Some, refl, ap, sym, subst, ◌∙◌, arith}
+use Rattle.std.proofs.lemmas.Option.{slice_get_within}
 use Rattle.std.specs.Prelude.{slice_get}
 use Rattle.std.specs.Option.{option_map_or}
 use Rattle.import_rounds.specs.Rounds.{has}
@@ -13,12 +14,12 @@ use Rattle.exec_rules.specs.declared.home.Input.TheVariants as input
 use Rattle.exec_rules.specs.declared.version.Version.{Version}
 use Rattle.exec_rules.specs.Listed.{executions}
 use Rattle.exec_rules.specs.Homes.{home}
+use Rattle.exec_rules.proofs.KnownThere.{get_there}
 use Rattle.language.specs.Lang.{Lang}
 use Rattle.core_rules.specs.Numbered.{numbered}
 use Rattle.core_rules.specs.Doc.{Doc}
 use Rattle.core_rules.specs.FromScratch.{assigned_to, head_in, input_at, PrintIs, IsFromScratch, AllFromScratch}
 use Rattle.core_rules.specs.Sources.{is_evaluation}
-use Rattle.core_rules.proofs.Places.{get_within, get_there}
 use Rattle.core_rules.proofs.AssignedRows.{IsIn, in_row}
 use Rattle.core_rules.proofs.HandedSources.{input_evaluates}
 use Rattle.core_rules.proofs.OneName.{one_name}
@@ -37,7 +38,7 @@ module _ {S : Type 0} (l : Lang S) (d : Doc) (v : Version) (sorted : IsSorted in
   behind : (p i : ℕ) (pair : List ℕ × Node) (row : Row) → slice_get (rows p) (suc i) ≡ Some row
       → (r : Row) × (slice_get (rows p) i ≡ Some r) × (input_at (head p pair) (rows p) (suc i) ≡ input.Next r.evaluation)
   behind p i pair row at =
-      let lt = get_within (rows p) (suc i) row at in
+      let lt = slice_get_within (rows p) (suc i) row at in
       let there = get_there (rows p) i (omega (arith, lt)) in (
         there.0,
         there.1,

@@ -1,5 +1,6 @@
 -- What an assigned evaluation takes up is assigned as well.
 use Rattle.std.proofs.Common.{◌≡◌, ℕ, zero, suc, List, [], ◌∷◌, length, map, find, Option, Some, None, refl, sym, subst, arith}
+use Rattle.std.proofs.lemmas.Option.{slice_get_within}
 use Rattle.std.specs.Prelude.{slice_get, filter_map}
 use Rattle.std.specs.Option.{option_map_or}
 use Rattle.std.specs.List.{AllByRecursion, cons_option}
@@ -14,9 +15,10 @@ use Rattle.exec_rules.specs.declared.home.Input.TheVariants as input
 use Rattle.exec_rules.specs.declared.version.Version.{Version}
 use Rattle.exec_rules.specs.Keys.{by_row, last_of, key_by}
 use Rattle.exec_rules.specs.Assigning.{entries_at}
+use Rattle.exec_rules.proofs.KnownThere.{get_there}
 use Rattle.core_rules.specs.FromScratch.{assigned_to, last_by, key_from, input_at}
 use Rattle.core_rules.specs.Parts.{made_by, lasts_of, sources_of}
-use Rattle.core_rules.proofs.Places.{get_within, get_there, place_found}
+use Rattle.core_rules.proofs.KnownPlaces.{place_found}
 use Rattle.core_rules.proofs.AssignedRows.{EvalRow}
 
 module _ (v : Version) where
@@ -63,7 +65,7 @@ module _ (v : Version) where
   sources_evals head p zero pair row node at key =
       subst (λ k. AllByRecursion (EvalRow v) (lasts_of k)) (sym key) (key_evals pair.1)
   sources_evals head p (suc i) pair row node at key =
-      let lt = get_within (assigned_to v p).rows (suc i) row at in
+      let lt = slice_get_within (assigned_to v p).rows (suc i) row at in
       let there = get_there (assigned_to v p).rows i (omega (arith, lt)) in
       subst (λ o. AllByRecursion (EvalRow v) (sources_of (option_map_or (λ (r : Row). input.Next r.evaluation) o (input.First head))))
       (sym there.1)

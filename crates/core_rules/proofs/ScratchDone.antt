@@ -1,6 +1,7 @@
 -- From nothing, each node's commands are run in what its executions work on.
 use Rattle.std.proofs.Common.{◌≡◌, ℕ, suc, ◌<◌, ◌⊎◌, inl, inr, true, false, cond, List, [], ◌∷◌, ◌++◌, length, find, Some, None, refl, ap, sym, subst, ◌∙◌, arith, append_assoc, append-nil}
 use Rattle.std.proofs.lemmas.Bool.{eq-eqb, eqb-true, or_right}
+use Rattle.std.proofs.lemmas.Option.{slice_get_within}
 use Rattle.std.specs.Prelude.{◌==◌, slice_get}
 use Rattle.std.specs.Option.{option_map_or}
 use Rattle.import_rounds.specs.Rounds.{has}
@@ -11,6 +12,7 @@ use Rattle.exec_rules.specs.declared.row.Row.{Row}
 use Rattle.exec_rules.specs.declared.home.Home.{Home}
 use Rattle.exec_rules.specs.declared.home.Input.TheVariants as input
 use Rattle.exec_rules.specs.declared.version.Version.{Version}
+use Rattle.exec_rules.proofs.KnownThere.{get_there}
 use Rattle.language.specs.Lang.{Lang}
 use Rattle.core_rules.specs.Settings.{imports_by, begun}
 use Rattle.core_rules.specs.FromScratch.{assigned_to, has_open, head_in}
@@ -18,10 +20,10 @@ use Rattle.core_rules.specs.Scratch.{Run, Runs, run_from, begins_at, run_node, r
 use Rattle.core_rules.proofs.Tables.{AreOlder}
 use Rattle.core_rules.proofs.HomedRows.{evals}
 use Rattle.core_rules.proofs.Facts.{NodeFacts}
-use Rattle.core_rules.proofs.Places.{among_by, get_there, get_within}
+use Rattle.core_rules.proofs.KnownPlaces.{among_by}
 use Rattle.import_rounds.proofs.KnownHas.{has_both, has_itself}
 use Rattle.core_rules.proofs.Sound.{IsSound}
-use Rattle.core_rules.proofs.Progress.{AreInside, other_place}
+use Rattle.core_rules.proofs.KnownKeys.{AreInside, other_place}
 use Rattle.core_rules.proofs.SettingsBy.{behind}
 use Rattle.core_rules.proofs.RunAgree.{Agree, evals_agree}
 use Rattle.core_rules.proofs.ScratchStep.{IsRun, imports_are, bare_begins}
@@ -121,6 +123,6 @@ module _ {S : Type 0} (l : Lang S) (homes : List Home) (older : AreOlder homes) 
       → Agree l homes older pair.1 v.blobs (evals (assigned_to v p).rows) (scratch_at l v.nodes v.blobs p)
   scratch_agrees p pair at =
       let done = all (order v.nodes) [] [] refl (λ q other is there. absurd (cc)) p pair
-      ((facts.every p).1 (get_within v.nodes p pair at)) at in
+      ((facts.every p).1 (slice_get_within v.nodes p pair at)) at in
       subst (Agree l homes older pair.1 v.blobs (evals (assigned_to v p).rows))
       (sym (ap (λ o. option_map_or (λ (one : ℕ × Run S). one.1.commands) o []) done.found)) done.agree

@@ -24,12 +24,12 @@ use Rattle.core_rules.specs.Scratch.{run_from, state_after, Run, Runs, final, fi
 use Rattle.core_rules.proofs.Tables.{AreOlder}
 use Rattle.core_rules.proofs.HomedRows.{evals}
 use Rattle.core_rules.proofs.Facts.{NodeFacts}
-use Rattle.core_rules.proofs.Places.{place_found}
+use Rattle.core_rules.proofs.KnownPlaces.{place_found}
 use Rattle.core_rules.proofs.ImportAliases.{IsBare, bare_aliases}
 use Rattle.core_rules.proofs.AliasesByKey.{entries_found}
-use Rattle.core_rules.proofs.Progress.{AreInside}
 use Rattle.core_rules.proofs.SettingsBy.{behind}
 use Rattle.core_rules.proofs.RunAgree.{Agree, last_behind}
+use Rattle.core_rules.proofs.KnownKeys.{AreInside}
 
 -- a node that is run
 pub record IsRun {S : Type 0} (l : Lang S) (homes : List Home) (older : AreOlder homes) (blobs : BlobList)

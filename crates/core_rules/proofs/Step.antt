@@ -1,11 +1,10 @@
 -- One node more in an update.
-use Rattle.std.proofs.Common.{◌≡◌, ℕ, suc, ◌<◌, ◌≤◌, ◌⊎◌, inl, inr, true, false, List, [], ◌∷◌, ◌++◌, length, Option, Some, None, refl, ap, sym, subst, ◌∙◌, arith}
-use Rattle.std.proofs.lemmas.Bool.{eqb-true, and_from, or_left, and_parts}
+use Rattle.std.proofs.Common.{◌≡◌, ℕ, suc, ◌<◌, ◌≤◌, ◌⊎◌, inl, inr, true, false, List, [], ◌∷◌, ◌++◌, length, Some, refl, ap, sym, subst, ◌∙◌, arith}
+use Rattle.std.proofs.lemmas.Bool.{eqb-true}
 use Rattle.std.specs.Prelude.{◌==◌, slice_get}
-use Rattle.std.specs.List.{list_all}
-use Rattle.import_rounds.specs.Rounds.{has, is_known}
+use Rattle.import_rounds.specs.Rounds.{has}
 use Rattle.doc_nodes.specs.declared.node.Node.{Node}
-use Rattle.doc_nodes.specs.Imports.{NodeList, place_of, order}
+use Rattle.doc_nodes.specs.Imports.{NodeList, order}
 use Rattle.doc_nodes.specs.Wanted.{wanted_at}
 use Rattle.exec_rules.specs.declared.row.Assigned.{Assigned}
 use Rattle.exec_rules.specs.declared.home.Home.{Home}
@@ -19,11 +18,12 @@ use Rattle.core_rules.specs.FromScratch.{has_open}
 use Rattle.core_rules.specs.Updates.{FitsNode}
 use Rattle.core_rules.proofs.Tables.{AtMost, AreOlder}
 use Rattle.core_rules.proofs.Facts.{Facts}
-use Rattle.core_rules.proofs.Places.{among_by}
+use Rattle.core_rules.proofs.KnownPlaces.{among_by}
 use Rattle.import_rounds.proofs.KnownHas.{has_both}
 use Rattle.core_rules.proofs.ImportAliases.{Stands}
 use Rattle.core_rules.proofs.Sound.{IsSoundTip, stands_on, extends_grown}
-use Rattle.core_rules.proofs.Progress.{AreInside, IsDone, Progress, key_is, key_rests, assigned_other, assigned_newest, other_place}
+use Rattle.core_rules.proofs.KnownKeys.{key_is, key_rests, assigned_other, assigned_newest, other_place, inside_more}
+use Rattle.core_rules.proofs.Progress.{IsDone, Progress}
 use Rattle.core_rules.proofs.LastWithin.{key_within}
 use Rattle.core_rules.proofs.GivenNode.{given_older, given_homed, given_long, given_next}
 use Rattle.core_rules.proofs.StepNode.{update, key, kept, inside, stand, before, count_within, shut}
@@ -32,17 +32,6 @@ use Rattle.exec_rules.proofs.KnownCounts.{greater_least, greater_most}
 grown_both : (xs ys zs : List Home) → grown xs (ys ++ zs) ≡ grown (grown xs ys) zs
 grown_both xs [] zs = refl
 grown_both xs (y ∷ ys) zs = grown_both (y ∷ xs) ys zs
-
-pub inside_more : (nodes : NodeList) (front : List ℕ) (p : ℕ) (names : List (List ℕ)) → AreInside nodes front names
-    → AreInside nodes (front ++ p ∷ []) names
-inside_more nodes front p [] known = refl
-inside_more nodes front p (name ∷ names) known =
-    let parts = and_parts (is_known front (place_of nodes name)) (list_all (λ x. is_known front (place_of nodes x)) names) known in
-    and_from _ _ (one (place_of nodes name) parts.0) (inside_more nodes front p names parts.1)
-  where
-    one : (o : Option ℕ) → is_known front o ≡ true → is_known (front ++ p ∷ []) o ≡ true
-    one None known = absurd (cc)
-    one (Some q) known = has_both front (p ∷ []) q ∙ or_left (has front q) (has (p ∷ []) q) known
 
 module _ (facts : Facts) (d : Doc) (tip : IsSoundTip d) (nodes : NodeList) (blobs : BlobList) (w : Work)
     (front rest : List ℕ) (p : ℕ) (pair : List ℕ × Node) (at : slice_get nodes p ≡ Some pair) (fits : FitsNode d pair)

@@ -22,12 +22,13 @@ use Rattle.core_rules.specs.Updates.{FitsNode}
 use Rattle.core_rules.proofs.KnownNumbers.{length_grown}
 use Rattle.core_rules.proofs.NodeMade.{Before}
 use Rattle.core_rules.proofs.Facts.{Facts}
-use Rattle.core_rules.proofs.Places.{place_found}
+use Rattle.core_rules.proofs.KnownPlaces.{place_found}
 use Rattle.core_rules.proofs.ImportAliases.{ImportStands}
 use Rattle.core_rules.proofs.Sound.{IsSoundTip, extends_grown}
+use Rattle.core_rules.proofs.KnownKeys.{AreInside, key_is}
 use Rattle.core_rules.proofs.TipKept.{before_node, kept_shut}
 use Rattle.core_rules.proofs.WantedImports.{all_shut}
-use Rattle.core_rules.proofs.Progress.{AreInside, Progress, key_is}
+use Rattle.core_rules.proofs.Progress.{Progress}
 use Rattle.core_rules.proofs.GivenNode.{front_within}
 
 -- where the greater of two is positive, one of them is

@@ -27,7 +27,7 @@ use Rattle.core_rules.proofs.SameCommands.{same_front}
 use Rattle.exec_rules.proofs.KnownKept.{kept_rows}
 use Rattle.core_rules.proofs.KnownCommands.{same_sources, differ_at, most_at}
 use Rattle.core_rules.proofs.Facts.{Facts}
-use Rattle.core_rules.proofs.Places.{FoundAt, place_found}
+use Rattle.core_rules.proofs.KnownPlaces.{FoundAt, place_found}
 use Rattle.core_rules.proofs.ImportAliases.{ImportStands}
 use Rattle.core_rules.proofs.AliasesByKey.{entries_found}
 use Rattle.core_rules.proofs.Sound.{IsSoundAt, IsSoundTip, sound_on}

@@ -17,9 +17,10 @@ use Rattle.exec_rules.specs.declared.row.Row.{Row}
 use Rattle.exec_rules.specs.declared.row.Assigned.{Assigned}
 use Rattle.exec_rules.specs.Keys.{by_row, last_of}
 use Rattle.exec_rules.specs.Assigning.{entries_at}
+use Rattle.exec_rules.proofs.KnownThere.{get_there}
 use Rattle.core_rules.specs.FromScratch.{last_by, is_open_last}
 use Rattle.core_rules.proofs.Facts.{NodeFacts}
-use Rattle.core_rules.proofs.Places.{place_found, aims_found, get_there}
+use Rattle.core_rules.proofs.KnownPlaces.{place_found, aims_found}
 use Rattle.core_rules.proofs.AliasesByKey.{entries_found}
 
 -- an import that is a node is aimed at

@@ -12,7 +12,8 @@ use Rattle.exec_rules.specs.declared.row.Row.{Row}
 use Rattle.exec_rules.specs.declared.row.Assigned.{Assigned}
 use Rattle.exec_rules.specs.Keys.{nothing, assigned_at, key_of}
 use Rattle.exec_rules.specs.Assigning.{Update, Work, given, assign_one, assign_all, assigned_all, assignment}
-use Rattle.exec_assign.proofs.WorkLemmas.{at_more, one_none, one_some, given_rises, one_rises}
+use Rattle.exec_rules.proofs.KnownGiven.{given_rises}
+use Rattle.exec_assign.proofs.WorkLemmas.{at_more, one_none, one_some, one_rises}
 
 module _ (u : Update) (first : ℕ) (P : ℕ → ℕ → List Row → Type 0)
     (up : (m n p : ℕ) (rows : List Row) → m ≤ n → P m p rows → P n p rows)

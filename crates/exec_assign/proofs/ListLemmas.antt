@@ -1,5 +1,5 @@
 -- What an update tells of its nodes, by place.
-use Rattle.std.proofs.Common.{◌≡◌, ℕ, zero, suc, ◌+◌, ◌<◌, ◌≤◌, Bool, true, false, cond, List, [], ◌∷◌, ◌++◌, length, map, filter, drop, get_or, Option, Some, refl, sym, ap, ◌∙◌, arith, append_assoc, append-nil}
+use Rattle.std.proofs.Common.{◌≡◌, ℕ, zero, suc, ◌+◌, ◌<◌, ◌≤◌, Bool, true, false, cond, List, [], ◌∷◌, ◌++◌, length, map, filter, drop, get_or, Option, Some, refl, sym, ap, ◌∙◌, append_assoc, append-nil}
 use Rattle.std.proofs.lemmas.List.{drop_more, drop_all}
 use Rattle.std.specs.Prelude.{slice_get, not}
 use Rattle.std.specs.Option.{option_map_or, option_and_then}
@@ -14,6 +14,7 @@ use Rattle.exec_rules.specs.declared.row.Assigned.{Assigned}
 use Rattle.exec_rules.specs.Keys.{nothing}
 use Rattle.exec_rules.specs.Assigning.{Update, entries_at, rows_in}
 use Rattle.exec_rules.specs.Listed.{Told, told, told_in, is_other, listed}
+use Rattle.exec_rules.proofs.KnownThere.{get_there}
 use Rattle.exec_assign.specs.Telling.{made_by}
 use Rattle.exec_assign.specs.Told.{told_at}
 use Rattle.exec_assign.specs.Work.{HasStood}
@@ -69,17 +70,12 @@ filter_one test x xs = go (test x)
 abbrev pub told_of : Update → List Assigned → NodeList → List (List ℕ × List Told)
 told_of u all nodes = filter (is_other u.tip) (map (λ pair. (pair.0, told_in (made_by u all) pair.0)) nodes)
 
-slice_there : {X : Type 0} (xs : List X) (i : ℕ) → i < length xs → (x : X) × (slice_get xs i ≡ Some x)
-slice_there [] i lt = absurd (omega arith)
-slice_there (x ∷ xs) zero lt = (x, refl)
-slice_there (x ∷ xs) (suc i) lt = slice_there xs i (omega arith)
-
 -- the next node
 pub told_more : (u : Update) (made : List Assigned) (p : ℕ) (before more all : List (List ℕ × List Told)) → IsSorted in_order u.nodes → p < length u.nodes
     → ((pair : List ℕ × Node) → slice_get u.nodes p ≡ Some pair → more ≡ before ++ filter (is_other u.tip) (told_at made p pair ∷ []))
     → before ++ told_of u made (drop p u.nodes) ≡ all → more ++ told_of u made (drop (p + 1) u.nodes) ≡ all
 told_more u made p before more all sorted lt here done =
-    let found = slice_there u.nodes p lt in
+    let found = get_there u.nodes p lt in
     let pair : List ℕ × Node = found.0 in
     let rest = told_of u made (drop (p + 1) u.nodes) in
     let nodes : drop p u.nodes ≡ pair ∷ drop (p + 1) u.nodes =

@@ -10,10 +10,11 @@ use Rattle.exec_rules.specs.declared.row.Assigned.{Assigned}
 use Rattle.exec_rules.specs.declared.home.Home.{Home}
 use Rattle.exec_rules.specs.Keys.{nothing, assigned_at, key_of}
 use Rattle.exec_rules.specs.Assigning.{Update, Given, Work, given, added, assign_one}
+use Rattle.exec_rules.proofs.KnownGiven.{given_rises}
 use Rattle.exec_assign.specs.Found.{AreAssigned}
 use Rattle.exec_assign.specs.Standing.{Stands}
 use Rattle.exec_assign.specs.Work.{HasStood, IsWork}
-use Rattle.exec_assign.proofs.WorkLemmas.{assigned_more, stood_more, one_some, given_rises}
+use Rattle.exec_assign.proofs.WorkLemmas.{assigned_more, stood_more, one_some}
 
 by_places : {X : Type 0} (f : ℕ → X) (d : X) (xs : List X) (a : ℕ) → ((i : ℕ) → i < length xs → get_or xs i d ≡ f (a + i))
     → xs ≡ map f (range_with_len a (length xs))

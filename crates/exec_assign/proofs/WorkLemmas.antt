@@ -1,5 +1,5 @@
 -- The nodes of an update, one after the other.
-use Rattle.std.proofs.Common.{◌≡◌, ℕ, ◌+◌, ◌-◌, ◌<◌, ◌≤◌, Bool, true, false, cond, List, [], ◌∷◌, length, drop, get_or, set, eqb, Option, Some, None, refl, sym, ap, subst, ◌∙◌, arith}
+use Rattle.std.proofs.Common.{◌≡◌, ℕ, ◌+◌, ◌<◌, ◌≤◌, Bool, true, false, cond, List, [], ◌∷◌, length, drop, get_or, set, eqb, Option, Some, None, refl, sym, ap, subst, ◌∙◌, arith}
 use Rattle.std.proofs.lemmas.List.{get_or-set_same, get_or-set_other, drop_more, drop_all}
 use Rattle.std.proofs.lemmas.Bool.Decides.{nat_tests}
 use Rattle.std.specs.Prelude.{find, slice_get}
@@ -9,15 +9,12 @@ use Rattle.doc_nodes.specs.declared.node.Node.{Node}
 use Rattle.doc_nodes.specs.Imports.{order}
 use Rattle.doc_nodes.specs.Graph.{Graph}
 use Rattle.doc_nodes.specs.Graphs.{IsGraphOf}
-use Rattle.exec_rules.specs.declared.key.Key.{Key}
 use Rattle.exec_rules.specs.declared.row.Assigned.{Assigned}
 use Rattle.exec_rules.specs.Keys.{nothing, assigned_at, key_of}
-use Rattle.exec_rules.specs.Rows.{evaluations, live_prints}
-use Rattle.exec_rules.specs.Assigning.{Update, Work, rows_in, kept_of, greater, given, added, assign_one, assign_all, assigned_all}
-use Rattle.doc_nodes.specs.Wanted.{wanted_at}
+use Rattle.exec_rules.specs.Assigning.{Update, Work, given, added, assign_one, assign_all, assigned_all}
+use Rattle.exec_rules.proofs.KnownGiven.{given_rises}
 use Rattle.exec_assign.specs.Found.{AreAssigned}
 use Rattle.exec_assign.specs.Work.{HasStood, HaveStood}
-use Rattle.exec_assign.proofs.RowSteps.{behind_rises}
 
 pub at_more : (done : List (ℕ × Assigned)) (p q : ℕ) (a : Assigned) (b : Bool) → eqb p q ≡ b
     → assigned_at ((p, a) ∷ done) q ≡ cond b a (assigned_at done q)
@@ -62,12 +59,6 @@ one_none u work p at = ap (λ (o : Option (List ℕ × Node)). option_map_or (λ
 pub one_some : (u : Update) (work : Work) (p : ℕ) (pair : List ℕ × Node) → slice_get u.nodes p ≡ Some pair
     → assign_one u work p ≡ added work p (given u p pair (key_of u.nodes work.done pair.1) work.next)
 one_some u work p pair at = ap (λ (o : Option (List ℕ × Node)). option_map_or (λ pair. added work p (given u p pair (key_of u.nodes work.done pair.1) work.next)) o work) at
-
-pub given_rises : (u : Update) (p : ℕ) (pair : List ℕ × Node) (key : Key) (next : ℕ) → next ≤ (given u p pair key next).next
-given_rises u p pair key next =
-    let k = kept_of u pair key in
-    let n = greater k (wanted_at u.nodes p) in
-    omega (arith, behind_rises pair.1.entries (evaluations (rows_in u.tip pair.0) k n next) (live_prints u.cancelled (rows_in u.tip pair.0) k) (next + (n - k)))
 
 pub one_rises : (u : Update) (work : Work) (p : ℕ) → work.next ≤ (assign_one u work p).next
 one_rises u work p = go (slice_get u.nodes p)

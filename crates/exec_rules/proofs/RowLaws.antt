@@ -13,8 +13,9 @@ use Rattle.doc_nodes.specs.Prefix.{wanted_prefix, own_wanted}
 use Rattle.doc_nodes.specs.Wanted.{is_reached, wanted_at}
 use Rattle.exec_rules.specs.declared.key.Key.{Key}
 use Rattle.exec_rules.specs.Kept.{kept}
-use Rattle.exec_rules.specs.Assigning.{Update, rows_in, kept_of, greater, given}
+use Rattle.exec_rules.specs.Assigning.{Update, rows_in, kept_of, greater}
 use Rattle.exec_rules.proofs.KnownCounts.{evaluations_long, kept_of_commands, kept_of_rows, all_or, greater_within, greater_least, greater_most}
+use Rattle.exec_rules.proofs.KnownGiven.{rows_given}
 use Rattle.exec_rules.proofs.RowParts.{rows_evaluate, front_at, behind_at}
 
 -- no more are wanted than there are commands
@@ -26,10 +27,6 @@ wanted_commands within nodes p pair at =
     (sym at)
     (all_or (is_reached nodes p) (own_wanted pair.1) (length pair.1.entries)
     (all_or pair.1.required (wanted_prefix pair.1.entries) (length pair.1.entries) (within pair.1.entries)))
-
--- the rows that a node is given
-abbrev rows_given : Update → ℕ → List ℕ × Node → Key → ℕ → List Row
-rows_given u p pair key next = (given u p pair key next).assigned.rows
 
 -- how many of its commands are assigned
 abbrev count_given : Update → ℕ → List ℕ × Node → Key → ℕ

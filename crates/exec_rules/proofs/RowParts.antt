@@ -7,6 +7,7 @@ use Rattle.std.specs.Option.{option_map_or}
 use Rattle.doc_nodes.specs.declared.node.Entry.{Entry}
 use Rattle.exec_rules.specs.declared.row.Row.{Row}
 use Rattle.exec_rules.specs.Rows.{evaluations, live_print, live_prints, first_print, print_of, behind, with_prints}
+use Rattle.exec_rules.proofs.KnownGiven.{live_at, first_live, rest_live}
 
 -- the rows have these evaluations
 pub rows_evaluate : (es : List Entry) (vs : List ℕ) (live : List (Option ℕ)) (m : ℕ) → length vs ≤ length es
@@ -33,18 +34,6 @@ rows_print (e ∷ es) (v ∷ vs) live m zero row at =
     ∙ ap (λ (r : Row). is_some r.print) same)
 rows_print (e ∷ es) (v ∷ vs) live m (suc i) row at =
     rows_print es vs (drop 1 live) (behind e (first_print live) m) i row at
-
--- the print that can be kept at a place
-abbrev pub live_at : List (Option ℕ) → ℕ → Option ℕ
-live_at live i = option_map_or (λ print. print) (slice_get live i) None
-
-first_live : (live : List (Option ℕ)) → first_print live ≡ live_at live zero
-first_live [] = refl
-first_live (x ∷ xs) = refl
-
-rest_live : (live : List (Option ℕ)) (i : ℕ) → live_at (drop 1 live) i ≡ live_at live (suc i)
-rest_live [] i = refl
-rest_live (x ∷ xs) i = refl
 
 kept_first : (v : Bool) (live : Option ℕ) (m print : ℕ) → live ≡ Some print
     → IsSome (cond v (Some (option_map_or (λ p. p) live m)) None)

@@ -22,6 +22,7 @@ use Rattle.core_rules.specs.Ready.{is_part, has_inputs}
 use Rattle.core_rules.specs.Sources.{is_evaluation, IsSource, HasHome}
 use Rattle.core_rules.specs.Stuck.{is_marked, is_stuck, is_over, is_settled}
 use Rattle.core_rules.proofs.KnownMarks.{marks}
+use Rattle.core_rules.proofs.KnownStuck.{OverBy, one_stuck}
 use Rattle.prover_core.specs.Progress.{part}
 use Rattle.prover_core.proofs.KindsNext.{among_kinds}
 use Rattle.prover_core.proofs.PartKinds.{all_kinds, fork_evaluates, evaluation_among}
@@ -38,20 +39,7 @@ module _ {S : Type 0} (l : Lang S) (h : List Event) (v : Version) (homes : (e : 
 
   -- its evaluation is finished or stuck
   abbrev Over : ℕ → Type 0
-  Over e = (is_finished h (evaluation e) || marked e) ≡ true
-
-  -- something that is waited for and unfinished is stuck
-  one_stuck : (es : List ℕ) → AllByRecursion Over es → list_all (λ e. is_finished h (evaluation e)) es ≡ false
-      → list_any marked es ≡ true
-  one_stuck [] all open_ = absurd (true≢false open_)
-  one_stuck (e ∷ es) all open_ = go (is_finished h (evaluation e)) refl all.0 open_ (one_stuck es all.1)
-    where
-      go : (b : Bool) → is_finished h (evaluation e) ≡ b → (b || marked e) ≡ true
-          → (b && list_all (λ x. is_finished h (evaluation x)) es) ≡ false
-          → (list_all (λ x. is_finished h (evaluation x)) es ≡ false → list_any marked es ≡ true)
-          → (marked e || list_any marked es) ≡ true
-      go true same over open_ rest = or_right (marked e) (list_any marked es) (rest open_)
-      go false same over open_ rest = ap (λ b. b || list_any marked es) over
+  Over e = OverBy h marked e
 
   -- a part is finished or stuck, where all that it waits for is
   part_over : (p : Part) → assigns v p.exec ≡ true → is_part l d.homes p ≡ true → AllByRecursion Over (waits_for d.homes p)
@@ -62,7 +50,7 @@ module _ {S : Type 0} (l : Lang S) (h : List Event) (v : Version) (homes : (e : 
           → (a || (not a && (has d.cancelled p.exec || list_any marked (waits_for d.homes p)))) ≡ true
       go true x b y = refl
       go false x true y = or_left (has d.cancelled p.exec) (list_any marked (waits_for d.homes p)) (lost p is made x y)
-      go false x false y = or_right (has d.cancelled p.exec) (list_any marked (waits_for d.homes p)) (one_stuck (waits_for d.homes p) all y)
+      go false x false y = or_right (has d.cancelled p.exec) (list_any marked (waits_for d.homes p)) (one_stuck h marked (waits_for d.homes p) all y)
 
   module _ (e : ℕ) (is : assigns v e ≡ true) where
     abbrev x : HasHome l d v e

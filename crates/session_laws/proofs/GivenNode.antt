@@ -1,20 +1,16 @@
 -- What an update gives a node: by a key that rests on its imports, and with new numbers.
-use Rattle.std.proofs.Common.{◌≡◌, ℕ, zero, suc, ◌+◌, ◌-◌, ◌<◌, ◌≤◌, ◌↔◌, ◌⊎◌, inl, inr, true, false, List, [], ◌∷◌, ◌++◌, length, find, None, Some, refl, ap, sym, subst, ◌∙◌, arith}
+use Rattle.std.proofs.Common.{◌≡◌, ℕ, ◌<◌, ◌↔◌, ◌⊎◌, inl, inr, true, false, List, [], ◌∷◌, ◌++◌, length, find, None, Some, ap, sym, subst, ◌∙◌}
 use Rattle.std.proofs.lemmas.Bool.{eqb-true, or_cases}
 use Rattle.std.specs.Prelude.{◌==◌, slice_get}
 use Rattle.import_rounds.specs.Rounds.{has}
 use Rattle.import_rounds.proofs.KnownHas.{has_both}
 use Rattle.doc_nodes.specs.declared.node.Node.{Node}
 use Rattle.doc_nodes.specs.Imports.{NodeList, is_bad, order}
-use Rattle.doc_nodes.specs.Wanted.{wanted_at}
-use Rattle.exec_rules.specs.declared.key.Key.{Key}
 use Rattle.exec_rules.specs.declared.row.Assigned.{Assigned}
 use Rattle.exec_rules.specs.Keys.{assigned_at}
-use Rattle.exec_rules.specs.Rows.{evaluations, live_prints}
-use Rattle.exec_rules.specs.Assigning.{Update, Work, greater, given, kept_of, rows_in}
-use Rattle.exec_rules.proofs.KnownNumbers.{print_numbers}
+use Rattle.exec_rules.specs.Assigning.{Update, Work, given}
 use Rattle.core_rules.specs.FromScratch.{key_from}
-use Rattle.session_laws.proofs.KeyRests.{AreInside, key_rests}
+use Rattle.core_rules.proofs.KnownKeys.{AreInside, key_rests}
 
 -- the order of imports
 pub record InOrder (nodes : NodeList) : Type 0 where
@@ -37,11 +33,6 @@ pub record AreGiven (u : Update) (made : ℕ) (w : Work) (front : List ℕ) : Ty
   pub each : (p : ℕ) (pair : List ℕ × Node) → has front p ≡ true → slice_get u.nodes p ≡ Some pair
       → IsGiven u made (assigned_at w.done) front p pair
 
-pub get_there : {A : Type 0} (xs : List A) (i : ℕ) → i < length xs → (x : A) × (slice_get xs i ≡ Some x)
-get_there [] i lt = absurd (omega arith)
-get_there (y ∷ xs) zero lt = (y, refl)
-get_there (y ∷ xs) (suc i) lt = get_there xs i (omega arith)
-
 pub among : (front : List ℕ) (p q : ℕ) → has (front ++ p ∷ []) q ≡ true → (has front q ≡ true) ⊎ (q ≡ p)
 among front p q is = go (or_cases (has front q) (has (p ∷ []) q) (sym (has_both front (p ∷ []) q) ∙ is))
   where
@@ -52,13 +43,6 @@ among front p q is = go (or_cases (has front q) (has (p ∷ []) q) (sym (has_bot
     go : (has front q ≡ true) ⊎ (has (p ∷ []) q ≡ true) → (has front q ≡ true) ⊎ (q ≡ p)
     go (inl there) = inl there
     go (inr here) = inr (last (or_cases (q == p) false here))
-
-pub given_more : (u : Update) (p : ℕ) (pair : List ℕ × Node) (key : Key) (next : ℕ) → next ≤ (given u p pair key next).next
-given_more u p pair key next =
-    let k = kept_of u pair key in
-    let n = greater k (wanted_at u.nodes p) in
-    subst (λ m. next ≤ m) (sym (print_numbers pair.1 u.blobs pair.1.entries (evaluations (rows_in u.tip pair.0) k n next)
-    (live_prints u.cancelled (rows_in u.tip pair.0) k) (next + (n - k)))) (omega arith)
 
 -- it stays so where the imports do
 pub given_on : (u : Update) (made : ℕ) (a b : ℕ → Assigned) (front more : List ℕ) → ((q : ℕ) → has front q ≡ true → a q ≡ b q)

@@ -1,8 +1,7 @@
 -- What an update gives all nodes, one after the other in the order of imports.
-use Rattle.std.proofs.Common.{◌≡◌, ℕ, zero, suc, ◌+◌, ◌<◌, ◌⊎◌, inl, inr, true, List, [], ◌∷◌, ◌++◌, length, map, Some, refl, ap, sym, subst, ◌∙◌, arith, append_assoc, append-nil}
+use Rattle.std.proofs.Common.{◌≡◌, ℕ, ◌+◌, ◌<◌, ◌⊎◌, inl, inr, true, List, [], ◌∷◌, ◌++◌, length, Some, refl, ap, sym, subst, ◌∙◌, arith, append_assoc, append-nil}
 use Rattle.std.proofs.lemmas.Option.{slice_get_within}
 use Rattle.std.specs.Prelude.{◌==◌, slice_get}
-use Rattle.std.specs.List.{range_with_len}
 use Rattle.std.specs.Option.{option_map_or}
 use Rattle.import_rounds.specs.Rounds.{has}
 use Rattle.import_rounds.proofs.KnownHas.{has_middle}
@@ -12,10 +11,12 @@ use Rattle.exec_rules.specs.declared.row.Assigned.{Assigned}
 use Rattle.exec_rules.specs.declared.version.Version.{Version}
 use Rattle.exec_rules.specs.Keys.{nothing, assigned_at, key_of}
 use Rattle.exec_rules.specs.Assigning.{Update, Work, Given, added, given, assign_one, assign_all, assigned_all, assignment}
+use Rattle.exec_rules.proofs.KnownThere.{get_there}
+use Rattle.exec_rules.proofs.KnownGiven.{given_rises}
 use Rattle.core_rules.specs.Doc.{version_of}
 use Rattle.core_rules.specs.FromScratch.{assigned_to}
-use Rattle.session_laws.proofs.KeyRests.{key_is, key_rests, assigned_other, assigned_newest, other_place, inside_more}
-use Rattle.session_laws.proofs.GivenNode.{InOrder, IsGiven, AreGiven, among, get_there, given_more, given_on}
+use Rattle.core_rules.proofs.KnownKeys.{key_is, key_rests, assigned_other, assigned_newest, other_place, inside_more, listed}
+use Rattle.session_laws.proofs.GivenNode.{InOrder, IsGiven, AreGiven, among, given_on}
 
 module _ (u : Update) (made : ℕ) (facts : InOrder u.nodes) where
   module _ (w : Work) (front rest : List ℕ) (p : ℕ) (pair : List ℕ × Node) (at : slice_get u.nodes p ≡ Some pair)
@@ -53,7 +54,7 @@ module _ (u : Update) (made : ℕ) (facts : InOrder u.nodes) where
 
     pub step : AreGiven u made (added w p g) (front ++ p ∷ [])
     step = record {
-      next = let more = given_more u p pair (key_of u.nodes w.done pair.1) w.next in omega (arith, more, so.next);
+      next = let more = given_rises u p pair (key_of u.nodes w.done pair.1) w.next in omega (arith, more, so.next);
       each = λ q other is there. each_given q other (among front p q is) there;
     }
 
@@ -76,14 +77,6 @@ module _ (u : Update) (made : ℕ) (facts : InOrder u.nodes) where
     all_given : AreGiven u made (assigned_all u first) (order u.nodes)
     all_given = all (order u.nodes) [] (record { done = []; homes = []; next = first }) refl
         (record { next = less; each = λ p pair is at. absurd (cc) })
-
-    listed : (done : List (ℕ × Assigned)) (a n p : ℕ) → p < n
-        → slice_get (map (assigned_at done) (range_with_len a n)) p ≡ Some (assigned_at done (a + p))
-    listed done a zero p lt = absurd (omega arith)
-    listed done a (suc n) zero lt = let e : a ≡ a + 0 = omega arith in ap (λ x. Some (assigned_at done x)) e
-    listed done a (suc n) (suc p) lt =
-        let e : a + 1 + p ≡ a + suc p = omega arith in
-        listed done (a + 1) n p (omega arith) ∙ ap (λ x. Some (assigned_at done x)) e
 
     abbrev pub new : Version
     new = version_of u.nodes u.blobs (assignment u first)

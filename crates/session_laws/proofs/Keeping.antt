@@ -13,23 +13,21 @@ use Rattle.exec_rules.specs.declared.version.Version.{Version}
 use Rattle.exec_rules.specs.Kept.{BlobList}
 use Rattle.exec_rules.specs.Listed.{print_list}
 use Rattle.exec_rules.specs.Rows.{evaluations, live_prints}
-use Rattle.exec_rules.specs.Assigning.{Update, given, greater, kept_of, rows_in}
+use Rattle.exec_rules.specs.Assigning.{Update, greater, kept_of, rows_in}
 use Rattle.exec_rules.proofs.KnownCounts.{kept_of_rows}
+use Rattle.exec_rules.proofs.KnownGiven.{live_at, rows_given}
 use Rattle.exec_rules.proofs.KnownListed.{in_print}
+use Rattle.exec_rules.proofs.KnownThere.{get_there}
 use Rattle.core_rules.specs.Numbered.{next_number}
 use Rattle.core_rules.specs.Doc.{Doc, assignment_of, update_of, version_of}
 use Rattle.core_rules.specs.FromScratch.{assigned_to}
 use Rattle.session_laws.specs.Keeping.{HasNewRow, IsNew, KeepsFront, KeepsPrint, KeepsRow}
-use Rattle.session_laws.proofs.GivenNode.{InOrder, IsGiven, get_there}
+use Rattle.session_laws.proofs.GivenNode.{InOrder, IsGiven}
 use Rattle.session_laws.proofs.GivenNodes.{given_in}
-use Rattle.session_laws.proofs.KeptPrints.{live_at, live_behind, live_inside, prints_at}
+use Rattle.session_laws.proofs.KeptPrints.{live_behind, live_inside, prints_at}
 
 abbrev evaluation : Row → ℕ
 evaluation row = row.evaluation
-
--- the rows that a node is given
-abbrev pub rows_given : Update → ℕ → List ℕ × Node → Key → ℕ → List Row
-rows_given u p pair key next = (given u p pair key next).assigned.rows
 
 -- what rows evaluate and print
 pub record RowLaws : Type 0 where

@@ -5,20 +5,9 @@ use Rattle.std.specs.Option.{option_map_or}
 use Rattle.doc_nodes.specs.declared.node.Entry.{Entry}
 use Rattle.exec_rules.specs.declared.row.Row.{Row}
 use Rattle.exec_rules.specs.Rows.{live_print, live_prints, first_print, takes_print, print_of, behind, with_prints}
+use Rattle.exec_rules.proofs.KnownGiven.{live_at, first_live, rest_live, next_below}
 use Rattle.core_rules.specs.Doc.{Doc}
 use Rattle.session_laws.specs.Keeping.{KeepsPrint}
-
--- the print that can be kept at a place
-abbrev pub live_at : List (Option ℕ) → ℕ → Option ℕ
-live_at live i = option_map_or (λ print. print) (slice_get live i) None
-
-first_live : (live : List (Option ℕ)) → first_print live ≡ live_at live zero
-first_live [] = refl
-first_live (x ∷ xs) = refl
-
-rest_live : (live : List (Option ℕ)) (i : ℕ) → live_at (drop 1 live) i ≡ live_at live (suc i)
-rest_live [] i = refl
-rest_live (x ∷ xs) i = refl
 
 -- inside the front it is that of the row before, where it isn't cancelled
 pub live_inside : (cancelled : List ℕ) (rows : List Row) (k i : ℕ) (before : Row) → i < k → slice_get rows i ≡ Some before
@@ -35,10 +24,6 @@ live_behind cancelled rows zero i le = refl
 live_behind cancelled [] (suc k) i le = refl
 live_behind cancelled (x ∷ xs) (suc k) zero le = absurd (omega arith)
 live_behind cancelled (x ∷ xs) (suc k) (suc i) le = live_behind cancelled xs k i (omega arith)
-
-more : (n m : ℕ) (b : Bool) → n < m → n < cond b (suc m) m
-more n m true lt = omega arith
-more n m false lt = lt
 
 module _ (d : Doc) where
   first_so : (v : Bool) (live : Option ℕ) (m : ℕ) → length d.homes < m
@@ -60,4 +45,4 @@ module _ (d : Doc) where
   prints_at (e ∷ es) (v ∷ vs) live m (suc i) row new at =
       subst (λ o. KeepsPrint d o row.print) (rest_live live i)
       (prints_at es vs (drop 1 live) (behind e (first_print live) m) i row
-      (more (length d.homes) m (takes_print e (first_print live)) new) at)
+      (next_below (length d.homes) m (takes_print e (first_print live)) new) at)

@@ -5,6 +5,7 @@ use Rattle.std.specs.Prelude.{◌==◌, ◌||◌, ◌&&◌, if◌then◌else◌,
 use Rattle.std.specs.List.{flat_map, list_all, list_any, range_with_len}
 use Rattle.std.specs.Option.{option_map, option_map_or}
 use Rattle.import_rounds.specs.Rounds.{has}
+use Rattle.import_rounds.proofs.KnownHas.{has_left, has_right}
 use Rattle.pide_base.specs.declared.part.Part.{Part}
 use Rattle.pide_base.specs.declared.part.PartKind.{PartKind}
 use Rattle.doc_nodes.specs.declared.node.Entry.{Entry}
@@ -40,18 +41,6 @@ all_append test (x ∷ xs) ys first second = go (test x) first (all_append test 
         → (b && list_all test (xs ++ ys)) ≡ true
     go true is rest = rest is second
     go false is rest = absurd (cc)
-
-has_left : (xs ys : List ℕ) (e : ℕ) → has xs e ≡ true → has (xs ++ ys) e ≡ true
-has_left [] ys e is = absurd (cc)
-has_left (x ∷ xs) ys e is = go (e == x) is (has_left xs ys e)
-  where
-    go : (b : Bool) → (b || has xs e) ≡ true → (has xs e ≡ true → has (xs ++ ys) e ≡ true) → (b || has (xs ++ ys) e) ≡ true
-    go true is rest = refl
-    go false is rest = rest is
-
-has_right : (xs ys : List ℕ) (e : ℕ) → has ys e ≡ true → has (xs ++ ys) e ≡ true
-has_right [] ys e is = is
-has_right (x ∷ xs) ys e is = or_right (e == x) (has (xs ++ ys) e) (has_right xs ys e is)
 
 pub has_either : (xs ys : List ℕ) (e : ℕ) → has (xs ++ ys) e ≡ true → (has xs e || has ys e) ≡ true
 has_either [] ys e is = is

@@ -15,7 +15,6 @@ mod Ways
 mod Stepped
 mod Exists
 mod Shows
-mod KeyRests
 mod GivenNode
 mod GivenNodes
 mod KeptPrints

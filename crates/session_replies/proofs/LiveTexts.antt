@@ -10,6 +10,7 @@ use Rattle.doc_nodes.specs.Imports.{NodeList, place_of}
 use Rattle.doc_versions.specs.declared.versions.Live.{Live}
 use Rattle.doc_versions.specs.Live.{version_of}
 use Rattle.exec_rules.specs.declared.version.Version.{Version}
+use Rattle.exec_rules.proofs.KnownThere.{all_at}
 use Rattle.language.specs.Lang.{Lang}
 use Rattle.core_rules.specs.declared.event.Event.{Event}
 use Rattle.core_rules.specs.declared.event.Event.TheVariants as event
@@ -35,11 +36,6 @@ each_kept P p (x ∷ xs) all = go (p x) (each_kept P p xs all.1)
     go : (b : Bool) → AllByRecursion P (filter p xs) → AllByRecursion P (cond b (x ∷ filter p xs) (filter p xs))
     go true rest = (all.0, rest)
     go false rest = rest
-
-pub each_at : {X : Type 0} (P : X → Type 0) (xs : List X) (n : ℕ) (x : X) → AllByRecursion P xs → slice_get xs n ≡ Some x → P x
-each_at P [] n x all at = absurd (cc)
-each_at P (y ∷ ys) zero x all at = let same : y ≡ x = cc in subst P same all.0
-each_at P (y ∷ ys) (suc n) x all at = each_at P ys n x all.1 at
 
 laid_of : (d : Doc) (pair : List ℕ × Node) → FitsNode d pair → IsLaid pair.1
 laid_of d pair fits = record { short = fits.text; rising = fits.commands }
@@ -101,6 +97,6 @@ module _ {S : Type 0} (l : Lang S) where
   live_laid h id version name node legal live at =
       let one = found_at (doc l h).live id version live in
       let there = node_at version name node at in
-      let all : AreLaid one.one.version.nodes = each_at (λ x. AreLaid x.version.nodes) (doc l h).live one.place one.one (all_laid l h legal) one.stands in
+      let all : AreLaid one.one.version.nodes = all_at (λ x. AreLaid x.version.nodes) (doc l h).live one.place one.one (all_laid l h legal) one.stands in
       let laid : AreLaid version.nodes = subst (λ (v : Version). AreLaid v.nodes) one.version_is all in
-      subst IsLaid there.node_is (each_at (λ pair. IsLaid pair.1) version.nodes there.place there.pair laid there.stands)
+      subst IsLaid there.node_is (all_at (λ pair. IsLaid pair.1) version.nodes there.place there.pair laid there.stands)

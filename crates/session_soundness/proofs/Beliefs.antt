@@ -9,6 +9,7 @@ use Rattle.doc_nodes.specs.Wanted.{is_reached, wanted_at}
 use Rattle.doc_versions.specs.declared.versions.Live.{Live}
 use Rattle.doc_versions.specs.Live.{version_of}
 use Rattle.exec_rules.specs.declared.version.Version.{Version}
+use Rattle.exec_rules.proofs.KnownThere.{all_at}
 use Rattle.message_values.specs.declared.protocol.Protocol.TheVariants.{Scalars}
 use Rattle.core_rules.specs.declared.event.Event.{Event}
 use Rattle.core_rules.specs.declared.event.Event.TheVariants.{Update}
@@ -28,7 +29,7 @@ use Rattle.isar_rules.specs.Kept.{errors_in}
 use Rattle.session_soundness.specs.Believed.{IsSoundAt}
 use Rattle.session_soundness.specs.Seen.{HasNoPending, HasSettled, IsQuiet, IsWhole, OfEachNeeded, ShowsNoError, TellsNoError}
 use Rattle.session_soundness.proofs.Believing.{Laws, sound_at}
-use Rattle.session_soundness.proofs.LiveVersions.{all_at, each_live}
+use Rattle.session_soundness.proofs.LiveVersions.{each_live}
 use Rattle.session_soundness.proofs.Required.{IsAssigned, whole_from}
 use Rattle.session_soundness.proofs.Resting.{none_pending}
 use Rattle.session_soundness.proofs.Telling.{clean_told, none_told}

@@ -1,23 +1,19 @@
 -- All commands of a required node and of what it needs have evaluations.
-use Rattle.std.proofs.Common.{◌≡◌, ℕ, zero, suc, ◌<◌, ◌≤◌, ◌↔◌, ◌⊎◌, inl, inr, Bool, true, false, cond, ◌||◌, List, [], ◌∷◌, length, map, get_or, Option, Some, None, refl, ap, sym, subst, ◌∙◌, arith}
+use Rattle.std.proofs.Common.{◌≡◌, ℕ, ◌<◌, ◌≤◌, ◌↔◌, ◌⊎◌, inl, inr, Bool, true, false, cond, ◌||◌, List, [], ◌∷◌, length, map, Some, refl, ap, sym, subst, ◌∙◌, arith}
 use Rattle.std.proofs.lemmas.Bool.{eq-eqb, lt-ltb}
-use Rattle.std.proofs.lemmas.List.Quantifiers.{position-Some}
-use Rattle.std.proofs.lemmas.Option.{slice_get-get_or}
 use Rattle.std.proofs.Math.Bool.{or-true}
-use Rattle.std.specs.Prelude.{slice_get, slice_index_or, nat_lt}
-use Rattle.std.specs.Option.{option_map_or, option_and_then}
+use Rattle.std.specs.Prelude.{slice_get, nat_lt}
+use Rattle.std.specs.Option.{option_map_or}
 use Rattle.import_rounds.specs.Looks.{aims_at}
 use Rattle.doc_nodes.specs.declared.node.Node.{Node}
-use Rattle.doc_nodes.specs.Names.{equal}
-use Rattle.doc_nodes.specs.Imports.{NodeList, aims, aims_of, is_ordered, place_of}
+use Rattle.doc_nodes.specs.Imports.{NodeList, aims, is_ordered, place_of}
 use Rattle.doc_nodes.specs.Prefix.{own_wanted, wanted_prefix}
 use Rattle.doc_nodes.specs.Reached.{Reached}
 use Rattle.doc_nodes.specs.Wanted.{is_aimed, is_at, is_reached, wanted_at, wants}
-use Rattle.exec_rules.specs.declared.row.Assigned.{Assigned}
 use Rattle.exec_rules.specs.declared.version.Version.{Version}
-use Rattle.exec_rules.specs.Keys.{nothing}
-use Rattle.exec_rules.specs.Assigning.{entries_at, entries_in, rows_in}
+use Rattle.exec_rules.specs.Assigning.{entries_at, entries_in}
 use Rattle.core_rules.specs.FromScratch.{assigned_to}
+use Rattle.core_rules.proofs.KnownPlaces.{place_found, aims_found, rows_found}
 use Rattle.theory_laws.specs.Imports.{IsListed, Needs, itself, imports}
 use Rattle.session_soundness.specs.Seen.{IsWhole, OfEachNeeded}
 
@@ -25,12 +21,6 @@ use Rattle.session_soundness.specs.Seen.{IsWhole, OfEachNeeded}
 abbrev pub IsAssigned : Version → Type 0
 IsAssigned v = (q : ℕ) (pair : List ℕ × Node) → slice_get v.nodes q ≡ Some pair
     → (wanted_at v.nodes q ≤ length (assigned_to v q).rows) × (pair.1.entries ≡ [] → pair.1.imports ≡ [])
-
-aims_found : (nodes all : NodeList) (p : ℕ) (pair : List ℕ × Node) → slice_get nodes p ≡ Some pair
-    → slice_index_or (map (λ (x : List ℕ × Node). aims_of all x.1) nodes) p [] ≡ aims_of all pair.1
-aims_found [] all p pair at = absurd (cc)
-aims_found (n ∷ ns) all zero pair at = let same : n ≡ pair = cc in ap (λ (x : List ℕ × Node). aims_of all x.1) same
-aims_found (n ∷ ns) all (suc p) pair at = aims_found ns all p pair at
 
 aimed_name : (nodes : NodeList) (names : List (List ℕ)) (name : List ℕ) (q : ℕ) → IsListed names name → place_of nodes name ≡ Some q
     → is_aimed (map (place_of nodes) names) q ≡ true
@@ -55,21 +45,6 @@ reach_on {nodes} {p} (imports pair name at listed place needs) reached =
 some_length : {A : Type 0} (xs : List A) → (xs ≡ [] → ⊥) → 0 < length xs
 some_length [] none = absurd (none refl)
 some_length (x ∷ xs) none = omega arith
-
--- the rows at the place of a name
-rows_found : (v : Version) (name : List ℕ) (q : ℕ) → place_of v.nodes name ≡ Some q → rows_in v name ≡ (assigned_to v q).rows
-rows_found v name q e =
-    ap (λ o. option_map_or (λ (a : Assigned). a.rows) (option_and_then (slice_get v.assigned) o) []) e ∙ go (slice_get v.assigned q)
-  where
-    go : (o : Option Assigned) → option_map_or (λ (a : Assigned). a.rows) o [] ≡ (option_map_or (λ (a : Assigned). a) o nothing).rows
-    go None = refl
-    go (Some a) = refl
-
-place_stands : (nodes : NodeList) (name : List ℕ) (q : ℕ) → place_of nodes name ≡ Some q → (pair : List ℕ × Node) × (slice_get nodes q ≡ Some pair)
-place_stands [] name q e = absurd (cc)
-place_stands (n ∷ ns) name q e =
-    let h = position-Some (λ (pair : List ℕ × Node). equal pair.0 name) (n ∷ ns) q n e in
-    (get_or (n ∷ ns) q n, slice_get-get_or (n ∷ ns) q n h.0)
 
 module _ (v : Version) (is : IsAssigned v) (reaches : (q : ℕ) → (is_reached v.nodes q ≡ true) ↔ Reached v.nodes q) (p : ℕ)
     (pair : List ℕ × Node) (at : slice_get v.nodes p ≡ Some pair) (required : pair.1.required ≡ true) (ordered : is_ordered v.nodes p ≡ true) where
@@ -108,11 +83,11 @@ module _ (v : Version) (is : IsAssigned v) (reaches : (q : ℕ) → (is_reached 
 
   pub whole_from : OfEachNeeded (IsWhole v) v p
   whole_from q name needs place =
-      let other = place_stands v.nodes name q place in
-      let entries : entries_in v name ≡ other.0.1.entries =
+      let other = place_found v.nodes name q place in
+      let entries : entries_in v name ≡ other.pair.1.entries =
       ap (λ o. option_map_or (entries_at v.nodes) o []) place
-      ∙ ap (λ o. option_map_or (λ (x : List ℕ × Node). x.1.entries) o []) other.1 in
+      ∙ ap (λ o. option_map_or (λ (x : List ℕ × Node). x.1.entries) o []) other.stands in
       let rows = rows_found v name q place in
-      let wanted = wanted_by q other.0 other.1 (reached_or q needs) in
-      let le = (is q other.0 other.1).0 in
+      let wanted = wanted_by q other.pair other.stands (reached_or q needs) in
+      let le = (is q other.pair other.stands).0 in
       omega (arith, ap length entries, ap length rows, wanted, le)

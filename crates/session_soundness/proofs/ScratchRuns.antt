@@ -1,5 +1,5 @@
 -- From nothing, each node is run once, and found at its place.
-use Rattle.std.proofs.Common.{◌≡◌, ℕ, zero, suc, ◌<◌, ◌↔◌, ◌⊎◌, inl, inr, Bool, true, false, cond, List, [], ◌∷◌, ◌++◌, length, find, Some, refl, ap, sym, subst, ◌∙◌, arith, append_assoc, append-nil}
+use Rattle.std.proofs.Common.{◌≡◌, ℕ, ◌<◌, ◌↔◌, ◌⊎◌, inl, inr, Bool, true, false, cond, List, [], ◌∷◌, ◌++◌, length, find, Some, refl, ap, sym, subst, ◌∙◌, append_assoc, append-nil}
 use Rattle.std.proofs.lemmas.Bool.{eq-eqb, eqb-true, or_cases, false≢true}
 use Rattle.std.specs.Prelude.{◌==◌, slice_get}
 use Rattle.std.specs.List.{AllByRecursion}
@@ -9,6 +9,7 @@ use Rattle.import_rounds.proofs.KnownHas.{has_both, has_left, has_middle}
 use Rattle.doc_nodes.specs.declared.node.Node.{Node}
 use Rattle.doc_nodes.specs.Imports.{NodeList, order}
 use Rattle.exec_rules.specs.Kept.{BlobList}
+use Rattle.exec_rules.proofs.KnownThere.{get_there}
 use Rattle.language.specs.Lang.{Lang}
 use Rattle.core_rules.specs.Scratch.{Run, Runs, begins_at, run_node, run_one, run_all, scratch}
 
@@ -40,11 +41,6 @@ found_of P test (y ∷ xs) x all at = go (test y) refl at (found_of P test xs x 
     go : (b : Bool) → test y ≡ b → cond b (Some y) (find test xs) ≡ Some x → (find test xs ≡ Some x → (test x ≡ true) × P x) → (test x ≡ true) × P x
     go true is at rest = let same : y ≡ x = cc in subst (λ z. (test z ≡ true) × P z) same (is, all.0)
     go false is at rest = rest at
-
-get_there : {A : Type 0} (xs : List A) (i : ℕ) → i < length xs → (x : A) × (slice_get xs i ≡ Some x)
-get_there [] i lt = absurd (omega arith)
-get_there (y ∷ xs) zero lt = (y, refl)
-get_there (y ∷ xs) (suc i) lt = get_there xs i (omega arith)
 
 among : (front : List ℕ) (p q : ℕ) → (p == q) ≡ false → has (front ++ p ∷ []) q ≡ true → has front q ≡ true
 among front p q other is = go (or_cases (has front q) (has (p ∷ []) q) (sym (has_both front (p ∷ []) q) ∙ is))

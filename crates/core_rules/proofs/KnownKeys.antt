@@ -1,15 +1,12 @@
--- A node's key rests on its imports alone, which an update assigns before it.
-use Rattle.std.proofs.Common.{◌≡◌, ℕ, Bool, true, false, cond, List, [], ◌∷◌, ◌++◌, get_or, map, find, Option, Some, None, refl, ap, sym, ◌∙◌}
+-- A node's key rests on its imports alone; what is assigned, place by place.
+use Rattle.std.proofs.Common.{◌≡◌, ℕ, suc, Bool, true, false, cond, List, [], ◌∷◌, map, find, Option, Some, None, refl, ap, sym, ◌∙◌, ◌<◌, ◌++◌, arith, zero, ◌+◌}
 use Rattle.std.proofs.lemmas.Bool.{eqb-true, eq-eqb, false≢true, and_parts, and_from}
-use Rattle.std.proofs.lemmas.List.Quantifiers.{position-Some}
-use Rattle.std.proofs.lemmas.Option.{slice_get-get_or}
 use Rattle.std.specs.Prelude.{◌==◌, slice_get}
-use Rattle.std.specs.List.{list_all}
+use Rattle.std.specs.List.{list_all, range_with_len}
 use Rattle.std.specs.Option.{option_map_or}
 use Rattle.import_rounds.specs.Rounds.{has, is_known}
 use Rattle.import_rounds.proofs.KnownHas.{has_left}
 use Rattle.doc_nodes.specs.declared.node.Node.{Node}
-use Rattle.doc_nodes.specs.Names.{equal}
 use Rattle.doc_nodes.specs.Imports.{NodeList, place_of, is_bad}
 use Rattle.exec_rules.specs.declared.key.Last.TheVariants.{Empty}
 use Rattle.exec_rules.specs.declared.key.Key.TheVariants.{Lasts}
@@ -17,16 +14,12 @@ use Rattle.exec_rules.specs.declared.row.Assigned.{Assigned}
 use Rattle.exec_rules.specs.Keys.{last_of, nothing, assigned_at, aimed, key_by, key_of}
 use Rattle.exec_rules.specs.Assigning.{entries_at}
 use Rattle.core_rules.specs.FromScratch.{last_by, key_from}
+use Rattle.core_rules.proofs.KnownPlaces.{place_found}
+use Rattle.core_rules.proofs.AliasesByKey.{entries_found}
 
 -- all imports are among the nodes at these places
 abbrev pub AreInside : NodeList → List ℕ → List (List ℕ) → Type 0
 AreInside nodes front names = list_all (λ name. is_known front (place_of nodes name)) names ≡ true
-
-place_stands : (nodes : NodeList) (name : List ℕ) (q : ℕ) → place_of nodes name ≡ Some q → (pair : List ℕ × Node) × (slice_get nodes q ≡ Some pair)
-place_stands [] name q e = absurd (cc)
-place_stands (n ∷ ns) name q e =
-    let h = position-Some (λ (pair : List ℕ × Node). equal pair.0 name) (n ∷ ns) q n e in
-    (get_or (n ∷ ns) q n, slice_get-get_or (n ∷ ns) q n h.0)
 
 -- the key by what is done is the key by what is assigned
 module _ (nodes : NodeList) (done : List (ℕ × Assigned)) where
@@ -36,21 +29,20 @@ module _ (nodes : NodeList) (done : List (ℕ × Assigned)) where
   last_same (Some q) there =
       let found = there q refl in
       ap (λ o. option_map_or (λ (x : List ℕ × Node). last_of x.1.entries (assigned_at done q).rows) o Empty) found.1
-      ∙ ap (λ es. last_of es (assigned_at done q).rows)
-      (sym (ap (λ o. option_map_or (λ (x : List ℕ × Node). x.1.entries) o []) found.1))
+      ∙ ap (λ es. last_of es (assigned_at done q).rows) (sym (entries_found nodes q found.0 found.1))
 
   lasts_same : (names : List (List ℕ))
       → map (aimed nodes done) (map (place_of nodes) names) ≡ map (last_by nodes (assigned_at done)) names
   lasts_same [] = refl
   lasts_same (name ∷ names) =
       ap (λ x. x ∷ map (aimed nodes done) (map (place_of nodes) names))
-      (last_same (place_of nodes name) (λ q e. place_stands nodes name q e))
+      (last_same (place_of nodes name) (λ q e. let f = place_found nodes name q e in (f.pair, f.stands)))
       ∙ ap (λ xs. last_by nodes (assigned_at done) name ∷ xs) (lasts_same names)
 
   pub key_is : (node : Node) → key_of nodes done node ≡ key_from nodes (assigned_at done) node
   key_is node = ap (key_by (find (is_bad nodes) node.imports)) (lasts_same node.imports)
 
--- what is assigned to other places makes no difference
+-- a node's key rests on its imports alone
 module _ (nodes : NodeList) (front : List ℕ) (a b : ℕ → Assigned) (same : (q : ℕ) → has front q ≡ true → a q ≡ b q) where
   one_last : (o : Option ℕ) → is_known front o ≡ true
       → option_map_or (λ p. last_of (entries_at nodes p) (a p).rows) o Empty
@@ -87,7 +79,8 @@ assigned_newest done a p =
 
 pub other_place : (front : List ℕ) (p q : ℕ) (b : Bool) → (p == q) ≡ b → has front p ≡ false → has front q ≡ true → b ≡ false
 other_place front p q false e out is = refl
-other_place front p q true e out is = absurd (false≢true (sym out ∙ ap (has front) (eqb-true p q e) ∙ is))
+other_place front p q true e out is =
+    absurd (false≢true (sym out ∙ ap (has front) (eqb-true p q e) ∙ is))
 
 -- imports that are inside stay so
 pub inside_more : (nodes : NodeList) (front : List ℕ) (p : ℕ) (names : List (List ℕ)) → AreInside nodes front names
@@ -100,3 +93,12 @@ inside_more nodes front p (name ∷ names) known =
     one : (o : Option ℕ) → is_known front o ≡ true → is_known (front ++ p ∷ []) o ≡ true
     one None known = absurd (cc)
     one (Some q) known = has_left front (p ∷ []) q known
+
+-- what is assigned, listed by place
+pub listed : (done : List (ℕ × Assigned)) (a n p : ℕ) → p < n
+    → slice_get (map (assigned_at done) (range_with_len a n)) p ≡ Some (assigned_at done (a + p))
+listed done a zero p lt = absurd (omega arith)
+listed done a (suc n) zero lt = let e : a ≡ a + 0 = omega arith in ap (λ x. Some (assigned_at done x)) e
+listed done a (suc n) (suc p) lt =
+    let e : a + 1 + p ≡ a + suc p = omega arith in
+    listed done (a + 1) n p (omega arith) ∙ ap (λ x. Some (assigned_at done x)) e

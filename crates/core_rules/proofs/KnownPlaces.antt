@@ -1,13 +1,18 @@
 -- Places of nodes by name, and what stands at them.
-use Rattle.std.proofs.Common.{◌≡◌, ℕ, zero, suc, ◌<◌, ◌⊎◌, inl, inr, Bool, true, false, ◌||◌, List, [], ◌∷◌, length, map, get_or, Some, refl, ap, subst, arith}
+use Rattle.std.proofs.Common.{◌≡◌, ℕ, zero, suc, ◌<◌, ◌⊎◌, inl, inr, Bool, true, false, ◌||◌, List, [], ◌∷◌, length, map, get_or, Some, refl, ap, Option, None, ◌∙◌}
 use Rattle.std.proofs.lemmas.Option.{slice_get-get_or}
 use Rattle.std.proofs.lemmas.List.Quantifiers.{position-Some}
 use Rattle.std.specs.Prelude.{slice_get, slice_index_or}
-use Rattle.std.specs.List.{AllByRecursion}
+use Rattle.std.specs.Option.{option_map_or, option_and_then}
 use Rattle.doc_nodes.specs.declared.node.Node.{Node}
 use Rattle.doc_nodes.specs.Names.{equal}
 use Rattle.doc_nodes.specs.Imports.{NodeList, place_of, aims_of}
 use Rattle.doc_nodes.proofs.KnownNames.{name_is}
+use Rattle.exec_rules.specs.declared.row.Assigned.{Assigned}
+use Rattle.exec_rules.specs.declared.version.Version.{Version}
+use Rattle.exec_rules.specs.Keys.{nothing}
+use Rattle.exec_rules.specs.Assigning.{rows_in}
+use Rattle.core_rules.specs.FromScratch.{assigned_to}
 
 -- the node of a name stands at its place
 pub record FoundAt (nodes : NodeList) (name : List ℕ) (q : ℕ) : Type 0 where
@@ -27,22 +32,6 @@ place_found (n ∷ ns) name q e =
       within = h.0;
     }
 
-module _ {A : Type 0} where
-  pub get_within : (xs : List A) (i : ℕ) (x : A) → slice_get xs i ≡ Some x → i < length xs
-  get_within [] i x at = absurd (cc)
-  get_within (y ∷ xs) zero x at = omega arith
-  get_within (y ∷ xs) (suc i) x at = let lt = get_within xs i x at in omega arith
-
-  pub get_there : (xs : List A) (i : ℕ) → i < length xs → (x : A) × (slice_get xs i ≡ Some x)
-  get_there [] i lt = absurd (omega arith)
-  get_there (y ∷ xs) zero lt = (y, refl)
-  get_there (y ∷ xs) (suc i) lt = get_there xs i (omega arith)
-
-  pub all_at : (P : A → Type 0) (xs : List A) (i : ℕ) (x : A) → AllByRecursion P xs → slice_get xs i ≡ Some x → P x
-  all_at P [] i x all at = absurd (cc)
-  all_at P (y ∷ xs) zero x all at = let same : y ≡ x = cc in subst P same all.0
-  all_at P (y ∷ xs) (suc i) x all at = all_at P xs i x all.1 at
-
 -- the places of the imports of the node at a place
 pub aims_found : (nodes all : NodeList) (p : ℕ) (pair : List ℕ × Node) → slice_get nodes p ≡ Some pair
     → slice_index_or (map (λ (x : List ℕ × Node). aims_of all x.1) nodes) p [] ≡ aims_of all pair.1
@@ -54,3 +43,14 @@ pub among_by : (a b : Bool) (P Q : Type 0) → (a ≡ true → P) → (b ≡ tru
 among_by true b P Q f g e = inl (f refl)
 among_by false true P Q f g e = inr (g refl)
 among_by false false P Q f g e = absurd (cc)
+
+-- the rows at the place of a name
+pub rows_found : (v : Version) (name : List ℕ) (q : ℕ) → place_of v.nodes name ≡ Some q → rows_in v name ≡ (assigned_to v q).rows
+rows_found v name q e =
+    ap (λ o. option_map_or (λ (a : Assigned). a.rows) (option_and_then (slice_get v.assigned) o) []) e
+    ∙ go (slice_get v.assigned q)
+  where
+    go : (o : Option Assigned) → option_map_or (λ (a : Assigned). a.rows) o []
+        ≡ (option_map_or (λ (a : Assigned). a) o nothing).rows
+    go None = refl
+    go (Some a) = refl
