@@ -36,6 +36,7 @@ mod ShownLaw
 mod CoreLaw
 mod Holders
 mod TakingOrder
+pub mod KnownFirst
 mod FirstReady
 mod FirstLaw
 mod NotCancelled

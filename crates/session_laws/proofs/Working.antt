@@ -1,7 +1,6 @@
 -- The reader works until the version that is waited for is settled.
 use Rattle.std.proofs.Common.{◌≡◌, ◌≢◌, ℕ, zero, suc, ◌+◌, ◌≤◌, Bool, true, false, List, ◌∷◌, Option, None, Some, inr, refl, ◌∙◌, arith}
-use Rattle.std.proofs.lemmas.Bool.{and_parts}
-use Rattle.std.specs.Prelude.{◌&&◌, slice_get}
+use Rattle.std.specs.Prelude.{slice_get}
 use Rattle.pide_base.specs.declared.part.Part.{Part}
 use Rattle.doc_versions.specs.declared.versions.Live.{Live}
 use Rattle.exec_rules.specs.declared.version.Version.{Version}
@@ -11,9 +10,10 @@ use Rattle.core_rules.specs.declared.event.Event.{Event}
 use Rattle.core_rules.specs.Alone.{alone}
 use Rattle.core_rules.specs.Doc.{doc}
 use Rattle.core_rules.specs.Legal.{IsLegal as IsLegalList}
-use Rattle.core_rules.specs.Ready.{IsFirst, first_ready, has_inputs, is_part, is_wanted}
-use Rattle.core_rules.specs.Standing.{has_ended, held, is_free, standing}
+use Rattle.core_rules.specs.Ready.{IsFirst, first_ready}
+use Rattle.core_rules.specs.Standing.{has_ended, held}
 use Rattle.core_rules.specs.Stuck.{is_settled}
+use Rattle.core_rules.proofs.KnownFirst.{ready_wanted}
 use Rattle.session_rules.specs.declared.entry.Entry.{Entry}
 use Rattle.session_rules.specs.declared.entry.Entry.TheVariants as entry
 use Rattle.session_rules.specs.declared.service.Service.{Service}
@@ -55,11 +55,6 @@ module _ {S : Type 0} (l : Lang S) (laws : CoreLaws l) (law : AskedLaw) (service
     pub going : has_ended (past es) ≡ false
     pub waits_for : awaited l service (of es) (asked (mode_of service) m) ≡ Some version
 
-  ready_wanted : (h : List Event) (p : Part) → IsFirst l h p → is_wanted (doc l h) p.exec ≡ true
-  ready_wanted h p first = (and_parts (is_wanted (doc l h) p.exec) (is_free (standing h p) && has_inputs h (doc l h).homes p)
-      (and_parts (is_part l (doc l h).homes p) (is_wanted (doc l h) p.exec
-      && (is_free (standing h p) && has_inputs h (doc l h).homes p)) first.ready).1).0
-
   abbrev with_part : Part → List Entry → List Entry
   with_part p es = entry.Finished 0 p ∷ entry.Claimed 0 p ∷ es
 
@@ -72,7 +67,7 @@ module _ {S : Type 0} (l : Lang S) (laws : CoreLaws l) (law : AskedLaw) (service
       record {
         legal = (
           (w.legal, ((w.going, reader_idle l service (Some version) (of es) w.alone, first), inr (w.rest, turn))),
-          (refl, ready_wanted (past es) p first, inr (refl, turn)),
+          (refl, ready_wanted l (past es) p first, inr (refl, turn)),
         );
         alone = (refl, unsettled, w.alone);
         rest = refl;
