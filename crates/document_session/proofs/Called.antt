@@ -1,36 +1,24 @@
 -- Messages that call for a worker's step.
-use Rattle.std.proofs.Common.{◌≡◌, ◌≢◌, ℕ, List, ◌∷◌, Option, Some, None, Result, Ok, Err, refl, sym, ap, ◌∙◌}
+use Rattle.std.proofs.Common.{◌≡◌, ◌≢◌, ℕ, List, ◌∷◌, Option, Some, None, Result, Ok, Err, sym, ap, ◌∙◌}
 use Rattle.std.specs.Prelude.{◌||◌, is_some, if◌then◌else◌}
 use Rattle.std.specs.Option.{is_none}
 use Rattle.pide_base.specs.declared.part.Part.{Part}
 use Rattle.language.specs.Lang.{Lang}
 use Rattle.message_values.specs.declared.editor_message.EditorMessage.{EditorMessage}
 use Rattle.message_values.specs.declared.editor_message.EditorMessage.TheVariants as asks
-use Rattle.message_values.specs.declared.function.Function.TheVariants as function
 use Rattle.message_values.specs.declared.refusal.Refusal.{Refusal}
 use Rattle.message_values.specs.declared.refusal.Refusal.TheVariants.{NothingToStep}
 use Rattle.message_values.specs.Asked.{asked}
-use Rattle.message_values.specs.Functions.{word, function_named}
 use Rattle.core_rules.specs.Ready.{first_ready}
 use Rattle.core_rules.specs.Standing.{held}
 use Rattle.reply_outbox.specs.declared.item.Item.TheVariants.{Made}
 use Rattle.session_rules.specs.declared.entry.Entry.TheVariants.{Call}
 use Rattle.session_rules.specs.declared.service.Service.{Service}
-use Rattle.session_rules.specs.declared.service.Service.TheVariants.{Workers, Script}
 use Rattle.session_rules.specs.Services.{mode_of}
 use Rattle.session_rules.specs.Session.{Session}
 use Rattle.session_rules.specs.Accepting.{accepted}
 use Rattle.session_rules.specs.Steps.{Due, Nothing, Claims, Finishes, due, due_by, due_of, called_for}
 use Rattle.session_lists.specs.Items.{SessionItem, heard_in, session_in}
-
--- such messages have no function where workers work as they find parts ready
-pub script_claims : (service : Service) → function_named (mode_of service) (word function.Claim) ≡ Some function.Claim → service ≡ Script
-script_claims Script is = refl
-script_claims (Workers count) is = absurd (cc)
-
-pub script_finishes : (service : Service) → function_named (mode_of service) (word function.Finish) ≡ Some function.Finish → service ≡ Script
-script_finishes Script is = refl
-script_finishes (Workers count) is = absurd (cc)
 
 claim_due : (who : ℕ) (d : Due) → d ≡ Claims who → d ≢ Nothing
 claim_due who d is none = let no : Claims who ≡ Nothing = sym is ∙ none in absurd (cc)

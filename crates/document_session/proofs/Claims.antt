@@ -1,7 +1,5 @@
 -- The first ready part, as a worker took it that works as it finds parts ready.
-use Rattle.std.proofs.Common.{◌≡◌, ℕ, ◌+◌, ◌≤◌, false, List, [], ◌∷◌, ◌++◌, Some, Result, Ok, Err, sym, ap, subst, ◌∙◌, arith}
-use Rattle.std.specs.Prelude.{OnOk}
-use Rattle.std.specs.Result.{is_err}
+use Rattle.std.proofs.Common.{◌≡◌, ℕ, ◌+◌, ◌≤◌, List, [], ◌∷◌, ◌++◌, Some, sym, ap, subst, ◌∙◌, arith}
 use Rattle.pide_base.specs.declared.part.Part.{Part}
 use Rattle.language.specs.Lang.{Lang}
 use Rattle.core_jobs.specs.Fits.{IsJobOf}
@@ -28,11 +26,6 @@ use Rattle.document_session.specs.Answers.{ClaimedSo}
 use Rattle.document_session.specs.Contents.{SessionState}
 use Rattle.document_session.proofs.Still.{seen}
 use Rattle.document_session.proofs.Worked.{work_taken}
-
--- what holds where all went well
-pub on_ok : {T E : Type 0} (r : Result T E) (P : Type 0) → is_err r ≡ false → OnOk r P → P
-on_ok (Ok x) P well so = so
-on_ok (Err x) P well so = absurd (cc)
 
 -- the job's part is the one that was found ready
 pub the_part : {S : Type 0} (l : Lang S) (who : ℕ) (h past : List Event) (part : Part) (job : JobContent S)

@@ -1,11 +1,8 @@
 -- What is answered to a snapshot.
-use Rattle.std.proofs.Common.{◌≡◌, ℕ, Bool, true, false, cond, List, [], ◌∷◌, length, map, Option, Some, None, Result, Ok, Err, refl, sym, ap, ◌∙◌}
-use Rattle.std.proofs.lemmas.Bool.{ltb-false}
-use Rattle.std.proofs.lemmas.List.Folds.{find_at}
-use Rattle.std.proofs.lemmas.Option.{slice_get_past}
-use Rattle.std.specs.Prelude.{slice_get, nat_lt, find}
-use Rattle.std.specs.List.{position, position_or_len}
+use Rattle.std.proofs.Common.{◌≡◌, ℕ, List, [], ◌∷◌, map, Option, Some, None, Result, Ok, Err, sym, ap, ◌∙◌}
+use Rattle.std.specs.Prelude.{slice_get}
 use Rattle.std.specs.Option.{option_map, option_and_then}
+use Rattle.text_words.proofs.KnownLists.{position_found}
 use Rattle.text_edits.specs.declared.edit.Edit.{Edit}
 use Rattle.shared_map.specs.Pairs.{found}
 use Rattle.doc_nodes.specs.declared.node.Node.{Node}
@@ -30,24 +27,11 @@ use Rattle.session_rules.specs.Session.{Session, document}
 use Rattle.session_rules.specs.Accepting.{taken}
 use Rattle.session_rules.specs.Looking.{Looked, looked_at}
 use Rattle.session_rules.specs.Replies.{told_to}
-use Rattle.session_rules.specs.Steps.{Nothing, due_by}
+use Rattle.session_rules.proofs.KnownLooked.{text_seen, node_seen}
 use Rattle.session_replies.specs.Spelling.{spelling}
 use Rattle.session_states.specs.Looks.{IsLook}
+use Rattle.session_states.proofs.KnownNothingDue.{nothing_due}
 use Rattle.document_session.specs.Looks.{IsFound, LookedSo}
-
--- a message that calls for no step calls for none, refused or not
-pub nothing_due : (r : Result Session Refusal) → due_by r Nothing ≡ Nothing
-nothing_due (Ok after) = refl
-nothing_due (Err reason) = refl
-
--- what stands at the place of the first that passes is the first that passes
-pub position_found : {A : Type 0} (p : A → Bool) (xs : List A) → option_and_then (slice_get xs) (position p xs) ≡ find p xs
-position_found p xs = go (nat_lt (position_or_len p xs) (length xs)) refl
-  where
-    go : (b : Bool) → nat_lt (position_or_len p xs) (length xs) ≡ b
-        → option_and_then (slice_get xs) (cond b (Some (position_or_len p xs)) None) ≡ find p xs
-    go true e = sym (find_at p xs)
-    go false e = sym (find_at p xs ∙ slice_get_past xs (position_or_len p xs) (ltb-false (position_or_len p xs) (length xs) e))
 
 -- the node of a name is what the map has at it
 pub node_found : (version : Version) (name : List ℕ) → node_in version name ≡ found in_order name version.nodes
@@ -73,12 +57,6 @@ placed version name node at none =
     (option_and_then (slice_get version.nodes) o)) none) ∙ at in absurd (cc)
 
 -- what is looked at, by what is found
-abbrev text_seen : Version → Result (List ℕ) Refusal → Result Looked Refusal
-text_seen version r = r >>= λ text. Ok (record { version = version; text = text })
-
-abbrev node_seen : List Edit → Version → Option Node → Result Looked Refusal
-node_seen edits version o = or_refused UnknownNode o >>= λ node. text_seen version (edit_all edits node.text)
-
 abbrev version_seen : List ℕ → List Edit → Option Version → Result Looked Refusal
 version_seen name edits o = or_refused UnknownVersion o >>= λ version. node_seen edits version (node_in version name)
 

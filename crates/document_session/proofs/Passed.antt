@@ -1,6 +1,6 @@
 -- What calls tell of looks and of steps that may be refused, by what they answer.
 use Rattle.std.proofs.Common.{◌≡◌, ℕ, List, Result, Ok, Err, sym, ap, subst, ◌∙◌}
-use Rattle.std.specs.Result.{IfOk, OnErr, IsErrAnd}
+use Rattle.std.specs.Result.{IfOk, IsErrAnd}
 use Rattle.language.specs.Lang.{Lang}
 use Rattle.message_values.specs.declared.editor_message.EditorMessage.{EditorMessage}
 use Rattle.message_values.specs.declared.refusal.Refusal.{Refusal}
@@ -37,16 +37,7 @@ passed_look l service s m bytes (Ok reply) e is so = absurd is
 passed_look l service s m bytes (Err shown) e is so =
     subst (λ (x : PrepareError). LookedSo l service s m bytes (Err x)) (sym is) so
 
--- what is told where all went well
-pub ok_along : {A E : Type 0} {P Q : A → Type 0} (r : Result A E) → ((a : A) → P a → Q a) → IfOk r P → IfOk r Q
-ok_along (Ok made) f told = f made told
-ok_along (Err error) f told = tt
-
 -- what is told where something failed
 pub err_not_ok : {A E : Type 0} (Q : A → Type 0) (r : Result A E) (e : E) → IsErrAnd r (λ shown. shown ≡ e) → IfOk r Q
 err_not_ok Q (Ok made) e is = absurd is
 err_not_ok Q (Err shown) e is = tt
-
-pub on_err : {A E : Type 0} (r : Result A E) {P : Type 0} → P → OnErr r P
-on_err (Ok made) so = tt
-on_err (Err error) so = so

@@ -13,7 +13,6 @@ use Rattle.message_values.specs.declared.editor_message.EditorMessage.TheVariant
 use Rattle.message_values.specs.declared.protocol.Protocol.{Protocol}
 use Rattle.message_values.specs.declared.refusal.Refusal.{Refusal}
 use Rattle.message_values.specs.declared.refusal.Refusal.TheVariants.{Limit, VersionNotHigher, ProtocolFixed, UnknownVersion, TipVersion, NothingToStep}
-use Rattle.buffer_rules.specs.Trying.{◌>>=◌}
 use Rattle.buffer_rules.specs.Updates.{Asked}
 use Rattle.buffer_rules.specs.Preparing.{Buffer, prepared}
 use Rattle.core_rules.specs.Doc.{assignment_of}
@@ -23,37 +22,31 @@ use Rattle.prover_core.specs.Claims.{IsIdle}
 use Rattle.session_rules.specs.declared.service.Service.{Service}
 use Rattle.session_rules.specs.Session.{Session, document}
 use Rattle.session_rules.specs.Accepting.{taken}
-use Rattle.session_rules.specs.Updating.{runs_out, removed_by, with_buffer}
+use Rattle.session_rules.specs.Updating.{removed_by, with_buffer}
+use Rattle.session_states.proofs.KnownChecked.{checked, taken_checked}
 
 -- an update
 module _ {S : Type 0} (l : Lang S) (service : Service) (s : Session) (version : ℕ) (wanted : Asked) where
   abbrev read : Result EditorMessage Refusal
   read = Ok (asks.Update version wanted.items wanted.blobs)
 
-  -- by what is prepared, where the version is above all before
-  abbrev checked : Result Buffer Refusal → Result Session Refusal
-  checked r = r >>= λ b. if runs_out (document l s) b then Err Limit else Ok (with_buffer s version b)
-
   abbrev by_order : Bool → Result Session Refusal
-  by_order b = if b then checked (prepared s.buffer (length (document l s).live) wanted) else Err VersionNotHigher
+  by_order b = if b then checked l s version (prepared s.buffer (length (document l s).live) wanted) else Err VersionNotHigher
 
   -- the version is not above all before
   pub not_higher : version ≤ (document l s).last → taken l service s read ≡ Err VersionNotHigher
   not_higher least = ap by_order (le-ltb (document l s).last version least)
 
   module _ (newer : (document l s).last < version) where
-    by : (r : Result Buffer Refusal) → prepared s.buffer (length (document l s).live) wanted ≡ r → taken l service s read ≡ checked r
-    by r is = ap by_order (lt-ltb (document l s).last version newer) ∙ ap checked is
-
     -- the editor's document doesn't take it
     pub not_prepared : (reason : Refusal) → prepared s.buffer (length (document l s).live) wanted ≡ Err reason
         → taken l service s read ≡ Err reason
-    not_prepared reason is = by (Err reason) is
+    not_prepared reason is = taken_checked l service s version wanted newer (Err reason) is
 
     -- ids run out
     pub limit_passed : (b : Buffer) → prepared s.buffer (length (document l s).live) wanted ≡ Ok b
         → id_end < (assignment_of (document l s) b.nodes b.document.blobs).next → taken l service s read ≡ Err Limit
-    limit_passed b after over = by (Ok b) after ∙ ap (λ (c : Bool). if c then Err Limit else Ok (with_buffer s version b))
+    limit_passed b after over = taken_checked l service s version wanted newer (Ok b) after ∙ ap (λ (c : Bool). if c then Err Limit else Ok (with_buffer s version b))
         (lt-ltb id_end (assignment_of (document l s) b.nodes b.document.blobs).next over)
 
 module _ {S : Type 0} (l : Lang S) (service : Service) (s : Session) where

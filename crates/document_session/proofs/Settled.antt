@@ -30,7 +30,7 @@ use Rattle.session_rules.specs.Looking.{settles}
 use Rattle.session_rules.specs.Replies.{or_refusal}
 use Rattle.session_replies.specs.Spelling.{spelling}
 use Rattle.session_states.specs.Looks.{IsLook}
-use Rattle.document_session.proofs.Looked.{nothing_due}
+use Rattle.session_states.proofs.KnownNothingDue.{nothing_due}
 
 none_fails : {A : Type 0} (p q : A → Bool) (xs : List A) → list_any p xs ≡ true → ((x : A) → p x ≡ true → q x ≡ false) → list_all q xs ≡ false
 none_fails p q [] some each = absurd (cc)

@@ -1,5 +1,5 @@
 mod SameLists
-mod Told
+pub mod KnownTold
 mod BareNodes
 mod Places
 mod CutLemmas

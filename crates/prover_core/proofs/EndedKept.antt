@@ -1,7 +1,5 @@
 -- What is kept once all has ended.
 use Rattle.std.proofs.Common.{◌≡◌, false, true, List, ◌∷◌, refl, sym, subst}
-use Rattle.std.specs.Prelude.{Result, Ok, Err, OnOk, OnErr}
-use Rattle.std.specs.Result.{is_err}
 use Rattle.language.specs.Lang.{Lang}
 use Rattle.core_rules.specs.declared.event.Event.{Event}
 use Rattle.core_rules.specs.declared.event.Event.TheVariants.{Ended}
@@ -35,13 +33,3 @@ ended_kept l h t k going = record {
 -- what has happened may be told in other words
 pub moved : {S : Type 0} (l : Lang S) (h now : List Event) (t : Tables S) → now ≡ h → IsKept l h t → IsKept l now t
 moved l h now t same k = subst (λ x. IsKept l x t) (sym same) k
-
--- what holds where all went well
-pub on_ok : {T E : Type 0} (r : Result T E) (P : Type 0) → is_err r ≡ false → OnOk r P → P
-on_ok (Ok x) P well so = so
-on_ok (Err x) P well so = absurd (cc)
-
--- what holds anyway holds where something failed
-pub on_err : {T E : Type 0} (r : Result T E) {P : Type 0} → P → OnErr r P
-on_err (Ok x) so = tt
-on_err (Err x) so = so

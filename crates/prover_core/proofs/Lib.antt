@@ -11,6 +11,7 @@ mod TasksStill
 mod Quiet
 mod TipLive
 mod TipTold
+pub mod KnownResults
 mod EndedKept
 mod DroppedKept
 mod ClaimedKept

@@ -4,19 +4,13 @@ use Rattle.text_edits.specs.declared.edit.Edit.{Edit}
 use Rattle.doc_nodes.specs.declared.node.Node.{Node}
 use Rattle.exec_rules.specs.declared.version.Version.{Version}
 use Rattle.message_values.specs.declared.refusal.Refusal.{Refusal}
-use Rattle.message_values.specs.declared.refusal.Refusal.TheVariants.{UnknownNode, UnknownVersion}
+use Rattle.message_values.specs.declared.refusal.Refusal.TheVariants.{UnknownVersion}
 use Rattle.message_values.specs.Asked.{or_refused}
 use Rattle.buffer_rules.specs.Texts.{edit_all}
 use Rattle.buffer_rules.specs.Trying.{◌>>=◌}
 use Rattle.core_rules.specs.Updates.{node_in}
 use Rattle.session_rules.specs.Looking.{Looked}
-
--- what is looked at, by what is found
-abbrev text_seen : Version → Result (List ℕ) Refusal → Result Looked Refusal
-text_seen version r = r >>= λ text. Ok (record { version = version; text = text })
-
-abbrev node_seen : List Edit → Version → Option Node → Result Looked Refusal
-node_seen edits version o = or_refused UnknownNode o >>= λ node. text_seen version (edit_all edits node.text)
+use Rattle.session_rules.proofs.KnownLooked.{text_seen, node_seen}
 
 text_version : (version : Version) (r : Result (List ℕ) Refusal) (looked : Looked) → text_seen version r ≡ Ok looked → version ≡ looked.version
 text_version version (Err reason) looked e = absurd (cc)

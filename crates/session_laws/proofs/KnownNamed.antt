@@ -6,7 +6,6 @@ use Rattle.pide_base.specs.declared.part.Part.{Part}
 use Rattle.language.specs.Lang.{Lang}
 use Rattle.message_values.specs.declared.editor_message.EditorMessage.{EditorMessage}
 use Rattle.message_values.specs.declared.editor_message.EditorMessage.TheVariants as asks
-use Rattle.message_values.specs.declared.function.Function.TheVariants as function
 use Rattle.message_values.specs.declared.mode.Mode.{Mode}
 use Rattle.message_values.specs.declared.refusal.Refusal.{Refusal}
 use Rattle.message_values.specs.Asked.{asked}
@@ -18,7 +17,7 @@ use Rattle.core_rules.specs.Standing.{held}
 use Rattle.session_rules.specs.declared.entry.Entry.{Entry}
 use Rattle.session_rules.specs.declared.entry.Entry.TheVariants as entry
 use Rattle.session_rules.specs.declared.service.Service.{Service}
-use Rattle.session_rules.specs.declared.service.Service.TheVariants.{Workers, Script}
+use Rattle.session_rules.specs.declared.service.Service.TheVariants.{Script}
 use Rattle.session_rules.specs.Services.{free_workers, mode_of}
 use Rattle.session_rules.specs.Session.{Session}
 use Rattle.session_rules.specs.Heard.{Heard, all_heard}
@@ -27,16 +26,13 @@ use Rattle.session_rules.specs.History.{session}
 use Rattle.session_rules.specs.Legal.{IsLegal, IsTurn}
 use Rattle.session_rules.specs.Alone.{IsAlone}
 use Rattle.session_rules.specs.Steps.{Nothing, Claims, Finishes, due, due_by, due_of}
+use Rattle.session_rules.proofs.KnownScript.{script_claims}
 use Rattle.session_laws.proofs.KnownHolding.{message_same, reader_idle}
 
 -- a message is asked where it is spelled
 abbrev pub AskedLaw : Type 0
 AskedLaw = (mode : Mode) (chunks : List (List ℕ)) (message : EditorMessage) → (asked mode chunks ≡ Ok message)
     ↔ (Fits message × IsSpelled message chunks × (function_named mode (word (function_of message)) ≡ Some (function_of message)))
-
-script_claims : (service : Service) → function_named (mode_of service) (word function.Claim) ≡ Some function.Claim → service ≡ Script
-script_claims Script is = refl
-script_claims (Workers count) is = absurd (cc)
 
 -- the worker is one that messages name
 abbrev pub IsNamed : Service → ℕ → Type 0

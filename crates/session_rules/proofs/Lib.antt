@@ -1,2 +1,4 @@
+pub mod KnownLooked
+pub mod KnownScript
 mod SoundSteps
 mod Events

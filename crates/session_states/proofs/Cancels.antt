@@ -27,7 +27,7 @@ use Rattle.session_jobs.specs.Works.{Work}
 use Rattle.session_states.specs.Kept.{session_of, IsKept}
 use Rattle.session_states.proofs.Jobs.{jobs_on}
 use Rattle.session_states.proofs.Kept.{WasAdded, answered_as}
-use Rattle.session_states.proofs.NothingDue.{nothing_due}
+use Rattle.session_states.proofs.KnownNothingDue.{nothing_due}
 
 module _ {S : Type 0} (l : Lang S) (service : Service) (old new : Log Service Entry) (s : Session) (last holding : ℕ)
     (jobs : ℕ → Option (Work S)) (k : IsKept l service old s last holding jobs) (message : List (List ℕ)) (exec : ℕ)

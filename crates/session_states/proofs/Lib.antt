@@ -3,11 +3,12 @@ mod Jobs
 mod Refusals
 mod Held
 mod Turns
-mod NothingDue
+pub mod KnownNothingDue
 mod Kept
 mod SentReplies
 mod Cancels
 mod Removals
+pub mod KnownChecked
 mod Updates
 mod Reports
 mod WorkerTurns

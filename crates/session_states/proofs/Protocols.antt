@@ -23,7 +23,7 @@ use Rattle.session_jobs.specs.Works.{Work}
 use Rattle.session_states.specs.Kept.{session_of, AreKeptJobs, IsKept}
 use Rattle.session_lists.specs.Unheard.{IsUnheard}
 use Rattle.session_states.proofs.Kept.{WasAdded, answered_as}
-use Rattle.session_states.proofs.NothingDue.{nothing_due}
+use Rattle.session_states.proofs.KnownNothingDue.{nothing_due}
 
 module _ {S : Type 0} (l : Lang S) (service : Service) (s : Session) (protocol : Protocol) where
   abbrev fixed_by : Bool → Result Session Refusal

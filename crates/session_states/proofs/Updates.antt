@@ -1,13 +1,13 @@
 -- What a session keeps once a version was made.
 use Rattle.std.proofs.Common.{◌≡◌, ℕ, ◌<◌, Bool, true, false, List, [], ◌∷◌, map, length, Option, Result, Ok, Err, refl, sym, ap, subst, ◌∙◌, if◌then◌else◌}
-use Rattle.std.proofs.lemmas.Bool.{lt-ltb, le-ltb}
+use Rattle.std.proofs.lemmas.Bool.{le-ltb}
 use Rattle.std.specs.Prelude.{◌≤◌}
 use Rattle.pide_base.specs.Ids.{id_end}
 use Rattle.language.specs.Lang.{Lang}
 use Rattle.message_values.specs.declared.editor_message.EditorMessage.{EditorMessage}
 use Rattle.message_values.specs.declared.editor_message.EditorMessage.TheVariants as asks
 use Rattle.message_values.specs.declared.refusal.Refusal.{Refusal}
-use Rattle.message_values.specs.declared.refusal.Refusal.TheVariants.{Limit, VersionNotHigher}
+use Rattle.message_values.specs.declared.refusal.Refusal.TheVariants.{Limit}
 use Rattle.message_values.specs.Asked.{asked}
 use Rattle.buffer_rules.specs.Trying.{◌>>=◌}
 use Rattle.buffer_rules.specs.Updates.{Asked}
@@ -26,32 +26,25 @@ use Rattle.session_rules.specs.declared.service.Service.{Service}
 use Rattle.session_rules.specs.Services.{mode_of}
 use Rattle.session_rules.specs.Session.{Session, document, answered}
 use Rattle.session_rules.specs.Accepting.{taken}
-use Rattle.session_rules.specs.Updating.{runs_out, with_buffer}
+use Rattle.session_rules.specs.Updating.{with_buffer}
 use Rattle.session_rules.specs.Replies.{or_refusal, rows_told, told_to}
 use Rattle.session_replies.specs.Spelling.{spelling}
 use Rattle.session_jobs.specs.Works.{Work}
 use Rattle.session_states.specs.Kept.{session_of, IsKept}
 use Rattle.session_states.proofs.Jobs.{jobs_on}
 use Rattle.session_states.proofs.Kept.{WasAdded, answered_as}
-use Rattle.session_states.proofs.NothingDue.{nothing_due}
+use Rattle.session_states.proofs.KnownNothingDue.{nothing_due}
+use Rattle.session_states.proofs.KnownChecked.{taken_checked}
 
 module _ {S : Type 0} (l : Lang S) (service : Service) (s : Session) (version : ℕ) (wanted : Asked) where
   abbrev read : Result EditorMessage Refusal
   read = Ok (asks.Update version wanted.items wanted.blobs)
 
-  -- by what is prepared, where the version is above all before
-  abbrev checked : Result Buffer Refusal → Result Session Refusal
-  checked r = r >>= λ b. if runs_out (document l s) b then Err Limit else Ok (with_buffer s version b)
-
   module _ (newer : (document l s).last < version) where
-    by : (r : Result Buffer Refusal) → prepared s.buffer (length (document l s).live) wanted ≡ r → taken l service s read ≡ checked r
-    by r is = ap (λ (b : Bool). if b then checked (prepared s.buffer (length (document l s).live) wanted) else Err VersionNotHigher)
-        (lt-ltb (document l s).last version newer) ∙ ap checked is
-
     module _ (b : Buffer) (after : prepared s.buffer (length (document l s).live) wanted ≡ Ok b) where
       module _ (fits : (assignment_of (document l s) b.nodes b.document.blobs).next ≤ id_end) where
         pub made_so : taken l service s read ≡ Ok (with_buffer s version b)
-        made_so = by (Ok b) after ∙ ap (λ (c : Bool). if c then Err Limit else Ok (with_buffer s version b))
+        made_so = taken_checked l service s version wanted newer (Ok b) after ∙ ap (λ (c : Bool). if c then Err Limit else Ok (with_buffer s version b))
             (le-ltb id_end (assignment_of (document l s) b.nodes b.document.blobs).next fits)
 
         -- what is told of it

@@ -12,7 +12,7 @@ use Rattle.buffer_rules.specs.Nodes.{uncut_all}
 use Rattle.document_edits.specs.Standing.{OpenList, sheets_of, Drafted}
 use Rattle.document_edits.proofs.PairLists.{AllZip-length}
 use Rattle.editor_buffer.specs.declared.cutting.Cutting.{Cutting}
-use Rattle.editor_buffer.proofs.Told.{along}
+use Rattle.editor_buffer.proofs.KnownTold.{along}
 use Rattle.document_edits.proofs.KeptHeaders.{heads_drafted}
 use Rattle.editor_buffer.proofs.BareNodes.{same_heads}
 use Rattle.editor_buffer.proofs.CutPlaces.{cut_end, length_sheets}

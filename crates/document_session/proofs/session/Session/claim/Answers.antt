@@ -1,6 +1,7 @@
 use Rattle.std.proofs.Common.{◌≤◌, ◌∷◌, List, inl, refl, sym, ap, ◌∙◌, arith}
 use Rattle.pide_base.specs.declared.part.Part.{Part}
 use Rattle.prover_core.specs.Looked.{looked}
+use Rattle.prover_core.proofs.KnownResults.{on_ok}
 use Rattle.reply_outbox.specs.declared.item.Item.TheVariants.{Made}
 use Rattle.reply_writing.specs.declared.told.Told.TheVariants as tells
 use Rattle.session_rules.specs.declared.entry.Entry.TheVariants as entry
@@ -10,7 +11,7 @@ use Rattle.session_lists.specs.Items.{SessionItem}
 use Rattle.session_states.specs.Kept.{session_of}
 use Rattle.document_session.specs.Answers.{IsIdle}
 use Rattle.document_session.specs.Contents.{SessionState}
-use Rattle.document_session.proofs.Claims.{on_ok, the_part, claimed_kept, claimed_so}
+use Rattle.document_session.proofs.Claims.{the_part, claimed_kept, claimed_so}
 use Rattle.document_session.proofs.Inside.{known_inside, known_outside}
 use Rattle.document_session.proofs.Rooms.{state}
 use Rattle.document_session.proofs.Still.{still_kept}

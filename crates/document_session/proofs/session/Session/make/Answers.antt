@@ -8,6 +8,7 @@ use Rattle.core_rules.specs.declared.event.Event.TheVariants as event
 use Rattle.core_rules.specs.Standing.{has_ended}
 use Rattle.prover_core.specs.Looked.{looked}
 use Rattle.prover_core.specs.Plans.{PlanState, IsPlanOf}
+use Rattle.prover_core.proofs.KnownResults.{on_err}
 use Rattle.session_rules.specs.Services.{mode_of}
 use Rattle.session_rules.specs.Session.{Session, document}
 use Rattle.session_rules.specs.Accepting.{taken}
@@ -15,7 +16,7 @@ use Rattle.session_states.specs.Kept.{session_of}
 use Rattle.document_session.specs.Makes.{IsMade}
 use Rattle.document_session.proofs.Inside.{going_on, known_inside}
 use Rattle.document_session.proofs.Making.{plan_fits, plan_changed, plan_commands, plan_limit, made_kept}
-use Rattle.document_session.proofs.Passed.{err_not_ok, on_err}
+use Rattle.document_session.proofs.Passed.{err_not_ok}
 use Rattle.document_session.proofs.Refusing.{still_going, still_known, still_same}
 use Rattle.document_session.proofs.Rooms.{room_kept}
 use Rattle.document_session.proofs.session.Session.make.Goals as goal

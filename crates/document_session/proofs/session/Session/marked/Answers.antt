@@ -9,7 +9,7 @@ use Rattle.document_session.specs.Looks.{IsSeen}
 use Rattle.document_session.proofs.Inside.{known_inside, known_outside}
 use Rattle.document_session.proofs.Looked.{shown}
 use Rattle.document_session.proofs.Marking.{has_results, results_in, node_there, edited_there, fits_there}
-use Rattle.document_session.proofs.Passed.{ok_along}
+use Rattle.editor_buffer.proofs.KnownTold.{ok_along}
 use Rattle.document_session.proofs.session.Session.marked.Goals as goal
 
 pub unreachable-requires : goal.unreachable-requires

@@ -3,13 +3,13 @@ use Rattle.std.specs.Prelude.{OnErr}
 use Rattle.message_values.specs.declared.editor_message.EditorMessage.TheVariants as asks
 use Rattle.prover_core.specs.Looked.{looked}
 use Rattle.session_rules.specs.Services.{mode_of}
+use Rattle.session_rules.proofs.KnownScript.{script_finishes}
 use Rattle.session_jobs.specs.Works.{Work}
 use Rattle.session_replies.specs.Spelling.{spelling}
 use Rattle.session_states.specs.Kept.{session_of}
 use Rattle.session_states.specs.Turns.{entry_of, told_of}
 use Rattle.document_session.specs.Answers.{TakenSo}
 use Rattle.document_session.specs.Contents.{SessionState}
-use Rattle.document_session.proofs.Called.{script_finishes}
 use Rattle.document_session.proofs.Holding.{one_held}
 use Rattle.document_session.proofs.Idle.{nothing_finished}
 use Rattle.document_session.proofs.Inside.{going_on}

@@ -7,7 +7,7 @@ use Rattle.buffer_rules.specs.Sheets.{SheetList}
 use Rattle.document_edits.specs.Standing.{OpenList, sheets_of}
 use Rattle.document_edits.specs.Heads.{heads, KeepHeaders}
 use Rattle.editor_buffer.proofs.FirstDraft.{drafted_copied}
-use Rattle.editor_buffer.proofs.Told.{along, ok_along}
+use Rattle.editor_buffer.proofs.KnownTold.{along, ok_along}
 use Rattle.editor_buffer.proofs.buffer.Buffer.drafted.Goals as goal
 
 pub returns-clause-drafted : goal.returns-clause-drafted

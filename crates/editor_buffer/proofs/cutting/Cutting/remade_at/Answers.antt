@@ -6,7 +6,7 @@ use Rattle.buffer_rules.specs.declared.sheet.Sheet.{Sheet}
 use Rattle.buffer_rules.specs.Nodes.{uncut_all}
 use Rattle.sheet_edits.specs.OpenSheet.{OpenSheet}
 use Rattle.document_edits.specs.Standing.{sheets_of, DraftedUnder, aliases_named}
-use Rattle.editor_buffer.proofs.Told.{along}
+use Rattle.editor_buffer.proofs.KnownTold.{along}
 use Rattle.editor_buffer.proofs.BareNodes.{same_named}
 use Rattle.editor_buffer.proofs.CutPlaces.{here}
 use Rattle.editor_buffer.proofs.CutHere.{drafted_here, named_at}

@@ -7,11 +7,12 @@ use Rattle.core_rules.specs.Doc.{doc}
 use Rattle.core_rules.specs.Standing.{held}
 use Rattle.core_jobs.specs.Fits.{IsDoneOf}
 use Rattle.prover_core.specs.States.{CoreState}
-use Rattle.prover_core.proofs.EndedKept.{moved, on_ok}
+use Rattle.prover_core.proofs.EndedKept.{moved}
 use Rattle.prover_core.proofs.TipLive.{laws_of}
 use Rattle.prover_core.proofs.HeldTasks.{counted, wanted_held, there_wanted, gone_unwanted}
 use Rattle.prover_core.proofs.DroppedKept.{dropped_kept}
 use Rattle.prover_core.proofs.FinishKept.{is_taken_in, finish_kept}
+use Rattle.prover_core.proofs.KnownResults.{on_ok}
 use Rattle.prover_core.proofs.prover.Core.finish.Goals as goal
 
 pub follow-requires-clause-held : goal.follow-requires-clause-held

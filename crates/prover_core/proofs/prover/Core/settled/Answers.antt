@@ -16,7 +16,7 @@ use Rattle.prover_core.specs.Looked.{looked}
 use Rattle.prover_core.specs.Settling.{IsLeft, IsSettled}
 use Rattle.prover_core.proofs.BehindSettled.{ready_is_left, held_is_left, is_settled_so, stuck_is}
 use Rattle.prover_core.proofs.LossesBehind.{no_version}
-use Rattle.prover_core.proofs.EndedKept.{on_err}
+use Rattle.prover_core.proofs.KnownResults.{on_err}
 use Rattle.prover_core.proofs.prover.Core.settled.Goals as goal
 
 pub returns-in_default-clause-settled : goal.returns-in_default-clause-settled
