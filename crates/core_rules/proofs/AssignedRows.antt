@@ -36,6 +36,18 @@ pub record RowAt (v : Version) (holds : Row → Type 0) : Type 0 where
 abbrev pub EvalRow : Version → ℕ → Type 0
 EvalRow v e = RowAt v (λ row. e ≡ row.evaluation)
 
+-- what a row that is assigned evaluates is assigned
+pub eval_row : {v : Version} {holds : Row → Type 0} (r : RowAt v holds) (e : ℕ) → e ≡ r.row.evaluation → EvalRow v e
+eval_row r e is = record {
+  place = r.place;
+  pair = r.pair;
+  node = r.node;
+  index = r.index;
+  row = r.row;
+  at = r.at;
+  is = is;
+}
+
 pub in_row : (row : Row) (e : ℕ) → has (executions row) e ≡ true → IsIn row e
 in_row row e is = go (or_cases (e == row.evaluation) (has (print_list row.print) e) is)
   where

@@ -18,7 +18,7 @@ use Rattle.core_rules.proofs.Tables.{AreOlder}
 use Rattle.core_rules.proofs.Facts.{NodeFacts}
 use Rattle.core_rules.proofs.Sound.{IsSound}
 use Rattle.core_rules.proofs.FromScratchLaw.{from_scratch}
-use Rattle.core_rules.proofs.AssignedRows.{IsIn, RowAt, EvalRow, assigned_at_row, eval_assigned}
+use Rattle.core_rules.proofs.AssignedRows.{IsIn, RowAt, EvalRow, assigned_at_row, eval_assigned, eval_row}
 use Rattle.core_rules.proofs.RowEvals.{sources_evals}
 use Rattle.core_rules.proofs.HandedSources.{older_than, begins_from, input_evaluates}
 
@@ -77,15 +77,7 @@ module _ {S : Type 0} (l : Lang S) (d : Doc) (older : AreOlder d.homes) (v : Ver
             works_on = _;
             setting_is = print.1;
             sources = (
-              source e r.row.evaluation old.0 (record {
-                place = r.place;
-                pair = r.pair;
-                node = r.node;
-                index = r.index;
-                row = r.row;
-                at = r.at;
-                is = refl;
-              }),
+              source e r.row.evaluation old.0 (eval_row r r.row.evaluation refl),
               tt,
             );
             begins = tt;

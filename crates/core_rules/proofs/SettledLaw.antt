@@ -28,7 +28,7 @@ use Rattle.core_rules.proofs.Sound.{IsSound}
 use Rattle.core_rules.proofs.SoundDoc.{doc_sound}
 use Rattle.core_rules.proofs.KnownParts.{part_itself}
 use Rattle.core_rules.proofs.Blocked.{IsOver, blocked}
-use Rattle.core_rules.proofs.AssignedRows.{IsIn, RowAt, assigned_at_row}
+use Rattle.core_rules.proofs.AssignedRows.{IsIn, RowAt, assigned_at_row, eval_row}
 use Rattle.core_rules.proofs.RestLaw.{P, from, over, eval_parts_over}
 
 -- what a live version assigns is assigned
@@ -70,15 +70,7 @@ module _ {S : Type 0} (facts : Facts) (l : Lang S) (h : List Event) (legal : IsL
         r = assigned_at_row v e sound.long is
 
         go : IsIn r.row e → is_over l h (doc l h) e ≡ true
-        go (inl same) = eval_parts_over facts l h legal nothing idle v sound live e (record {
-          place = r.place;
-          pair = r.pair;
-          node = r.node;
-          index = r.index;
-          row = r.row;
-          at = r.at;
-          is = same;
-        })
+        go (inl same) = eval_parts_over facts l h legal nothing idle v sound live e (eval_row r e same)
         go (inr printed) =
             let here : IsFromScratch l (doc l h) v r.place r.pair r.index r.row =
             from facts l h legal nothing idle v sound live r.place r.index r.pair r.row r.node r.at in
@@ -86,15 +78,7 @@ module _ {S : Type 0} (facts : Facts) (l : Lang S) (h : List Event) (legal : IsL
             subst (λ o. PrintIs l (doc l h) o (home r.pair.1 v.blobs here.command) r.row.evaluation here.works_on)
             printed here.prints in
             print_over e r.row.evaluation (home r.pair.1 v.blobs here.command (input.Print r.row.evaluation)) so.0 refl
-            (over facts l h legal nothing idle v sound live r.row.evaluation (record {
-              place = r.place;
-              pair = r.pair;
-              node = r.node;
-              index = r.index;
-              row = r.row;
-              at = r.at;
-              is = refl;
-            })) is
+            (over facts l h legal nothing idle v sound live r.row.evaluation (eval_row r r.row.evaluation refl)) is
 
     pub version_settled : is_settled l h (doc l h) v ≡ true
     version_settled = all_passed (is_over l h (doc l h)) (executions_of v) exec_over
