@@ -26,8 +26,6 @@ three xs f b le =
     ∙ sym (append_assoc (take f xs) (take m (drop f xs)) (drop (length xs - b) xs))
 
 module _ (sheet : Sheet) (aliases : AliasList) where
-  entries_at : List ℕ → List Range → List Entry
-  entries_at ids rs = map (entry sheet aliases) (zip ids rs)
 
   entries-append : (ks ls : List ℕ) (vs ws : List Range) → length ks ≡ length vs
       → map (entry sheet aliases) (zip (ks ++ ls) (vs ++ ws)) ≡ map (entry sheet aliases) (zip ks vs) ++ map (entry sheet aliases) (zip ls ws)
