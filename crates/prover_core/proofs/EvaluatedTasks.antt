@@ -5,7 +5,6 @@ use Rattle.std.specs.Prelude.{◌==◌}
 use Rattle.import_rounds.specs.Rounds.{has}
 use Rattle.std.specs.Option.{option_map, option_map_or}
 use Rattle.pide_base.specs.declared.part.Part.{Part}
-use Rattle.pide_base.specs.declared.part.PartKind.{PartKind}
 use Rattle.pide_base.specs.declared.part.PartKind.TheVariants as kind
 use Rattle.task_queue.specs.declared.task.Standing.{Standing as Task}
 use Rattle.task_queue.specs.Tasks.{has as has_input}
@@ -22,7 +21,7 @@ use Rattle.prover_core.specs.Tasks.{task_behind, is_held, AreTasks, HasTask, pre
 use Rattle.prover_core.specs.Kept.{Tables, IsKept}
 use Rattle.prover_core.proofs.TasksStill.{still_behind}
 use Rattle.prover_core.proofs.TipLive.{Laws}
-use Rattle.prover_core.proofs.FinishedPart.{next_p as p_is_next, stands_apart as apart_stands, task_apart as apart_task, task_here as here_task}
+use Rattle.prover_core.proofs.FinishedPart.{next_p as p_is_next, stands_apart, task_apart, task_here}
 
 module _ {S : Type 0} (l : Lang S) (h : List Event) (t : Tables S) (k : IsKept l h t) (laws : Laws l h) (who : ℕ) (p : Part)
     (holds : held h who ≡ Some p) (wanted : is_wanted (doc l h) p.exec ≡ true) where
@@ -34,17 +33,6 @@ module _ {S : Type 0} (l : Lang S) (h : List Event) (t : Tables S) (k : IsKept l
 
   next_p : next_of l h d p.exec ≡ Some p.kind
   next_p = p_is_next l h t k laws who p holds wanted
-
-  stands_apart : (e : ℕ) → (p.exec == e) ≡ false → (x : PartKind) → standing more (part e x) ≡ standing h (part e x)
-  stands_apart = apart_stands l h t k laws who p holds wanted
-
-  task_apart : (e : ℕ) (o : Option Task) → (p.exec == e) ≡ false → AreTasks (standing more) d.tip d.homes e (present_kind l h d e) o
-      → HasTask l more d e o
-  task_apart = apart_task l h t k laws who p holds wanted
-
-  task_here : (o : Option Task) → AreTasks (standing more) d.tip d.homes p.exec (kind_behind p.kind (forks l d.homes p.exec)) o
-      → HasTask l more d p.exec o
-  task_here = here_task l h t k laws who p holds wanted
 
   module _ (own : p.kind ≡ kind.Eval) where
     done_behind : (f : ℕ) → is_done (standing more (evaluation f)) ≡ cond (p.exec == f) true (is_done (standing h (evaluation f)))
@@ -97,10 +85,10 @@ module _ {S : Type 0} (l : Lang S) (h : List Event) (t : Tables S) (k : IsKept l
             (task_behind (kind_behind x (forks l d.homes p.exec)))) (sym own) (fork_task (forks l d.homes p.exec)))
 
         go : (b : Bool) → (p.exec == e) ≡ b → HasTask l more d e (tasks e)
-        go true is = subst (λ x. HasTask l more d x (tasks x)) (eqb-true p.exec e is) (task_here (tasks p.exec) mine)
+        go true is = subst (λ x. HasTask l more d x (tasks x)) (eqb-true p.exec e is) (task_here l h t k laws who p holds wanted (tasks p.exec) mine)
         go false is =
             let differ = λ (same : e ≡ p.exec). false≢true (sym is ∙ eq-eqb p.exec e (sym same)) in
             let was = others e differ in
-            task_apart e (tasks e) is (subst (AreTasks (standing more) d.tip d.homes e (present_kind l h d e)) (sym was)
-            (still_behind (standing h) (standing more) d.tip d.homes e (stands_apart e is) p.exec done_behind (present_kind l h d e) (t.tasks e)
+            task_apart l h t k laws who p holds wanted e (tasks e) is (subst (AreTasks (standing more) d.tip d.homes e (present_kind l h d e)) (sym was)
+            (still_behind (standing h) (standing more) d.tip d.homes e (stands_apart l h t k laws who p holds wanted e is) p.exec done_behind (present_kind l h d e) (t.tasks e)
             (k.tasks e) (ap (λ o. option_map_or (λ (s : Task). has_input s.inputs p.exec) o false) (sym was) ∙ free e differ)))

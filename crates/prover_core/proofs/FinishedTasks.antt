@@ -16,12 +16,12 @@ use Rattle.core_rules.specs.Parts.{same_kind, forks, evaluation}
 use Rattle.core_rules.specs.Standing.{Done, standing, is_done, held}
 use Rattle.core_rules.specs.Doc.{Doc, doc}
 use Rattle.core_rules.specs.Ready.{is_wanted}
-use Rattle.prover_core.specs.Progress.{part, kind_behind}
+use Rattle.prover_core.specs.Progress.{kind_behind}
 use Rattle.prover_core.specs.Tasks.{task_behind, AreTasks, HasTask, present_kind}
 use Rattle.prover_core.specs.Kept.{Tables, IsKept}
 use Rattle.prover_core.proofs.TasksStill.{still}
 use Rattle.prover_core.proofs.TipLive.{Laws}
-use Rattle.prover_core.proofs.FinishedPart.{stands_apart as apart_stands, task_apart as apart_task, task_here as here_task}
+use Rattle.prover_core.proofs.FinishedPart.{stands_apart, task_apart, task_here}
 use Rattle.prover_core.proofs.EvaluatedTasks.{tasks_behind}
 
 module _ {S : Type 0} (l : Lang S) (h : List Event) (t : Tables S) (k : IsKept l h t) (laws : Laws l h) (who : ℕ) (p : Part)
@@ -31,17 +31,6 @@ module _ {S : Type 0} (l : Lang S) (h : List Event) (t : Tables S) (k : IsKept l
 
   abbrev more : List Event
   more = Finished who p ∷ h
-
-  stands_apart : (e : ℕ) → (p.exec == e) ≡ false → (x : PartKind) → standing more (part e x) ≡ standing h (part e x)
-  stands_apart = apart_stands l h t k laws who p holds wanted
-
-  task_apart : (e : ℕ) (o : Option Task) → (p.exec == e) ≡ false → AreTasks (standing more) d.tip d.homes e (present_kind l h d e) o
-      → HasTask l more d e o
-  task_apart = apart_task l h t k laws who p holds wanted
-
-  task_here : (o : Option Task) → AreTasks (standing more) d.tip d.homes p.exec (kind_behind p.kind (forks l d.homes p.exec)) o
-      → HasTask l more d p.exec o
-  task_here = here_task l h t k laws who p holds wanted
 
   module _ (other : same_kind p.kind kind.Eval ≡ false) where
     nothing_behind : (x : PartKind) (f : Bool) → same_kind x kind.Eval ≡ false → kind_behind x f ≡ None
@@ -66,12 +55,12 @@ module _ {S : Type 0} (l : Lang S) (h : List Event) (t : Tables S) (k : IsKept l
 
         go : (b : Bool) → (p.exec == e) ≡ b → HasTask l more d e (tasks e)
         go true is = subst (λ x. HasTask l more d x (tasks x)) (eqb-true p.exec e is)
-            (task_here (tasks p.exec) (subst (λ x. AreTasks (standing more) d.tip d.homes p.exec x (tasks p.exec))
+            (task_here l h t k laws who p holds wanted (tasks p.exec) (subst (λ x. AreTasks (standing more) d.tip d.homes p.exec x (tasks p.exec))
             (sym (nothing_behind p.kind (forks l d.homes p.exec) other)) (subst (AreTasks (standing more) d.tip d.homes p.exec None) (sym nothing) tt)))
         go false is =
             let still_there = others e (λ same. false≢true (sym is ∙ eq-eqb p.exec e (sym same))) in
-            task_apart e (tasks e) is (subst (AreTasks (standing more) d.tip d.homes e (present_kind l h d e)) (sym still_there)
-            (still (standing h) (standing more) d.tip d.homes e (stands_apart e is) done_still (present_kind l h d e) (t.tasks e) (k.tasks e)))
+            task_apart l h t k laws who p holds wanted e (tasks e) is (subst (AreTasks (standing more) d.tip d.homes e (present_kind l h d e)) (sym still_there)
+            (still (standing h) (standing more) d.tip d.homes e (stands_apart l h t k laws who p holds wanted e is) done_still (present_kind l h d e) (t.tasks e) (k.tasks e)))
 
   -- so for each kind of part
   pub tasks_then : (tasks : ℕ → Option Task) → tasks p.exec ≡ task_behind (kind_behind p.kind (forks l d.homes p.exec))
