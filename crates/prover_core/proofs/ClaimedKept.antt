@@ -25,6 +25,7 @@ use Rattle.prover_core.proofs.Quiet.{row_same, next_same, present_same, order_sa
 use Rattle.prover_core.proofs.TasksStill.{still}
 use Rattle.prover_core.proofs.ReadyParts.{present_wanted, task_of}
 use Rattle.prover_core.proofs.TipLive.{Laws, in_tip}
+use Rattle.prover_core.proofs.KeptOn.{kept_on}
 
 module _ {S : Type 0} (l : Lang S) (h : List Event) (t : Tables S) (k : IsKept l h t) (laws : Laws l h) (who : ℕ) (p : Part)
     (going : has_ended h ≡ false) (idle : held h who ≡ None) (first : IsFirst l h p)
@@ -81,26 +82,11 @@ module _ {S : Type 0} (l : Lang S) (h : List Event) (t : Tables S) (k : IsKept l
       → ((w : ℕ) → holders w ≡ cond (who == w) (Some p) (t.holders w))
       → ((e : ℕ) → tasks e ≡ with_standing t.tasks p.exec (option_map taken (t.tasks p.exec)) e) → holding ≤ room → count ≡ t.count
       → IsKept l more (record t { holders = holders; holding = holding; tasks = tasks; room = room; count = count })
-  claimed_kept holders holding tasks room count takes taking fits as_many = record {
-    legal = (k.legal, (going, idle, first));
-    start_is = k.start_is;
-    live = k.live;
-    tip = k.tip;
-    rows_fit = k.rows_fit;
-    losses = k.losses;
-    next_is = k.next_is;
-    within = k.within;
-    rows = λ e. k.rows e ∙ sym (row_same l d e h more (same e));
-    homes = k.homes;
-    known = k.known;
-    in_order = λ e. order_same l d e h more (same e) (k.in_order e);
-    holders = λ w. takes w ∙ ap (λ o. cond (who == w) (Some p) o) (k.holders w);
-    held_next = next_held;
-    tasks = λ e. subst (λ o. AreTasks (standing more) d.tip d.homes e (present_kind l more d e) o) (sym (taking e))
-        (subst (λ o. AreTasks (standing more) d.tip d.homes e o (with_standing t.tasks p.exec (option_map taken (t.tasks p.exec)) e))
-        (sym (present_same l d e h more (same e))) (task_by e (p.exec == e) refl));
-    ended = k.ended;
-    cancelled = k.cancelled;
-    room = fits;
-    spare = omega (arith, as_many, k.spare);
-  }
+  claimed_kept holders holding tasks room count takes taking fits as_many =
+      kept_on l h more t k refl t.rows holders holding tasks room count t.ended (k.legal, (going, idle, first))
+      (λ e. k.rows e ∙ sym (row_same l d e h more (same e))) (λ e. order_same l d e h more (same e) (k.in_order e))
+      (λ w. takes w ∙ ap (λ o. cond (who == w) (Some p) o) (k.holders w)) next_held
+      (λ e. subst (λ o. AreTasks (standing more) d.tip d.homes e (present_kind l more d e) o) (sym (taking e))
+      (subst (λ o. AreTasks (standing more) d.tip d.homes e o (with_standing t.tasks p.exec (option_map taken (t.tasks p.exec)) e))
+      (sym (present_same l d e h more (same e))) (task_by e (p.exec == e) refl)))
+      k.ended fits (omega (arith, as_many, k.spare))

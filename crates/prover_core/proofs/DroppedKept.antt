@@ -19,6 +19,7 @@ use Rattle.prover_core.proofs.PartsAlike.{elsewhere, completed_alike, done_alike
 use Rattle.prover_core.proofs.Quiet.{row_same, next_same, present_same, order_same}
 use Rattle.prover_core.proofs.TasksStill.{still, still_none}
 use Rattle.prover_core.proofs.TipLive.{Laws, tip_live}
+use Rattle.prover_core.proofs.KeptOn.{kept_on}
 
 module _ {S : Type 0} (l : Lang S) (h : List Event) (t : Tables S) (k : IsKept l h t) (laws : Laws l h) (who : ℕ) (p : Part)
     (holds : held h who ≡ Some p) (unwanted : is_wanted (doc l h) p.exec ≡ false) where
@@ -61,25 +62,10 @@ module _ {S : Type 0} (l : Lang S) (h : List Event) (t : Tables S) (k : IsKept l
 
   pub dropped_kept : (holders : ℕ → Option Part) (holding : ℕ) → ((w : ℕ) → holders w ≡ cond (who == w) None (t.holders w))
       → holding ≤ t.holding → IsKept l more (record t { holders = holders; holding = holding })
-  dropped_kept holders holding out fewer = record {
-    legal = (k.legal, (holds, unwanted));
-    start_is = k.start_is;
-    live = k.live;
-    tip = k.tip;
-    rows_fit = k.rows_fit;
-    losses = k.losses;
-    next_is = k.next_is;
-    within = k.within;
-    rows = λ e. k.rows e ∙ sym (row_same l d e h more (same e));
-    homes = k.homes;
-    known = k.known;
-    in_order = λ e. order_same l d e h more (same e) (k.in_order e);
-    holders = λ w. out w ∙ ap (λ o. cond (who == w) None o) (k.holders w);
-    held_next = next_held;
-    tasks = λ e. subst (λ o. AreTasks (standing more) d.tip d.homes e o (t.tasks e)) (sym (present_same l d e h more (same e)))
-        (task_by e (p.exec == e) refl);
-    ended = k.ended;
-    cancelled = k.cancelled;
-    room = omega (arith, fewer, k.room);
-    spare = k.spare;
-  }
+  dropped_kept holders holding out fewer =
+      kept_on l h more t k refl t.rows holders holding t.tasks t.room t.count t.ended (k.legal, (holds, unwanted))
+      (λ e. k.rows e ∙ sym (row_same l d e h more (same e))) (λ e. order_same l d e h more (same e) (k.in_order e))
+      (λ w. out w ∙ ap (λ o. cond (who == w) None o) (k.holders w)) next_held
+      (λ e. subst (λ o. AreTasks (standing more) d.tip d.homes e o (t.tasks e)) (sym (present_same l d e h more (same e)))
+      (task_by e (p.exec == e) refl))
+      k.ended (omega (arith, fewer, k.room)) k.spare

@@ -20,6 +20,7 @@ use Rattle.prover_core.specs.Kept.{Tables, IsKept}
 use Rattle.prover_core.proofs.PartsAlike.{completed_elsewhere, completed_here}
 use Rattle.prover_core.proofs.Quiet.{row_same, next_same}
 use Rattle.prover_core.proofs.TipLive.{Laws}
+use Rattle.prover_core.proofs.KeptOn.{kept_on}
 
 module _ {S : Type 0} (l : Lang S) (h : List Event) (t : Tables S) (k : IsKept l h t) (laws : Laws l h) (who : ℕ) (p : Part)
     (holds : held h who ≡ Some p) (wanted : is_wanted (doc l h) p.exec ≡ true) where
@@ -83,24 +84,9 @@ module _ {S : Type 0} (l : Lang S) (h : List Event) (t : Tables S) (k : IsKept l
       → ((w : ℕ) → holders w ≡ cond (who == w) None (t.holders w))
       → ((e : ℕ) → HasTask l more d e (tasks e)) → (p.kind ≡ kind.Fork → (completed_in h p.exec).eval ≡ true) → holding ≤ room → count ≤ t.count
       → IsKept l more (record t { rows = rows; holders = holders; holding = holding; tasks = tasks; room = room; count = count })
-  finished_kept rows holders holding tasks room count o row_is updates out are behind fits fewer = record {
-    legal = (k.legal, (holds, wanted));
-    start_is = k.start_is;
-    live = k.live;
-    tip = k.tip;
-    rows_fit = k.rows_fit;
-    losses = k.losses;
-    next_is = k.next_is;
-    within = k.within;
-    rows = λ e. updates e ∙ rows_by e (p.exec == e) refl o row_is;
-    homes = k.homes;
-    known = k.known;
-    in_order = λ e. each InOrder e (order_by p.kind (completed_in h p.exec) (k.in_order p.exec) behind) (k.in_order e);
-    holders = λ w. out w ∙ ap (λ x. cond (who == w) None x) (k.holders w);
-    held_next = next_held;
-    tasks = are;
-    ended = k.ended;
-    cancelled = k.cancelled;
-    room = fits;
-    spare = omega (arith, fewer, k.spare);
-  }
+  finished_kept rows holders holding tasks room count o row_is updates out are behind fits fewer =
+      kept_on l h more t k refl rows holders holding tasks room count t.ended (k.legal, (holds, wanted))
+      (λ e. updates e ∙ rows_by e (p.exec == e) refl o row_is)
+      (λ e. each InOrder e (order_by p.kind (completed_in h p.exec) (k.in_order p.exec) behind) (k.in_order e))
+      (λ w. out w ∙ ap (λ x. cond (who == w) None x) (k.holders w)) next_held are
+      k.ended fits (omega (arith, fewer, k.spare))

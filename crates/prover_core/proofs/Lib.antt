@@ -12,6 +12,7 @@ mod Quiet
 mod TipLive
 mod TipTold
 pub mod KnownResults
+mod KeptOn
 mod EndedKept
 mod DroppedKept
 mod ClaimedKept
