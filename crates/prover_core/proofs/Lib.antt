@@ -49,7 +49,6 @@ mod FreshPlan
 mod UpdateTables
 mod PlanTables
 mod PlanTasks
-mod FirstTask
 mod PlanFresh
 mod FreshAll
 mod FreshNew

@@ -1,25 +1,37 @@
--- The new executions of a planned update, by their numbers.
-use Rattle.std.proofs.Common.{◌≡◌, ℕ, suc, ◌<◌, ◌≤◌, true, false, not, ◌&&◌, List, [], ◌∷◌, length, Some, None, refl, ap, ◌∙◌, arith}
+-- The new executions of a planned update, by their numbers, and their first tasks.
+use Rattle.std.proofs.Common.{◌≡◌, ℕ, suc, ◌<◌, ◌≤◌, true, false, not, ◌&&◌, List, [], ◌∷◌, length, Some, None, refl, ap, ◌∙◌, arith, sym}
+use Rattle.std.specs.Option.{option_map_or}
 use Rattle.import_rounds.specs.Rounds.{has}
 use Rattle.doc_nodes.specs.Imports.{NodeList}
+use Rattle.task_queue.specs.Tasks.{has as has_input}
+use Rattle.task_queue.specs.Changes.{waiting}
 use Rattle.exec_rules.specs.declared.home.Home.{Home}
 use Rattle.exec_rules.specs.declared.version.Version.{Version}
 use Rattle.exec_rules.specs.Kept.{BlobList}
+use Rattle.exec_rules.specs.declared.home.Input.TheVariants as input
+use Rattle.exec_rules.specs.declared.home.Input.{Input}
 use Rattle.language.specs.Lang.{Lang}
 use Rattle.core_rules.specs.declared.event.Event.{Event}
 use Rattle.core_rules.specs.declared.event.Event.TheVariants.{Update}
 use Rattle.core_rules.specs.Numbered.{numbered, grown}
-use Rattle.core_rules.specs.Assigned.{assigns, is_assigned}
+use Rattle.core_rules.specs.Assigned.{assigns, is_assigned, is_visible}
 use Rattle.core_rules.specs.Doc.{Doc, doc, assignment_of, version_of}
 use Rattle.core_rules.specs.Sources.{HasHome}
+use Rattle.core_rules.specs.Parts.{waits_by, sources_of, evaluation}
+use Rattle.core_rules.specs.Standing.{standing, is_finished}
+use Rattle.core_rules.specs.Ready.{priority_by}
+use Rattle.core_rules.proofs.KnownNumbers.{length_grown}
 use Rattle.update_plans.specs.declared.beginning.Fresh.{Fresh}
-use Rattle.prover_core.specs.Plans.{AreTasksFor}
+use Rattle.update_plans.specs.Begun.{first_kind}
+use Rattle.prover_core.specs.Plans.{AreTasksFor, ranked}
 use Rattle.prover_core.specs.Fresh.{fresh_at}
 use Rattle.prover_core.specs.Kept.{Tables, IsKept}
-use Rattle.core_rules.proofs.KnownNumbers.{length_grown}
+use Rattle.prover_core.specs.Progress.{part}
+use Rattle.prover_core.specs.Tasks.{is_held, IsTaskOf}
 use Rattle.prover_core.proofs.FreshPlan.{homes_in, tasks_in, Found, none_before, none_behind, found}
 use Rattle.prover_core.proofs.UpdatedDoc.{NewLaws}
 use Rattle.prover_core.proofs.UpdateTables.{not_tip}
+use Rattle.prover_core.proofs.RankedTasks.{ranked_same, ranked_held, ranked_inputs, ranked_urgent}
 
 length_map : (fresh : List Fresh) → length (homes_in fresh) ≡ length fresh
 length_map [] = refl
@@ -60,3 +72,33 @@ module _ {S : Type 0} (l : Lang S) (h : List Event) (t : Tables S) (k : IsKept l
   pub not_dropped : (e : ℕ) → length d.homes < e → has dropped e ≡ false
   not_dropped e past = drops e
       ∙ ap (λ b. b && not (assigns new e)) (not_tip l h t k laws.within tip_live tip_homes e past)
+
+  waits_first : (i : Input) (e : ℕ) → waits_by now.homes (first_kind i) e
+      ≡ option_map_or (λ (y : Home). sources_of y.input) (numbered now.homes e) []
+  waits_first (input.First head) e = refl
+  waits_first (input.Next f) e = refl
+  waits_first (input.Print f) e = refl
+
+  waits_new : (e : ℕ) (x : Home) → numbered now.homes e ≡ Some x → waits_by now.homes (first_kind x.input) e ≡ sources_of x.input
+  waits_new e x at = waits_first x.input e ∙ ap (λ o. option_map_or (λ (y : Home). sources_of y.input) o []) at
+
+  -- the task of a new execution, with its priority told anew or not
+  pub plain_task : (e : ℕ) (x : Home) → length d.homes < e → numbered now.homes e ≡ Some x → (one : Found h fresh e x)
+      → is_visible new e ≡ false → IsTaskOf (standing more) new now.homes e (first_kind x.input) (waiting one.one.task)
+  plain_task e x past at one hidden = record {
+    same_kind = one.task.same_kind;
+    urgent = one.task.urgent ∙ ap (priority_by (first_kind x.input)) (sym hidden);
+    waits = λ f. one.task.waits f ∙ ap (λ ws. has ws f && not (is_finished h (evaluation f))) (sym (waits_new e x at));
+    held = sym (ap is_held (laws.unmade (part e (first_kind x.input)) past));
+  }
+
+  pub seen_task : (e : ℕ) (x : Home) → length d.homes < e → numbered now.homes e ≡ Some x → (one : Found h fresh e x)
+      → IsTaskOf (standing more) new now.homes e (first_kind x.input) (ranked (is_visible new e) (waiting one.one.task))
+  seen_task e x past at one = record {
+    same_kind = ranked_same (is_visible new e) (waiting one.one.task) ∙ one.task.same_kind;
+    urgent = ranked_urgent (is_visible new e) false (first_kind x.input) (waiting one.one.task) one.task.same_kind one.task.urgent;
+    waits = λ f. ap (λ es. has_input es f) (ranked_inputs (is_visible new e) (waiting one.one.task))
+        ∙ one.task.waits f ∙ ap (λ ws. has ws f && not (is_finished h (evaluation f))) (sym (waits_new e x at));
+    held = ranked_held (is_visible new e) (waiting one.one.task)
+        ∙ sym (ap is_held (laws.unmade (part e (first_kind x.input)) past));
+  }

@@ -28,8 +28,7 @@ use Rattle.prover_core.proofs.FreshPlan.{homes_in, tasks_in, Found}
 use Rattle.prover_core.proofs.UpdatedDoc.{NewLaws}
 use Rattle.prover_core.proofs.UpdatedTasks.{AreTasksThen}
 use Rattle.prover_core.proofs.UpdateTables.{no_task}
-use Rattle.prover_core.proofs.PlanFresh.{fresh_none, fresh_behind, beyond_old, fresh_found, not_dropped}
-use Rattle.prover_core.proofs.FirstTask.{plain_task, seen_task}
+use Rattle.prover_core.proofs.PlanFresh.{fresh_none, fresh_behind, beyond_old, fresh_found, not_dropped, plain_task, seen_task}
 
 module _ {S : Type 0} (l : Lang S) (h : List Event) (t : Tables S) (k : IsKept l h t) (id : ℕ) (nodes : NodeList) (blobs : BlobList)
     (laws : NewLaws l h id nodes blobs) (tip_live : (e : ℕ) → assigns (doc l h).tip e ≡ true → is_assigned (doc l h).live e ≡ true)
