@@ -7,6 +7,7 @@ mod At
 mod Answered
 mod OneMore
 mod Short
+mod HandedBack
 mod Decoding
 mod GoingOn
 mod Ended

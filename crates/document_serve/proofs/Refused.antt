@@ -1,11 +1,6 @@
 -- Facts by the kind of a result.
 use Rattle.std.specs.Prelude.{Result, Ok, Err, OnErr, OnOk}
 
--- a fact that holds whatever the result
-pub on_err : {T E P : Type 0} (r : Result T E) → P → OnErr r P
-on_err (Ok x) p = tt
-on_err (Err e) p = p
-
 -- what follows
 pub ok_then : {T E P Q : Type 0} (r : Result T E) → (P → Q) → OnOk r P → OnOk r Q
 ok_then (Ok x) f p = f p

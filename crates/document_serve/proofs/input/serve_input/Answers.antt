@@ -2,10 +2,10 @@
 use Rattle.std.proofs.Common.{◌≤◌, ◌+◌, [], ◌++◌, length, take, arith, rules, refl, ◌∙◌}
 use Rattle.std.proofs.KnownBytes.{Consumes-nil}
 use Rattle.std.proofs.lemmas.List.{length-append, length-take}
+use Rattle.prover_core.proofs.KnownResults.{on_err}
 use Rattle.document_serve.proofs.Ends.{long_run}
 use Rattle.document_serve.proofs.Unread.{memory_run}
 use Rattle.document_serve.proofs.Pulling.{rests_first, serving_first, step_ends, step_served}
-use Rattle.document_serve.proofs.Refused.{on_err}
 use Rattle.document_serve.proofs.input.serve_input.Goals as goal
 
 pub returns-in_err-buffer-clause-err : goal.returns-in_err-buffer-clause-err

@@ -1,9 +1,9 @@
 -- A piece is served, or what came of the source ends the session.
 use Rattle.std.proofs.Common.{length, take, arith}
 use Rattle.std.proofs.KnownBytes.{Consumes-kept}
+use Rattle.prover_core.proofs.KnownResults.{on_err}
 use Rattle.document_serve.proofs.Ends.{end_run, fault_run, short_run, within_run}
 use Rattle.document_serve.proofs.Pulling.{pulled_more}
-use Rattle.document_serve.proofs.Refused.{on_err}
 use Rattle.document_serve.proofs.input.serve_pull.Goals as goal
 
 pub returns-in_err-serve_piece-in-Bytes-clause-err : goal.returns-in_err-serve_piece-in-Bytes-clause-err

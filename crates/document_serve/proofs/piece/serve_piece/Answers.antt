@@ -2,8 +2,8 @@
 use Rattle.std.proofs.Common.{◌≡◌, ◌++◌, subst, ◌∙◌}
 use Rattle.pide_base.specs.declared.status.Status.{Status}
 use Rattle.pide_base.specs.declared.status.Status.TheVariants as status
+use Rattle.prover_core.proofs.KnownResults.{on_err}
 use Rattle.document_serve.specs.Runs.{ServedSo, StoppedWithin}
-use Rattle.document_serve.proofs.Refused.{on_err}
 use Rattle.document_serve.proofs.Stopping.{feeding_short, serving_bad, serving_fails, serving_on, serving_short}
 use Rattle.document_serve.proofs.piece.serve_piece.Goals as goal
 

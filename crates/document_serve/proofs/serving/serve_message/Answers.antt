@@ -1,17 +1,15 @@
 -- The message waits while parts are worked on, until it is answered.
-use Rattle.std.proofs.Common.{◌+◌, ◌-◌, ◌<◌, ◌∷◌, [], List, arith, sym, subst}
+use Rattle.std.proofs.Common.{◌∷◌, [], arith, sym, subst}
+use Rattle.prover_core.proofs.KnownResults.{on_err}
 use Rattle.session_rules.specs.declared.service.Service.{Service}
 use Rattle.session_lists.specs.Legal.{AreLegal}
 use Rattle.document_session.specs.Answers.{TakenSo}
 use Rattle.document_session.specs.Contents.{SessionState}
 use Rattle.document_serve.specs.Runs.{RunsShort}
 use Rattle.document_serve.proofs.Answered.{answer_served}
-use Rattle.document_serve.proofs.At.{at_first, at_waits, events_of, same_events}
-use Rattle.document_serve.proofs.OneMore.{at_next, next_events, work_fails}
-use Rattle.session_laws.proofs.KnownResting.{fewer_left, finishes, made}
-use Rattle.core_rules.specs.declared.event.Event.{Event}
-use Rattle.document_serve.proofs.Refused.{on_err}
-use Rattle.document_serve.proofs.Short.{short, work_short}
+use Rattle.document_serve.proofs.At.{at_first}
+use Rattle.document_serve.proofs.HandedBack.{stays_short, part_fails, part_told, fewer_parts}
+use Rattle.document_serve.proofs.Short.{short}
 use Rattle.document_serve.proofs.Stepping.{answered}
 use Rattle.document_serve.proofs.Waiting.{may_after}
 use Rattle.document_serve.proofs.serving.serve_message.Goals as goal
@@ -23,14 +21,10 @@ pub returns-in_err-take-clause-err : goal.returns-in_err-take-clause-err
 returns-in_err-take-clause-err g c =
     let l = g.L.Language.lang in
     let laws = c.work_laws.ensures in
-    let held = g.K.Sink.contents c.args.sink.now in
     let now = g.K.Sink.contents c.waiting.sink in
-    let old = c.args.session.now in
-    let before = c.waiting.session in
-    let at = c.waiting.invariant.0 in
-    let s = c.take.new.self in
-    on_err c.from_residual.result (subst (λ (x : SessionState). RunsShort l held now old x (c.args.message ∷ [])) (sym c.in_err-take.ensures.err)
-    (short l laws laws.asks laws.lists.join held now old before c.args.message c.waiting.message at))
+    on_err c.from_residual.result (subst (λ (x : SessionState). RunsShort l (g.K.Sink.contents c.args.sink.now) now c.args.session.now x (c.args.message ∷ []))
+    (sym c.in_err-take.ensures.err) (short l laws laws.asks laws.lists.join (g.K.Sink.contents c.args.sink.now) now c.args.session.now c.waiting.session
+    c.args.message c.waiting.message c.waiting.invariant.0))
 
 pub work-requires-clause-going : goal.work-requires-clause-going
 work-requires-clause-going g c = λ κs outlives.
@@ -54,19 +48,10 @@ work-requires-clause-ready g c = λ κs outlives.
     (may_after l c.work_laws.ensures before c.take.new.self c.waiting.message c.in-Waits.back c.waiting.invariant.0.going c.take.ensures.service so).ready
 
 pub returns-in_err-work-clause-err : goal.returns-in_err-work-clause-err
-returns-in_err-work-clause-err g c =
-    let l = g.L.Language.lang in
-    let laws = c.work_laws.ensures in
-    let held = g.K.Sink.contents c.args.sink.now in
-    let now = g.K.Sink.contents c.waiting.sink in
-    let old = c.args.session.now in
-    let before = c.waiting.session in
-    let at = c.waiting.invariant.0 in
-    let s = c.take.new.self in
-    let waits = at_waits l held now old before s c.args.message c.waiting.message c.in-Waits.back at c.take.ensures.service
-    (subst (λ t. TakenSo l before.service c.waiting.message before.items t s.items) c.in-Waits.is c.in_ok-take.ensures.taken) in
-    on_err c.from_residual-in_err-work.result (work_short l laws laws.asks laws.lists.join held now old s c.args.message c.in-Waits.back waits.0 waits.1
-    c.work.new.session c.work.ensures.service c.work.ensures.legal c.in_err-work.ensures.err)
+returns-in_err-work-clause-err g c = on_err c.from_residual-in_err-work.result
+    (stays_short g.L.Language.lang c.work_laws.ensures (g.K.Sink.contents c.args.sink.now) (g.K.Sink.contents c.waiting.sink) c.args.session.now
+    c.waiting.session c.take.new.self c.args.message c.waiting.message c.in-Waits.back c.waiting.invariant.0 c.take.ensures.service _ c.in-Waits.is
+    c.in_ok-take.ensures.taken c.work.new.session c.work.ensures.service c.work.ensures.legal c.in_err-work.ensures.err)
 
 pub returns-in-Replied-clause-ok : goal.returns-in-Replied-clause-ok
 returns-in-Replied-clause-ok g c =
@@ -87,68 +72,31 @@ returns-in-Replied-clause-ok g c =
 
 pub returns-in-WriteFault-clause-ok : goal.returns-in-WriteFault-clause-ok
 returns-in-WriteFault-clause-ok g c =
-    let l = g.L.Language.lang in
-    let laws = c.work_laws.ensures in
-    let held = g.K.Sink.contents c.args.sink.now in
-    let now = g.K.Sink.contents c.waiting.sink in
-    let old = c.args.session.now in
-    let before = c.waiting.session in
-    let at = c.waiting.invariant.0 in
-    let s = c.take.new.self in
-    let waits = at_waits l held now old before s c.args.message c.waiting.message c.in-Waits.back at c.take.ensures.service
-    (subst (λ t. TakenSo l before.service c.waiting.message before.items t s.items) c.in-Waits.is c.in_ok-take.ensures.taken) in
-    let mid = c.work.new.session in
     let worked = c.in_ok-work.ensures.ok in
-    let new = c.write_out-in-waiting.new.session in
-    let then = g.K.Sink.contents c.write_out-in-waiting.new.sink in
     let written = c.in-WriteFault.ensures.written in
-    work_fails l laws laws.asks held now old s c.args.message c.in-Waits.back waits.0 mid new then c.work.ensures.service written.0 waits.1
-    worked.0 worked.1 c.work.ensures.legal written.1 written.2 written.3
+    part_fails g.L.Language.lang c.work_laws.ensures (g.K.Sink.contents c.args.sink.now) (g.K.Sink.contents c.waiting.sink) c.args.session.now
+    c.waiting.session c.take.new.self c.args.message c.waiting.message c.in-Waits.back c.waiting.invariant.0 c.take.ensures.service _ c.in-Waits.is
+    c.in_ok-take.ensures.taken
+    c.work.new.session c.write_out-in-waiting.new.session (g.K.Sink.contents c.write_out-in-waiting.new.sink) c.work.ensures.service
+    written.0 worked.0 worked.1 c.work.ensures.legal written.1 written.2 written.3
 
 pub waiting-preserved : goal.waiting-preserved
 waiting-preserved g c =
-    let l = g.L.Language.lang in
-    let laws = c.work_laws.ensures in
-    let held = g.K.Sink.contents c.args.sink.now in
-    let now = g.K.Sink.contents c.waiting.sink in
-    let old = c.args.session.now in
-    let before = c.waiting.session in
-    let at = c.waiting.invariant.0 in
-    let s = c.take.new.self in
-    let waits = at_waits l held now old before s c.args.message c.waiting.message c.in-Waits.back at c.take.ensures.service
-    (subst (λ t. TakenSo l before.service c.waiting.message before.items t s.items) c.in-Waits.is c.in_ok-take.ensures.taken) in
-    let mid = c.work.new.session in
     let worked = c.in_ok-work.ensures.ok in
-    let new = c.write_out-in-waiting.new.session in
-    let then = g.K.Sink.contents c.write_out-in-waiting.new.sink in
-    let written = c.in-All.ensures.written in (
-      at_next l laws laws.asks held now old s c.args.message c.in-Waits.back waits.0 mid new then c.work.ensures.service written.0 waits.1
-          worked.0 worked.1 c.work.ensures.legal written.1 written.2 written.3,
-      omega (arith, c.waiting.invariant.1, c.write_out-in-waiting.ensures.steady),
-    )
+    let written = c.in-All.ensures.written in
+    let next = part_told g.L.Language.lang c.work_laws.ensures (g.K.Sink.contents c.args.sink.now) (g.K.Sink.contents c.waiting.sink) c.args.session.now
+    c.waiting.session c.take.new.self c.args.message c.waiting.message c.in-Waits.back c.waiting.invariant.0 c.take.ensures.service _ c.in-Waits.is
+    c.in_ok-take.ensures.taken
+    c.work.new.session c.write_out-in-waiting.new.session (g.K.Sink.contents c.write_out-in-waiting.new.sink) c.work.ensures.service
+    written.0 worked.0 worked.1 c.work.ensures.legal written.1 written.2 written.3 in
+    (next, omega (arith, c.waiting.invariant.1, c.write_out-in-waiting.ensures.steady))
 
 pub waiting-smaller : goal.waiting-smaller
 waiting-smaller g c =
-    let l = g.L.Language.lang in
-    let laws = c.work_laws.ensures in
-    let held = g.K.Sink.contents c.args.sink.now in
-    let now = g.K.Sink.contents c.waiting.sink in
-    let old = c.args.session.now in
-    let before = c.waiting.session in
-    let at = c.waiting.invariant.0 in
-    let s = c.take.new.self in
-    let waits = at_waits l held now old before s c.args.message c.waiting.message c.in-Waits.back at c.take.ensures.service
-    (subst (λ t. TakenSo l before.service c.waiting.message before.items t s.items) c.in-Waits.is c.in_ok-take.ensures.taken) in
-    let mid = c.work.new.session in
     let worked = c.in_ok-work.ensures.ok in
-    let new = c.write_out-in-waiting.new.session in
-    let then = g.K.Sink.contents c.write_out-in-waiting.new.sink in
     let written = c.in-All.ensures.written in
-    let from = events_of l old in
-    let so = subst (λ t. TakenSo l before.service c.waiting.message before.items t s.items) c.in-Waits.is c.in_ok-take.ensures.taken in
-    let same = same_events l before s c.take.ensures.service so.1 in
-    let next = next_events l laws laws.asks held now old s c.args.message c.in-Waits.back waits.0 mid new then c.work.ensures.service written.0 waits.1
-    worked.0 worked.1 c.work.ensures.legal in
-    let less = fewer_left l from (laws.ends from) waits.0.steps (events_of l s) (events_of l new) worked.0 waits.0.works
-    (may_after l laws before s c.waiting.message c.in-Waits.back at.going c.take.ensures.service so).ready next in
-    subst (λ (k : List Event). (finishes from + made l from) - finishes (events_of l new) < (finishes from + made l from) - finishes k) same less
+    fewer_parts g.L.Language.lang c.work_laws.ensures (g.K.Sink.contents c.args.sink.now) (g.K.Sink.contents c.waiting.sink) c.args.session.now
+    c.waiting.session c.take.new.self c.args.message c.waiting.message c.in-Waits.back c.waiting.invariant.0 c.take.ensures.service _ c.in-Waits.is
+    c.in_ok-take.ensures.taken
+    c.work.new.session c.write_out-in-waiting.new.session (g.K.Sink.contents c.write_out-in-waiting.new.sink) c.work.ensures.service
+    written.0 worked.0 worked.1 c.work.ensures.legal

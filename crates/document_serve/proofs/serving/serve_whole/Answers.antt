@@ -1,9 +1,9 @@
 -- What stopped a message stopped all.
 use Rattle.std.proofs.Common.{◌≡◌, ◌∷◌, [], ◌++◌, ◌∙◌, subst}
+use Rattle.prover_core.proofs.KnownResults.{on_err}
 use Rattle.document_serve.specs.Runs.{ServedSo}
 use Rattle.document_serve.proofs.Decoding.{waiting_next}
 use Rattle.document_serve.proofs.GoingOn.{go_fail, go_short}
-use Rattle.document_serve.proofs.Refused.{on_err}
 use Rattle.document_serve.proofs.serving.serve_whole.Goals as goal
 
 pub returns-in_err-serve_message-clause-err : goal.returns-in_err-serve_message-clause-err

@@ -5,12 +5,12 @@ use Rattle.core_rules.specs.Standing.{held, has_ended}
 use Rattle.core_rules.specs.Ready.{first_ready}
 use Rattle.prover_core.specs.States.{CoreState}
 use Rattle.prover_core.specs.Looked.{looked}
+use Rattle.prover_core.proofs.KnownResults.{on_ok}
 use Rattle.prover_core.proofs.EndedKept.{moved}
 use Rattle.prover_core.proofs.TipLive.{laws_of}
 use Rattle.prover_core.proofs.RoomKept.{roomier}
 use Rattle.prover_core.proofs.FirstOf.{first_present, taking}
 use Rattle.prover_core.proofs.ClaimedKept.{claimed_kept}
-use Rattle.prover_core.proofs.KnownResults.{on_ok}
 use Rattle.prover_core.proofs.prover.Core.take.Goals as goal
 
 pub put-requires-clause-new : goal.put-requires-clause-new
