@@ -1,5 +1,5 @@
 -- A node that is given its rows: they go by what stands beside them, and the numbers go on.
-use Rattle.std.proofs.Common.{◌≡◌, ℕ, zero, suc, ◌+◌, ◌-◌, ◌≤◌, Bool, true, false, cond, List, [], ◌∷◌, ◌++◌, length, drop, Option, sym, subst, ◌∙◌, arith}
+use Rattle.std.proofs.Common.{◌≡◌, ℕ, zero, suc, ◌+◌, ◌-◌, ◌≤◌, List, [], ◌∷◌, length, drop, sym, subst, ◌∙◌, arith}
 use Rattle.std.proofs.lemmas.List.{length-append, length-map}
 use Rattle.doc_nodes.specs.declared.node.Entry.{Entry}
 use Rattle.doc_nodes.specs.declared.node.Node.{Node}
@@ -8,8 +8,8 @@ use Rattle.exec_rules.specs.declared.home.Head.{Head}
 use Rattle.exec_rules.specs.declared.home.Home.{Home}
 use Rattle.exec_rules.specs.declared.home.Input.TheVariants as input
 use Rattle.exec_rules.specs.Kept.{BlobList}
-use Rattle.exec_rules.specs.Rows.{evaluations, live_prints, first_print, takes_print, behind_prints}
-use Rattle.exec_rules.specs.Homes.{home, eval_homes, print_homes}
+use Rattle.exec_rules.specs.Rows.{evaluations, live_prints}
+use Rattle.exec_rules.specs.Homes.{eval_homes, print_homes}
 use Rattle.exec_rules.specs.Assigning.{Update, rows_in, given_by}
 use Rattle.exec_rules.proofs.KnownNumbers.{print_numbers}
 use Rattle.core_rules.specs.Numbered.{numbered, grown}
