@@ -1,5 +1,5 @@
 -- The commands of a text whose markup has no error have none, so its facts follow.
-use Rattle.std.proofs.Common.{◌≡◌, ℕ, ◌==◌, true, List, [], ◌∷◌, find, refl, ap, subst}
+use Rattle.std.proofs.Common.{◌≡◌, ℕ, ◌==◌, true, List, [], ◌∷◌, find, ap, subst}
 use Rattle.std.specs.List.{AllByRecursion, flat_map, zip}
 use Rattle.std.specs.Option.{option_map_or}
 use Rattle.doc_nodes.specs.declared.node.Entry.{Entry}
