@@ -45,7 +45,6 @@ same_ids k ids count next e len = (
   none = omega arith
 
 module _ (sheet : Sheet) (aliases : AliasList) where
-
   ids_are : (ids : List ℕ) (rs : List Range) → length ids ≡ length rs → map (λ (e : Entry). e.command) (map (entry sheet aliases) (zip ids rs)) ≡ ids
   ids_are [] [] len = refl
   ids_are [] (r ∷ rs) len = refl

@@ -26,7 +26,6 @@ three xs f b le =
     ∙ sym (append_assoc (take f xs) (take m (drop f xs)) (drop (length xs - b) xs))
 
 module _ (sheet : Sheet) (aliases : AliasList) where
-
   entries-append : (ks ls : List ℕ) (vs ws : List Range) → length ks ≡ length vs
       → map (entry sheet aliases) (zip (ks ++ ls) (vs ++ ws)) ≡ map (entry sheet aliases) (zip ks vs) ++ map (entry sheet aliases) (zip ls ws)
   entries-append ks ls vs ws e =
