@@ -1,1 +1,2 @@
 mod BoardBytes
+mod Quiet
