@@ -2,8 +2,6 @@
 use Rattle.std.proofs.Common.{◌≡◌, Bool, true, false, List, [], ◌∷◌, ◌++◌, Result, Ok, Err, IfOk, refl, sym, ◌∙◌, ap}
 use Rattle.std.specs.List.{AllByRecursion}
 use Rattle.std.specs.Ordering.{is_gt}
-use Rattle.std.specs.declared.cmp.Ordering.{Ordering}
-use Rattle.std.specs.declared.cmp.Ordering.TheVariants.{Less, Equal, Greater}
 use Rattle.report_markup.specs.declared.report.Report.{Report}
 use Rattle.report_markup.specs.Order.{report_cmp}
 use Rattle.report_markup.specs.Sorting.{insert_if, insert_report}
@@ -31,17 +29,12 @@ at_test : (b : Bool) (r y : Report) (rest inserted : List Report) → is_gt (rep
     → insert_if (is_gt (report_cmp r y)) r y rest inserted ≡ insert_if b r y rest inserted
 at_test b r y rest inserted e = ap (λ t. insert_if t r y rest inserted) e
 
-gt_is : (o : Ordering) → is_gt o ≡ true → o ≡ Greater
-gt_is Less e = cc
-gt_is Equal e = cc
-gt_is Greater e = refl
-
 pub behind : (r x : Report) (left right : List Report) → AllByRecursion (λ y. NotAfter y x) left → is_gt (report_cmp r x) ≡ true
     → left ++ x ∷ insert_report r right ≡ insert_report r (left ++ x ∷ right)
 behind r x [] right below more = sym (at_test true r x right (insert_report r right) more)
 behind r x (y ∷ left) right below more =
     ap (λ l. y ∷ l) (behind r x left right below.1 more)
-    ∙ sym (at_test true r y (left ++ x ∷ right) (insert_report r (left ++ x ∷ right)) (greater_still r x y (gt_is (report_cmp r x) more) below.0))
+    ∙ sym (at_test true r y (left ++ x ∷ right) (insert_report r (left ++ x ∷ right)) (greater_still r x y more below.0))
 
 pub before : (r x : Report) (left right : List Report) → is_gt (report_cmp r x) ≡ false
     → insert_report r left ++ x ∷ right ≡ insert_report r (left ++ x ∷ right)

@@ -17,16 +17,18 @@ abbrev pub NotAfter : Report → Report → Type 0
 NotAfter a b = is_gt (report_cmp a b) ≡ false
 
 -- what is greater than a report is greater than those before it
-pub greater_still : (r x y : Report) → report_cmp r x ≡ Greater → NotAfter y x → is_gt (report_cmp r y) ≡ true
-greater_still r x y more before = go (report_cmp y x) refl
+pub greater_still : (r x y : Report) → is_gt (report_cmp r x) ≡ true → NotAfter y x → is_gt (report_cmp r y) ≡ true
+greater_still r x y more before = go (report_cmp r x) refl (report_cmp y x) refl
   where
-    less : report_cmp x r ≡ Less
-    less = total.antisymm x r ∙ ap ordering_reverse more
+    less : report_cmp r x ≡ Greater → report_cmp x r ≡ Less
+    less f = total.antisymm x r ∙ ap ordering_reverse f
 
-    go : (o : Ordering) → report_cmp y x ≡ o → is_gt (report_cmp r y) ≡ true
-    go Less e = ap is_gt (total.antisymm r y ∙ ap ordering_reverse (total.trans y x r e less))
-    go Equal e = ap is_gt (total.antisymm r y ∙ ap ordering_reverse (total.congr y x r e ∙ less))
-    go Greater e = absurd (cc (ap is_gt e))
+    go : (p : Ordering) → report_cmp r x ≡ p → (o : Ordering) → report_cmp y x ≡ o → is_gt (report_cmp r y) ≡ true
+    go Less f o e = absurd (cc (ap is_gt f))
+    go Equal f o e = absurd (cc (ap is_gt f))
+    go Greater f Less e = ap is_gt (total.antisymm r y ∙ ap ordering_reverse (total.trans y x r e (less f)))
+    go Greater f Equal e = ap is_gt (total.antisymm r y ∙ ap ordering_reverse (total.congr y x r e ∙ less f))
+    go Greater f Greater e = absurd (cc (ap is_gt e))
 
 pub not_after : (a b c : Report) → NotAfter a b → NotAfter b c → NotAfter a c
 not_after a b c one two = go (report_cmp a b) refl (report_cmp b c) refl
