@@ -165,6 +165,45 @@ const ROWS: &[Row] = &[
         ..UNANSWERED
     },
     Row {
+        shows: "a line may have 200 bytes",
+        after: b"00000000000000000000000000000000000000000000000000000000000000000000000000000000\
+            00000000000000000000000000000000000000000000000000000000000000000000000000000000\
+            0000000000000000000000000000000000000000\n",
+        then: b"7,1\nrefused1",
+        entries: Some(2),
+        ..UNANSWERED
+    },
+    Row {
+        shows: "a line may not have 201 bytes",
+        after: b"00000000000000000000000000000000000000000000000000000000000000000000000000000000\
+            00000000000000000000000000000000000000000000000000000000000000000000000000000000\
+            00000000000000000000000000000000000000000\n",
+        status: Status::BadFrame { at: 0 },
+        ..UNANSWERED
+    },
+    Row {
+        shows: "a CR counts as a byte of the line",
+        after: b"00000000000000000000000000000000000000000000000000000000000000000000000000000000\
+            00000000000000000000000000000000000000000000000000000000000000000000000000000000\
+            000000000000000000000000000000000000000\r\n",
+        then: b"7,1\nrefused1",
+        entries: Some(2),
+        ..UNANSWERED
+    },
+    Row {
+        shows: "a message may have 16 chunks",
+        after: b"0,0,0,0,0,0,0,0,0,0,0,0,0,0,0,0\n",
+        then: b"7,1\nrefused1",
+        entries: Some(2),
+        ..UNANSWERED
+    },
+    Row {
+        shows: "a message may not have 17 chunks",
+        after: b"0,0,0,0,0,0,0,0,0,0,0,0,0,0,0,0,0\n",
+        status: Status::BadFrame { at: 0 },
+        ..UNANSWERED
+    },
+    Row {
         shows: "a CR and leading zeros are read",
         after: b"014,01\r\nSession.settle1",
         then: b"7,1\nrefused7",

@@ -57,6 +57,33 @@ const ROWS: &[Row] = &[
         ],
     },
     Row {
+        shows: "a wrong proof is an error, and the lemma is stated all the same",
+        word: "serve",
+        sent: &[
+            "Session.update|1|<:><:>A</><:><0><:><:><0 0=0>\
+                theory A begin lemma l: \"P\" by x end</></></><:><:><:>1</><:></></></></></></>",
+            "Session.settle|1",
+            "Session.snapshot|1|A|",
+        ],
+        replied: &[
+            FOUR_ASSIGNED,
+            THEORY_BEGUN,
+            "report|2|eval|<command offset=0 end_offset=5 name=lemma></>\
+                <def offset=6 end_offset=7 theory=A name=l></><formula offset=9 end_offset=12>P</>",
+            "report|3|eval|<command offset=0 end_offset=2 name=by></>",
+            "report|4|eval|<command offset=0 end_offset=3 name=end></>",
+            "report|3|fork|<error offset=0 end_offset=4>unknown name x</>",
+            "settled|1|",
+            "markup|1|A|<command offset=0 end_offset=6 name=theory></>\
+                <theory offset=7 end_offset=8 name=A></>\
+                <command offset=15 end_offset=20 name=lemma></>\
+                <def offset=21 end_offset=22 theory=A name=l></><formula offset=24 end_offset=27>P\
+                </><error offset=28 end_offset=32>unknown name x</>\
+                <command offset=28 end_offset=30 name=by></>\
+                <command offset=33 end_offset=36 name=end></>||0",
+        ],
+    },
+    Row {
         shows: "a wrong proof is an error where it stands, and its lemma can be cited",
         word: "serve",
         sent: &[
