@@ -72,7 +72,8 @@ fn counts(old: &CutText, edit: &Edit, whole: &CutText, found: &Found) -> bool {
 
 /// The same text in memory of its own.
 fn twin(alloc: Global, old: &CutText) -> Result<CutText, AllocError> {
-    CutText::of(alloc, old.text().copy(alloc)?, old.spans().aliases())
+    let text = old.text().copy(alloc)?;
+    CutText::of(alloc, text, old.spans().aliases())
 }
 
 /// Whether the text, the tokens, the spans and both numbers are those of the whole text, whether
