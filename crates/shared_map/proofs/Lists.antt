@@ -1,5 +1,5 @@
 -- What holds of each item, and what a filter or a search leaves of a list.
-use Rattle.std.proofs.Common.{◌≡◌, ◌≤◌, Bool, true, false, cond, List, [], ◌∷◌, ◌++◌, length, filter, Option, Some, None, Result, Ok, Err, IfOk, refl, sym, ◌∙◌, ap, arith}
+use Rattle.std.proofs.Common.{◌≡◌, ◌≤◌, ◌+◌, Bool, true, false, cond, List, [], ◌∷◌, ◌++◌, length, filter, Option, Some, None, Result, Ok, Err, IfOk, refl, sym, ◌∙◌, ap, arith, length-append}
 use Rattle.std.specs.Prelude.{find}
 use Rattle.std.specs.Option.{option_or}
 use Rattle.std.proofs.lemmas.Bool.{false≢true}
@@ -112,6 +112,10 @@ module _ {X : Type 0} (f : X → Bool) where
       go : (b : Bool) → length (filter f xs) ≤ length xs → length (cond b (x ∷ filter f xs) (filter f xs)) ≤ length (x ∷ xs)
       go true less = omega arith
       go false less = omega arith
+
+-- a list with an item between two parts
+pub length_of : {X : Type 0} (all l : List X) (x : X) (r : List X) → all ≡ l ++ x ∷ r → length all ≡ length l + 1 + length r
+length_of all l x r whole = omega (arith, ap length whole, length-append l (x ∷ r))
 
 -- a value that is made is another's equal
 pub ok_along : {T E : Type 0} (r : Result T E) (a b : T) → a ≡ b → IfOk r (λ t. t ≡ a) → IfOk r (λ t. t ≡ b)

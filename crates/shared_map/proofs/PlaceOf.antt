@@ -10,7 +10,6 @@ use Rattle.std.specs.Ordering.{is_lt, is_eq}
 use Rattle.shared_map.specs.Pairs.{Each, IsSorted}
 use Rattle.shared_map.specs.Cuts.{IsCut, before}
 use Rattle.shared_map.proofs.Lists.{Each-along}
-use Rattle.shared_map.proofs.KnownSorted.{IsFork, fork_of}
 use Rattle.shared_map.proofs.Places.{before_less, before_later}
 
 -- an answer that is none of a cut's
@@ -37,9 +36,6 @@ module _ {K V : Type 0} {cmp : K → K → Ordering} {place : K → Ordering} (c
   placed [] sorted i = refl
   placed (x ∷ xs) sorted i = go (place x.0) refl (placed xs sorted.1 (i + 1))
     where
-      fork : IsFork cmp [] x xs
-      fork = fork_of cmp (x ∷ xs) [] x xs refl sorted
-
       go : (o : Ordering) → place x.0 ≡ o
           → position_from (λ p. is_eq (place p.0)) (i + 1) xs ≡ chosen (λ p. is_eq (place p.0)) (i + 1 + length (before place xs)) (slice_get xs (length (before place xs)))
           → position_from (λ p. is_eq (place p.0)) i (x ∷ xs) ≡ chosen (λ p. is_eq (place p.0)) (i + length (before place (x ∷ xs))) (slice_get (x ∷ xs) (length (before place (x ∷ xs))))
@@ -48,18 +44,18 @@ module _ {K V : Type 0} {cmp : K → K → Ordering} {place : K → Ordering} (c
           ap (λ o. cond (is_eq o) (Some i) (position_from (λ (p : K × V). is_eq (place p.0)) (i + 1) xs)) e
           ∙ rest
           ∙ ap (λ n. chosen (λ (p : K × V). is_eq (place p.0)) n (slice_get xs (length (before place xs)))) sum
-          ∙ ap (λ (ys : List (K × V)). chosen (λ (p : K × V). is_eq (place p.0)) (i + length ys) (slice_get (x ∷ xs) (length ys))) (sym (before_less cut [] x xs fork e))
+          ∙ ap (λ (ys : List (K × V)). chosen (λ (p : K × V). is_eq (place p.0)) (i + length ys) (slice_get (x ∷ xs) (length ys))) (sym (before_less cut (x ∷ xs) [] x xs refl sorted e))
       go Equal e rest =
           let sum : i ≡ i + 0 = omega arith in
           ap (λ o. cond (is_eq o) (Some i) (position_from (λ (p : K × V). is_eq (place p.0)) (i + 1) xs)) e
           ∙ ap (λ n. Some n) sum
           ∙ ap (λ o. cond (is_eq o) (Some (i + 0)) None) (sym e)
-          ∙ ap (λ (ys : List (K × V)). chosen (λ (p : K × V). is_eq (place p.0)) (i + length ys) (slice_get (x ∷ xs) (length ys))) (sym (before_later cut [] x xs fork (ap is_lt e)))
+          ∙ ap (λ (ys : List (K × V)). chosen (λ (p : K × V). is_eq (place p.0)) (i + length ys) (slice_get (x ∷ xs) (length ys))) (sym (before_later cut (x ∷ xs) [] x xs refl sorted (ap is_lt e)))
       go Greater e rest =
           ap (λ o. cond (is_eq o) (Some i) (position_from (λ (p : K × V). is_eq (place p.0)) (i + 1) xs)) e
           ∙ behind_none x xs (i + 1) sorted e
           ∙ ap (λ o. cond (is_eq o) (Some (i + 0)) None) (sym e)
-          ∙ ap (λ (ys : List (K × V)). chosen (λ (p : K × V). is_eq (place p.0)) (i + length ys) (slice_get (x ∷ xs) (length ys))) (sym (before_later cut [] x xs fork (ap is_lt e)))
+          ∙ ap (λ (ys : List (K × V)). chosen (λ (p : K × V). is_eq (place p.0)) (i + length ys) (slice_get (x ∷ xs) (length ys))) (sym (before_later cut (x ∷ xs) [] x xs refl sorted (ap is_lt e)))
 
   module _ (xs : List (K × V)) (sorted : IsSorted cmp xs) (n : ℕ) (is : n ≡ length (before place xs)) where
     none_first : 0 + length (before place xs) ≡ length (before place xs)

@@ -1,8 +1,7 @@
-use Rattle.std.proofs.Common.{rules, ◌≡◌, ◌<◌, ◌++◌, ◌∷◌, length, sym, ◌∙◌, ap, arith, length-append}
+use Rattle.std.proofs.Common.{rules, ◌≡◌, ◌++◌, ◌∷◌, sym, ◌∙◌, ap, subst}
 use Rattle.std.specs.Arc.{arc_value}
 use Rattle.shared_map.specs.Pairs.{IsSorted}
-use Rattle.shared_map.proofs.KnownSorted.{IsFork, fork_of}
-use Rattle.std.proofs.Common.{subst}
+use Rattle.shared_map.proofs.KnownSorted.{fork_of, left_of, right_of}
 use Rattle.shared_map.specs.Cuts.{before, behind, at_key}
 use Rattle.shared_map.specs.Changes.{united}
 use Rattle.shared_map.proofs.Lists.{ok_along}
@@ -17,33 +16,24 @@ returns-then-len-eq0 g t c =
 
 pub union_of-requires : goal.union_of-requires
 union_of-requires g t c κs within =
-    let whole : c.args.pairs.now ≡ c.in-Some.parts.left.now ++ arc_value c.in-Some.parts.item.now ∷ c.in-Some.parts.right.now = search rules in
-    let fork : IsFork g.K.Ord.cmp c.in-Some.parts.left.now (arc_value c.in-Some.parts.item.now) c.in-Some.parts.right.now = fork_of g.K.Ord.cmp _ _ _ _ whole c.requires.sorted in
-    let sorted : IsSorted g.K.Ord.cmp c.in-Some.parts.left.now = fork.left in
-    let others_sorted : IsSorted g.K.Ord.cmp c.in_ok-front.front =
+    let left = left_of g.K.Ord.cmp _ _ _ _ c.in-Some.ensures c.requires.sorted in
+    let others : IsSorted g.K.Ord.cmp c.in_ok-front.front =
     subst (IsSorted g.K.Ord.cmp) (sym c.in_ok-front.ensures) (IsSorted-filter g.K.Ord.cmp _ c.args.others.now c.requires.others_sorted) in
-    let shorter : length c.in-Some.parts.left.now < length c.args.pairs.now =
-    omega (arith, ap length whole, length-append c.in-Some.parts.left.now (arc_value c.in-Some.parts.item.now ∷ c.in-Some.parts.right.now)) in
-    search rules
+    search (rules, left.0, left.1)
 
 pub union_of-requires-2 : goal.union_of-requires-2
 union_of-requires-2 g t c κs within =
-    let whole : c.args.pairs.now ≡ c.in-Some.parts.left.now ++ arc_value c.in-Some.parts.item.now ∷ c.in-Some.parts.right.now = search rules in
-    let fork : IsFork g.K.Ord.cmp c.in-Some.parts.left.now (arc_value c.in-Some.parts.item.now) c.in-Some.parts.right.now = fork_of g.K.Ord.cmp _ _ _ _ whole c.requires.sorted in
-    let sorted : IsSorted g.K.Ord.cmp c.in-Some.parts.right.now = fork.right in
-    let others_sorted : IsSorted g.K.Ord.cmp c.in_ok-back.back =
+    let right = right_of g.K.Ord.cmp _ _ _ _ c.in-Some.ensures c.requires.sorted in
+    let others : IsSorted g.K.Ord.cmp c.in_ok-back.back =
     subst (IsSorted g.K.Ord.cmp) (sym c.in_ok-back.ensures) (IsSorted-filter g.K.Ord.cmp _ c.args.others.now c.requires.others_sorted) in
-    let shorter : length c.in-Some.parts.right.now < length c.args.pairs.now =
-    omega (arith, ap length whole, length-append c.in-Some.parts.left.now (arc_value c.in-Some.parts.item.now ∷ c.in-Some.parts.right.now)) in
-    search rules
+    search (rules, right.0, right.1)
 
 pub returns : goal.returns
 returns g t c =
-    let whole : c.args.pairs.now ≡ c.in-Some.parts.left.now ++ arc_value c.in-Some.parts.item.now ∷ c.in-Some.parts.right.now = search rules in
-    let fork : IsFork g.K.Ord.cmp c.in-Some.parts.left.now (arc_value c.in-Some.parts.item.now) c.in-Some.parts.right.now = fork_of g.K.Ord.cmp _ _ _ _ whole c.requires.sorted in
+    let fork = fork_of g.K.Ord.cmp _ _ _ _ c.in-Some.ensures c.requires.sorted in
     let front = c.in_ok-front.ensures ∙ ap (λ pair. before (at_key g.K.Ord.cmp pair.0) c.args.others.now) c.deref-pair.ensures in
     let back = c.in_ok-back.ensures ∙ ap (λ pair. behind (at_key g.K.Ord.cmp pair.0) c.args.others.now) c.deref-pair.ensures in
-    let rest = ap (λ xs. united g.K.Ord.cmp xs c.args.others.now) whole ∙ united_fork g.met.K.Ord.total c.in-Some.parts.left.now (arc_value c.in-Some.parts.item.now) c.in-Some.parts.right.now c.args.others.now fork.smaller in
+    let rest = ap (λ xs. united g.K.Ord.cmp xs c.args.others.now) c.in-Some.ensures ∙ united_fork g.met.K.Ord.total c.in-Some.parts.left.now (arc_value c.in-Some.parts.item.now) c.in-Some.parts.right.now c.args.others.now fork.smaller in
     let made : c.in_ok-left.left ++ (arc_value c.in-Some.parts.item.now) ∷ c.in_ok-right.right ≡ united g.K.Ord.cmp c.args.pairs.now c.args.others.now =
     ap (λ l. l ++ (arc_value c.in-Some.parts.item.now) ∷ c.in_ok-right.right) (c.in_ok-left.ensures ∙ ap (united g.K.Ord.cmp c.in-Some.parts.left.now) front)
     ∙ ap (λ r. united g.K.Ord.cmp c.in-Some.parts.left.now (before (at_key g.K.Ord.cmp (arc_value c.in-Some.parts.item.now).0) c.args.others.now) ++ (arc_value c.in-Some.parts.item.now) ∷ r) (c.in_ok-right.ensures ∙ ap (united g.K.Ord.cmp c.in-Some.parts.right.now) back)
