@@ -10,4 +10,5 @@ mod ChangeLemmas
 mod KeepLemmas
 mod EdgeLemmas
 mod RelexLemmas
+mod RelexSteps
 mod KeptLaws

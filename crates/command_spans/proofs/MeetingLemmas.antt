@@ -1,11 +1,10 @@
 -- A boundary of the edited text is a meeting just where the first old token that isn't passed tells so.
-use Rattle.std.proofs.Common.{◌≡◌, ℕ, zero, suc, ◌<◌, ◌≤◌, ◌==◌, ◌||◌, ◌&&◌, Bool, true, false, nat_eq, List, [], ◌∷◌, length, sym, refl, ap, ◌∙◌, subst, ⊎_elim, arith}
+use Rattle.std.proofs.Common.{◌≡◌, ℕ, zero, suc, ◌<◌, ◌≤◌, ◌==◌, ◌||◌, ◌&&◌, Bool, true, false, nat_eq, List, [], ◌∷◌, length, sym, refl, ap, ◌∙◌, ⊎_elim, arith}
 use Rattle.std.specs.Prelude.{nat_le}
 use Rattle.std.specs.List.{list_any}
 use Rattle.std.proofs.lemmas.Bool.{both_ways, cases_lt, and_parts, or_left, or_right, eqb-true, eq-eqb, le-leb, leb-true}
 use Rattle.outer_tokens.specs.declared.token.Token.{Token}
-use Rattle.command_spans.specs.declared.change.Change.{Change}
-use Rattle.command_spans.specs.CutTexts.{CutText, Rising, tokens_in, boundaries, boundary_at}
+use Rattle.command_spans.specs.CutTexts.{Rising, boundaries, boundary_at}
 use Rattle.command_spans.specs.Reparsing.{moved, is_meeting}
 use Rattle.command_spans.specs.Keeping.{ArePassed}
 use Rattle.command_spans.proofs.PlaceLemmas.{first-boundary}
@@ -79,16 +78,6 @@ end-meets old_end new_end from old_len new_len ts within inside same =
     let any = any-at (is_moved_to old_end new_end new_len) old_len ts (length ts) (omega arith) (ap (is_moved_to old_end new_end new_len) (boundary-end old_len ts (length ts) (omega arith)) ∙ last) in
     λ i. here i && any i
 
--- what is known where the lexing ends at a meeting
-abbrev pub Meets : CutText → Change → ℕ → ℕ → Type 0
-Meets old change place next = (change.new_end ≤ place)
-    × (next ≤ length (tokens_in old))
-    × (boundary_at (length old.text) (tokens_in old) next ≡ moved change.new_end change.old_end place)
-
-pub meets-at : {len : ℕ} {kept : List Token} (old : CutText) (change : Change) (place next : ℕ) (told : Bool) → kept ≡ tokens_in old → len ≡ length old.text
-    → told ≡ is_meeting change.old_end change.new_end (boundaries len kept) place → told ≡ true → next ≤ length kept
-    → boundary_at len kept next ≡ moved change.new_end change.old_end place → Meets old change place next
-meets-at old change place next told k n is holds within there =
-    let whole = is ∙ (λ i. is_meeting change.old_end change.new_end (boundaries (n i) (k i)) place) in
-    let parts = and_parts (nat_le change.new_end place) _ (sym whole ∙ holds) in
-    (leb-true change.new_end place parts.0, subst (λ (ts : List Token). next ≤ length ts) k within, sym (λ i. boundary_at (n i) (k i) next) ∙ there)
+-- a meeting is at or past the new end
+pub meets-behind : (old_end new_end : ℕ) (olds : List ℕ) (place : ℕ) → is_meeting old_end new_end olds place ≡ true → new_end ≤ place
+meets-behind old_end new_end olds place holds = leb-true new_end place (and_parts (nat_le new_end place) _ holds).0

@@ -33,12 +33,12 @@ each-below from to (t ∷ ts) (starts, some, rest) (suc k) d lt =
     let more = each-below t.range.stop to ts rest k d (omega arith) in (omega (arith, starts, some, more.0), more.1, more.2)
 
 -- what holds of the front as the lexing begins
-pub record Begins (old_end new_end front place : ℕ) (old new : List ℕ) (kept items : List Token) : Type 0 where
+pub record Begins (old_end new_end front place len : ℕ) (new : List ℕ) (kept items : List Token) : Type 0 where
   pub within : place ≤ length new
   pub passed : ArePassed (moved new_end old_end place) kept front
-  pub none : All (λ t. is_meeting old_end new_end (boundaries (length old) kept) t.range.start ≡ false) items
+  pub none : All (λ t. is_meeting old_end new_end (boundaries len kept) t.range.start ≡ false) items
 
-pub begins : (start old_end new_end : ℕ) (old new : List ℕ) (under : List (List ℕ)) → IsChange start old_end new_end old new → (front : ℕ) → front ≤ length (tokens_of old under) → (front ≡ 0) ⊎ Is (is_space_below start) true (tokens_of old under) front → (items : List Token) → Rising 0 (boundary_at (length old) (tokens_of old under) front) items → Begins old_end new_end front (boundary_at (length old) (tokens_of old under) front) old new (tokens_of old under) items
+pub begins : (start old_end new_end : ℕ) (old new : List ℕ) (under : List (List ℕ)) → IsChange start old_end new_end old new → (front : ℕ) → front ≤ length (tokens_of old under) → (front ≡ 0) ⊎ Is (is_space_below start) true (tokens_of old under) front → (items : List Token) → Rising 0 (boundary_at (length old) (tokens_of old under) front) items → Begins old_end new_end front (boundary_at (length old) (tokens_of old under) front) (length old) new (tokens_of old under) items
 begins start old_end new_end old new under change front within found items rises =
     let place : ℕ = boundary_at (length old) (tokens_of old under) front in
     let low : place ≤ start = (restart-place start old_end new_end old new under change front within found).0 in
@@ -57,8 +57,12 @@ begins start old_end new_end old new under change front within found items rises
       none = early-none old_end new_end (boundaries (length old) (tokens_of old under)) 0 place items rises (omega (arith, low, change.new_order));
     }
 
--- the tokens from a meeting on can be moved
-pub can-move : (old_end new_end from old_len new_len : ℕ) (ts : List Token) → old_end ≤ from → moved old_end new_end old_len ≡ new_len → new_len < 2 ^ 64 → Rising from old_len ts → All (λ t. (old_end ≤ t.range.start) × (old_end ≤ t.range.stop) × (moved old_end new_end t.range.start < 2 ^ 64) × (moved old_end new_end t.range.stop < 2 ^ 64)) ts
+-- the tokens can be moved
+abbrev pub CanMove : ℕ → ℕ → List Token → Type 0
+CanMove old_end new_end = All (λ t. (old_end ≤ t.range.start) × (old_end ≤ t.range.stop) × (moved old_end new_end t.range.start < 2 ^ 64) × (moved old_end new_end t.range.stop < 2 ^ 64))
+
+-- those from a meeting on can
+pub can-move : (old_end new_end from old_len new_len : ℕ) (ts : List Token) → old_end ≤ from → moved old_end new_end old_len ≡ new_len → new_len < 2 ^ 64 → Rising from old_len ts → CanMove old_end new_end ts
 can-move old_end new_end from old_len new_len ts behind same small is k d lt =
     let here = each-below from old_len ts is k d lt in
     (omega (arith, here.0, behind), omega (arith, here.0, here.1, behind), omega (arith, here, behind, same, small), omega (arith, here, behind, same, small))
