@@ -1,5 +1,5 @@
 -- What comes of tokens at a boundary, and of one more.
-use Rattle.std.proofs.Common.{◌≡◌, ℕ, zero, suc, ◌+◌, ◌<◌, ◌≤◌, true, false, None, Some, List, [], ◌∷◌, length, get_or, take, drop, ◌++◌, sym, refl, ap, ◌∙◌, arith}
+use Rattle.std.proofs.Common.{◌≡◌, ℕ, zero, suc, ◌<◌, ◌≤◌, true, false, None, Some, List, [], ◌∷◌, length, get_or, take, drop, ◌++◌, sym, refl, ap, ◌∙◌, arith}
 use Rattle.std.proofs.lemmas.List.{take-take, take-append-drop}
 use Rattle.std.specs.Prelude.{nat_lt, slice_get, ◌&&◌}
 use Rattle.std.proofs.lemmas.Bool.{lt-ltb}
