@@ -1,5 +1,6 @@
 -- How many commands keep their evaluations, in the subject's words.
 use Rattle.std.proofs.Common.{◌≡◌, ℕ, zero, suc, ◌<◌, ◌≤◌, Bool, true, false, cond, List, [], ◌∷◌, refl, ap, ◌∙◌, arith}
+use Rattle.std.specs.Prelude.{slice_get}
 use Rattle.doc_nodes.specs.declared.node.Entry.{Entry}
 use Rattle.exec_rules.specs.declared.row.Row.{Row}
 use Rattle.exec_rules.specs.Kept.{Times, keeps, kept, KeepsAt}
@@ -9,27 +10,17 @@ first_at : (t : Times) (e b : Entry) (r : Row) (es bs : List Entry) (rs : List R
 first_at t e b r es bs rs keeping =
     record { command = e; old = b; row = r; stands = refl; stood = refl; had = refl; keeping = keeping }
 
-next_at : (t : Times) (e b : Entry) (r : Row) (es bs : List Entry) (rs : List Row) (i : ℕ) → KeepsAt t es bs rs i
-    → KeepsAt t (e ∷ es) (b ∷ bs) (r ∷ rs) (suc i)
-next_at t e b r es bs rs i at = record {
+-- a command keeps its evaluation where the same stand elsewhere
+at_other : (t : Times) (now before : List Entry) (rows : List Row) (i : ℕ) (others olds : List Entry) (had : List Row) (j : ℕ)
+    → slice_get others j ≡ slice_get now i → slice_get olds j ≡ slice_get before i → slice_get had j ≡ slice_get rows i
+    → KeepsAt t now before rows i → KeepsAt t others olds had j
+at_other t now before rows i others olds had j same_now same_old same_row at = record {
   command = at.command;
   old = at.old;
   row = at.row;
-  stands = at.stands;
-  stood = at.stood;
-  had = at.had;
-  keeping = at.keeping;
-}
-
-rest_at : (t : Times) (e b : Entry) (r : Row) (es bs : List Entry) (rs : List Row) (i : ℕ)
-    → KeepsAt t (e ∷ es) (b ∷ bs) (r ∷ rs) (suc i) → KeepsAt t es bs rs i
-rest_at t e b r es bs rs i at = record {
-  command = at.command;
-  old = at.old;
-  row = at.row;
-  stands = at.stands;
-  stood = at.stood;
-  had = at.had;
+  stands = same_now ∙ at.stands;
+  stood = same_old ∙ at.stood;
+  had = same_row ∙ at.had;
   keeping = at.keeping;
 }
 
@@ -47,7 +38,7 @@ all_by : (t : Times) (e b : Entry) (r : Row) (es bs : List Entry) (rs : List Row
     → KeepsAt t (e ∷ es) (b ∷ bs) (r ∷ rs) i
 all_by t e b r es bs rs false same rest i lt = absurd (omega arith)
 all_by t e b r es bs rs true same rest zero lt = first_at t e b r es bs rs same
-all_by t e b r es bs rs true same rest (suc i) lt = next_at t e b r es bs rs i (rest i (omega arith))
+all_by t e b r es bs rs true same rest (suc i) lt = at_other t es bs rs i (e ∷ es) (b ∷ bs) (r ∷ rs) (suc i) refl refl refl (rest i (omega arith))
 
 pub kept_all : (t : Times) (es bs : List Entry) (rs : List Row) (i : ℕ) → i < kept t es bs rs → KeepsAt t es bs rs i
 kept_all t [] bs rs i lt = absurd (omega arith)
@@ -68,4 +59,4 @@ kept_greatest t (e ∷ es) [] rs (suc n) all = let at = all zero (omega arith) i
 kept_greatest t (e ∷ es) (b ∷ bs) [] (suc n) all = let at = all zero (omega arith) in let none = at.had in absurd (cc)
 kept_greatest t (e ∷ es) (b ∷ bs) (r ∷ rs) (suc n) all =
     one_more (keeps t e b r) n (kept t es bs rs) (first_keeps t e b r es bs rs (all zero (omega arith)))
-    (kept_greatest t es bs rs n (λ i less. rest_at t e b r es bs rs i (all (suc i) (omega arith))))
+    (kept_greatest t es bs rs n (λ i less. at_other t (e ∷ es) (b ∷ bs) (r ∷ rs) (suc i) es bs rs i refl refl refl (all (suc i) (omega arith))))
