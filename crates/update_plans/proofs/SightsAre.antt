@@ -1,5 +1,5 @@
 -- Evaluations of which nothing is told are seen as before.
-use Rattle.std.proofs.Common.{◌≡◌, inl, ℕ, Bool, true, false, cond, List, [], ◌∷◌, ◌++◌, map, Option, Some, None, refl, ap, sym, subst, ◌∙◌}
+use Rattle.std.proofs.Common.{◌≡◌, inl, ℕ, Bool, true, false, cond, List, [], ◌∷◌, map, Option, Some, None, refl, ap, sym, subst, ◌∙◌}
 use Rattle.std.proofs.lemmas.Bool.{eqb-true, false≢true}
 use Rattle.std.specs.Prelude.{◌==◌, slice_get, flat_map}
 use Rattle.std.specs.Option.{option_map_or}
@@ -7,7 +7,6 @@ use Rattle.std.specs.Cmp.Derive.{one_truth}
 use Rattle.import_rounds.specs.Rounds.{has}
 use Rattle.shared_map.specs.Pairs.{IsSorted}
 use Rattle.doc_nodes.specs.declared.node.Entry.{Entry}
-use Rattle.doc_nodes.specs.declared.node.Node.{Node}
 use Rattle.doc_nodes.specs.Names.{in_order}
 use Rattle.exec_rules.specs.declared.row.Row.{Row}
 use Rattle.exec_rules.specs.declared.version.Version.{Version}
@@ -20,25 +19,17 @@ use Rattle.update_plans.proofs.Members.{In, at_in, in_has, in_front, in_back, fl
 use Rattle.update_plans.proofs.Named.{RowsOf, rows_of}
 use Rattle.update_plans.proofs.Visible.{SeenAt, seen_at, at_seen}
 use Rattle.update_plans.proofs.BesideRows.{beside_in}
+use Rattle.update_plans.proofs.SightsSee.{seen_there, hidden_there, all_sights}
 
 module _ (before now : Version) (marks : List Bool) (f : Follows before now marks)
     (sorted_before : IsSorted in_order before.nodes) (sorted_now : IsSorted in_order now.nodes) where
-  abbrev seen_there : List ℕ × Node → List Sight
-  seen_there pair = seen_in marks now pair.0
-
-  abbrev hidden_there : List ℕ × Node → List Sight
-  hidden_there pair = hidden (rows_in before pair.0) (rows_in now pair.0)
-
-  abbrev all_sights : List Sight
-  all_sights = flat_map seen_there now.nodes ++ flat_map hidden_there before.nodes
-
   abbrev Told : ℕ → Type 0
-  Told e = has (map (λ (s : Sight). s.exec) all_sights) e ≡ true
+  Told e = has (map (λ (s : Sight). s.exec) (all_sights before now marks)) e ≡ true
 
-  told_in : (s : Sight) (e : ℕ) → s.exec ≡ e → In s all_sights → Told e
+  told_in : (s : Sight) (e : ℕ) → s.exec ≡ e → In s (all_sights before now marks) → Told e
   told_in s e is there =
-      in_has (map (λ (s : Sight). s.exec) all_sights) e
-      (subst (λ n. In n (map (λ (s : Sight). s.exec) all_sights)) is (map_in (λ (s : Sight). s.exec) all_sights s there))
+      in_has (map (λ (s : Sight). s.exec) (all_sights before now marks)) e
+      (subst (λ n. In n (map (λ (s : Sight). s.exec) (all_sights before now marks))) is (map_in (λ (s : Sight). s.exec) (all_sights before now marks) s there))
 
   -- an evaluation of the new version is told, where its node is not marked
   told_seen : (name : List ℕ) (i e : ℕ) (row : Row) → slice_get (rows_in now name) i ≡ Some row → row.evaluation ≡ e
@@ -49,8 +40,8 @@ module _ (before now : Version) (marks : List Bool) (f : Follows before now mark
       subst (λ b. In (seen_of row) (cond b [] (map seen_of (rows_in now name)))) (sym unmarked)
       (map_in seen_of (rows_in now name) row (at_in (rows_in now name) i row at)) in
       told_in (seen_of row) e is
-      (in_front (flat_map seen_there now.nodes) (flat_map hidden_there before.nodes) (seen_of row)
-      (flat_in seen_there now.nodes r.node.pair (seen_of row) (at_in now.nodes r.place r.node.pair r.node.stands)
+      (in_front (flat_map (seen_there marks now) now.nodes) (flat_map (hidden_there before now) before.nodes) (seen_of row)
+      (flat_in (seen_there marks now) now.nodes r.node.pair (seen_of row) (at_in now.nodes r.place r.node.pair r.node.stands)
       (subst (λ n. In (seen_of row) (seen_in marks now n)) (sym r.node.named) there)))
 
   told_hidden : (name : List ℕ) (i e : ℕ) (row : Row) → slice_get (rows_in before name) i ≡ Some row → row.evaluation ≡ e
@@ -60,13 +51,13 @@ module _ (before now : Version) (marks : List Bool) (f : Follows before now mark
       let here : In (unseen row.evaluation) (hidden_of row (slice_get (rows_in now name) i)) =
       subst (λ b. In (unseen row.evaluation) (cond b [] (unseen row.evaluation ∷ []))) (sym gone) (inl refl) in
       told_in (unseen row.evaluation) e is
-      (in_back (flat_map seen_there now.nodes) (flat_map hidden_there before.nodes) (unseen row.evaluation)
-      (flat_in hidden_there before.nodes r.node.pair (unseen row.evaluation) (at_in before.nodes r.place r.node.pair r.node.stands)
+      (in_back (flat_map (seen_there marks now) now.nodes) (flat_map (hidden_there before now) before.nodes) (unseen row.evaluation)
+      (flat_in (hidden_there before now) before.nodes r.node.pair (unseen row.evaluation) (at_in before.nodes r.place r.node.pair r.node.stands)
       (subst (λ n. In (unseen row.evaluation) (hidden (rows_in before n) (rows_in now n))) (sym r.node.named)
       (beside_in hidden_of (rows_in before name) (rows_in now name) i row (unseen row.evaluation) at here))))
 
   -- what is not told is seen as before
-  pub others_seen : (e : ℕ) → has (map (λ (s : Sight). s.exec) all_sights) e ≡ false → is_visible now e ≡ is_visible before e
+  pub others_seen : (e : ℕ) → has (map (λ (s : Sight). s.exec) (all_sights before now marks)) e ≡ false → is_visible now e ≡ is_visible before e
   others_seen e untold = one_truth (is_visible now e) (is_visible before e) there back
     where
       never : {A : Type 0} → Told e → A

@@ -30,17 +30,18 @@ one_of o x y p q = cc
 evaluates : (row : Row) (e : ℕ) → row.evaluation ≡ e → has (executions row) e ≡ true
 evaluates row e is = of_row row e (inl is)
 
+-- what is told of the nodes of a version, and of those of the version before
+abbrev pub seen_there : List Bool → Version → List ℕ × Node → List Sight
+seen_there marks now pair = seen_in marks now pair.0
+
+abbrev pub hidden_there : Version → Version → List ℕ × Node → List Sight
+hidden_there before now pair = hidden (rows_in before pair.0) (rows_in now pair.0)
+
+abbrev pub all_sights : Version → Version → List Bool → List Sight
+all_sights before now marks = flat_map (seen_there marks now) now.nodes ++ flat_map (hidden_there before now) before.nodes
+
 module _ (before now : Version) (marks : List Bool) (f : Follows before now marks)
     (sorted_before : IsSorted in_order before.nodes) (sorted_now : IsSorted in_order now.nodes) where
-  abbrev seen_there : List ℕ × Node → List Sight
-  seen_there pair = seen_in marks now pair.0
-
-  abbrev hidden_there : List ℕ × Node → List Sight
-  hidden_there pair = hidden (rows_in before pair.0) (rows_in now pair.0)
-
-  abbrev pub all_sights : List Sight
-  all_sights = flat_map seen_there now.nodes ++ flat_map hidden_there before.nodes
-
   abbrev Sees : Sight → Type 0
   Sees s = is_visible now s.exec ≡ s.visible
 
@@ -82,11 +83,11 @@ module _ (before now : Version) (marks : List Bool) (f : Follows before now mark
           ap (λ n. slice_get (entries_in now n) i) (sym same.0) ∙ ap (slice_get (entries_in now s.name)) (sym same.1) ∙ s.entry_at in
           sym here.2 ∙ ap (λ (e : Entry). e.visible) (one_of (slice_get (entries_in now name) i) here.0 s.entry here.1 entry) ∙ s.visible
 
-  seen_so : (s : Sight) → In s (flat_map seen_there now.nodes) → Sees s
+  seen_so : (s : Sight) → In s (flat_map (seen_there marks now) now.nodes) → Sees s
   seen_so s is = go (is_marked marks now.nodes node.0.0) node.2
     where
-      node : (x : List ℕ × Node) × In x now.nodes × In s (seen_there x)
-      node = in_flat seen_there now.nodes s is
+      node : (x : List ℕ × Node) × In x now.nodes × In s (seen_there marks now x)
+      node = in_flat (seen_there marks now) now.nodes s is
 
       go : (b : Bool) → In s (cond b [] (map seen_of (rows_in now node.0.0))) → Sees s
       go true there = absurd there
@@ -117,9 +118,9 @@ module _ (before now : Version) (marks : List Bool) (f : Follows before now mark
           false≢true (sym gone ∙ ap (λ o. option_map_or (λ (r : Row). r.evaluation == row.evaluation) o false) here
           ∙ eq-eqb s.row.evaluation row.evaluation s.is)
 
-  hidden_so : (s : Sight) → In s (flat_map hidden_there before.nodes) → Sees s
+  hidden_so : (s : Sight) → In s (flat_map (hidden_there before now) before.nodes) → Sees s
   hidden_so s is =
-      let node = in_flat hidden_there before.nodes s is in
+      let node = in_flat (hidden_there before now) before.nodes s is in
       let r : OfRow hidden_of (rows_in before node.0.0) (rows_in now node.0.0) s =
       in_beside hidden_of (rows_in before node.0.0) (rows_in now node.0.0) s node.2 in
       go node.0.0 r (option_map_or (λ (x : Row). x.evaluation == r.row.evaluation) (slice_get (rows_in now node.0.0) r.place) false) refl r.is
@@ -131,9 +132,9 @@ module _ (before now : Version) (marks : List Bool) (f : Follows before now mark
       go name r false gone (inl same) = subst Sees same (gone_hidden name r.place r.row r.at gone)
       go name r false gone (inr none) = absurd none
 
-  pub sights_see : AllByRecursion Sees all_sights
-  sights_see = each_in Sees all_sights (λ s is. go s (in_either (flat_map seen_there now.nodes) (flat_map hidden_there before.nodes) s is))
+  pub sights_see : AllByRecursion Sees (all_sights before now marks)
+  sights_see = each_in Sees (all_sights before now marks) (λ s is. go s (in_either (flat_map (seen_there marks now) now.nodes) (flat_map (hidden_there before now) before.nodes) s is))
     where
-      go : (s : Sight) → In s (flat_map seen_there now.nodes) ⊎ In s (flat_map hidden_there before.nodes) → Sees s
+      go : (s : Sight) → In s (flat_map (seen_there marks now) now.nodes) ⊎ In s (flat_map (hidden_there before now) before.nodes) → Sees s
       go s (inl seen) = seen_so s seen
       go s (inr gone) = hidden_so s gone
