@@ -11,31 +11,21 @@ use Rattle.task_queue.specs.Tasks.{has as has_input}
 use Rattle.task_queue.specs.Changes.{without}
 use Rattle.language.specs.Lang.{Lang}
 use Rattle.core_rules.specs.declared.event.Event.{Event}
-use Rattle.core_rules.specs.declared.event.Event.TheVariants.{Finished}
 use Rattle.core_rules.specs.Parts.{same_kind, forks, evaluation}
 use Rattle.core_rules.specs.Standing.{Standing, Free, Held, Done, standing, is_done, held}
-use Rattle.core_rules.specs.Doc.{Doc, doc}
-use Rattle.core_rules.specs.Ready.{is_wanted}
 use Rattle.prover_core.specs.Progress.{part, kind_behind, next_of}
 use Rattle.prover_core.specs.Tasks.{task_behind, is_held, AreTasks, HasTask, present_kind}
-use Rattle.prover_core.specs.Kept.{Tables, IsKept}
+use Rattle.prover_core.specs.Kept.{Tables}
 use Rattle.prover_core.proofs.TasksStill.{still_behind}
-use Rattle.prover_core.proofs.TipLive.{Laws}
 use Rattle.prover_core.proofs.FinishedPart.{next_p as p_is_next, stands_apart, task_apart, task_here}
+use Rattle.prover_core.proofs.FinishFacts.{Finishing, d, more}
 
-module _ {S : Type 0} (l : Lang S) (h : List Event) (t : Tables S) (k : IsKept l h t) (laws : Laws l h) (who : ℕ) (p : Part)
-    (holds : held h who ≡ Some p) (wanted : is_wanted (doc l h) p.exec ≡ true) where
-  abbrev d : Doc
-  d = doc l h
-
-  abbrev more : List Event
-  more = Finished who p ∷ h
-
-  next_p : next_of l h d p.exec ≡ Some p.kind
-  next_p = p_is_next l h t k laws who p holds wanted
+module _ {S : Type 0} {l : Lang S} {h : List Event} {t : Tables S} {who : ℕ} {p : Part} (finish : Finishing l h t who p) where
+  next_p : next_of l h (d finish) p.exec ≡ Some p.kind
+  next_p = p_is_next finish
 
   module _ (own : p.kind ≡ kind.Eval) where
-    done_behind : (f : ℕ) → is_done (standing more (evaluation f)) ≡ cond (p.exec == f) true (is_done (standing h (evaluation f)))
+    done_behind : (f : ℕ) → is_done (standing (more finish) (evaluation f)) ≡ cond (p.exec == f) true (is_done (standing h (evaluation f)))
     done_behind f = ap (λ x. is_done (cond ((p.exec == f) && same_kind x kind.Eval) Done (standing h (evaluation f)))) own ∙ go (p.exec == f)
       where
         go : (b : Bool) → is_done (cond (b && true) Done (standing h (evaluation f))) ≡ cond b true (is_done (standing h (evaluation f)))
@@ -46,49 +36,49 @@ module _ {S : Type 0} (l : Lang S) (h : List Event) (t : Tables S) (k : IsKept l
     nobody_forks Free is = refl
     nobody_forks Done is = refl
     nobody_forks (Held w) is =
-        let forks = k.held_next w (part p.exec kind.Fork) ((laws.told w (part p.exec kind.Fork)).1 is) in
+        let forks = finish.kept.held_next w (part p.exec kind.Fork) ((finish.laws.told w (part p.exec kind.Fork)).1 is) in
         let both : Some kind.Fork ≡ Some kind.Eval = sym forks ∙ next_p ∙ ap (λ y. Some y) own in absurd (cc)
 
-    fork_free : false ≡ is_held (standing more (part p.exec kind.Fork))
+    fork_free : false ≡ is_held (standing (more finish) (part p.exec kind.Fork))
     fork_free = sym (ap (λ x. is_held (cond ((p.exec == p.exec) && same_kind x kind.Fork) Done (standing h (part p.exec kind.Fork)))) own ∙ go (p.exec == p.exec))
       where
         go : (b : Bool) → is_held (cond (b && false) Done (standing h (part p.exec kind.Fork))) ≡ false
         go true = nobody_forks (standing h (part p.exec kind.Fork)) refl
         go false = nobody_forks (standing h (part p.exec kind.Fork)) refl
 
-    fork_waits : (f : ℕ) → false ≡ (has (p.exec ∷ []) f && not (is_done (standing more (evaluation f))))
+    fork_waits : (f : ℕ) → false ≡ (has (p.exec ∷ []) f && not (is_done (standing (more finish) (evaluation f))))
     fork_waits f = go (f == p.exec) refl
       where
         no_more : (b : Bool) → b ≡ true → false ≡ (true && not b)
         no_more true x = refl
         no_more false x = absurd (cc)
 
-        go : (b : Bool) → (f == p.exec) ≡ b → false ≡ ((b || false) && not (is_done (standing more (evaluation f))))
-        go true is = no_more (is_done (standing more (evaluation f))) (done_behind f
+        go : (b : Bool) → (f == p.exec) ≡ b → false ≡ ((b || false) && not (is_done (standing (more finish) (evaluation f))))
+        go true is = no_more (is_done (standing (more finish) (evaluation f))) (done_behind f
             ∙ ap (λ b. cond b true (is_done (standing h (evaluation f)))) (eq-eqb p.exec f (sym (eqb-true f p.exec is))))
         go false is = refl
 
-    fork_task : (f : Bool) → AreTasks (standing more) d.tip d.homes p.exec (kind_behind kind.Eval f) (task_behind (kind_behind kind.Eval f))
+    fork_task : (f : Bool) → AreTasks (standing (more finish)) (d finish).tip (d finish).homes p.exec (kind_behind kind.Eval f) (task_behind (kind_behind kind.Eval f))
     fork_task false = tt
     fork_task true = record { same_kind = refl; urgent = refl; waits = fork_waits; held = fork_free }
 
     -- an evaluation: nobody waits for it any more, and where its command forks, the fork comes
-    pub tasks_behind : (tasks : ℕ → Option Task) → tasks p.exec ≡ task_behind (kind_behind p.kind (forks l d.homes p.exec))
+    pub tasks_behind : (tasks : ℕ → Option Task) → tasks p.exec ≡ task_behind (kind_behind p.kind (forks l (d finish).homes p.exec))
         → ((e : ℕ) → e ≢ p.exec → tasks e ≡ option_map (without p.exec) (t.tasks e))
         → ((e : ℕ) → e ≢ p.exec → option_map_or (λ (s : Task). has_input s.inputs p.exec) (tasks e) false ≡ false)
-        → (e : ℕ) → HasTask l more d e (tasks e)
+        → (e : ℕ) → HasTask l (more finish) (d finish) e (tasks e)
     tasks_behind tasks at others free e = go (p.exec == e) refl
       where
-        mine : AreTasks (standing more) d.tip d.homes p.exec (kind_behind p.kind (forks l d.homes p.exec)) (tasks p.exec)
-        mine = subst (AreTasks (standing more) d.tip d.homes p.exec (kind_behind p.kind (forks l d.homes p.exec))) (sym at)
-            (subst (λ x. AreTasks (standing more) d.tip d.homes p.exec (kind_behind x (forks l d.homes p.exec))
-            (task_behind (kind_behind x (forks l d.homes p.exec)))) (sym own) (fork_task (forks l d.homes p.exec)))
+        mine : AreTasks (standing (more finish)) (d finish).tip (d finish).homes p.exec (kind_behind p.kind (forks l (d finish).homes p.exec)) (tasks p.exec)
+        mine = subst (AreTasks (standing (more finish)) (d finish).tip (d finish).homes p.exec (kind_behind p.kind (forks l (d finish).homes p.exec))) (sym at)
+            (subst (λ x. AreTasks (standing (more finish)) (d finish).tip (d finish).homes p.exec (kind_behind x (forks l (d finish).homes p.exec))
+            (task_behind (kind_behind x (forks l (d finish).homes p.exec)))) (sym own) (fork_task (forks l (d finish).homes p.exec)))
 
-        go : (b : Bool) → (p.exec == e) ≡ b → HasTask l more d e (tasks e)
-        go true is = subst (λ x. HasTask l more d x (tasks x)) (eqb-true p.exec e is) (task_here l h t k laws who p holds wanted (tasks p.exec) mine)
+        go : (b : Bool) → (p.exec == e) ≡ b → HasTask l (more finish) (d finish) e (tasks e)
+        go true is = subst (λ x. HasTask l (more finish) (d finish) x (tasks x)) (eqb-true p.exec e is) (task_here finish (tasks p.exec) mine)
         go false is =
             let differ = λ (same : e ≡ p.exec). false≢true (sym is ∙ eq-eqb p.exec e (sym same)) in
             let was = others e differ in
-            task_apart l h t k laws who p holds wanted e (tasks e) is (subst (AreTasks (standing more) d.tip d.homes e (present_kind l h d e)) (sym was)
-            (still_behind (standing h) (standing more) d.tip d.homes e (stands_apart l h t k laws who p holds wanted e is) p.exec done_behind (present_kind l h d e) (t.tasks e)
-            (k.tasks e) (ap (λ o. option_map_or (λ (s : Task). has_input s.inputs p.exec) o false) (sym was) ∙ free e differ)))
+            task_apart finish e (tasks e) is (subst (AreTasks (standing (more finish)) (d finish).tip (d finish).homes e (present_kind l h (d finish) e)) (sym was)
+            (still_behind (standing h) (standing (more finish)) (d finish).tip (d finish).homes e (stands_apart finish e is) p.exec done_behind (present_kind l h (d finish) e) (t.tasks e)
+            (finish.kept.tasks e) (ap (λ o. option_map_or (λ (s : Task). has_input s.inputs p.exec) o false) (sym was) ∙ free e differ)))

@@ -24,6 +24,7 @@ use Rattle.prover_core.specs.Progress.{kind_behind}
 use Rattle.prover_core.specs.Tasks.{task_behind}
 use Rattle.prover_core.specs.Kept.{Tables, IsKept}
 use Rattle.prover_core.proofs.BroughtRows.{right_for, now, can_finish, row_then, behind_is}
+use Rattle.prover_core.proofs.FinishFacts.{Finishing}
 use Rattle.prover_core.proofs.FinishedKept.{finished_kept}
 use Rattle.prover_core.proofs.FinishedPart.{behind_eval}
 use Rattle.prover_core.proofs.FinishedTasks.{tasks_then}
@@ -32,6 +33,9 @@ use Rattle.prover_core.proofs.TipLive.{Laws}
 module _ {S : Type 0} (l : Lang S) (h : List Event) (t : Tables S) (k : IsKept l h t) (laws : Laws l h) (who : ℕ) (p : Part) (done : Done S)
     (same : p ≡ done.part) (holds : held h who ≡ Some p) (wanted : is_wanted (doc l h) p.exec ≡ true)
     (right : IsDoneOf l (doc l h).homes done) (x : Brought (Done S)) (f : Bool) (x_is : x ≡ brought done.part.kind done f) (f_is : f ≡ forks_told done) where
+  finishing : Finishing l h t who p
+  finishing = record { kept = k; laws = laws; holds = holds; wanted = wanted }
+
   x_for : x ≡ brought p.kind done (forks_told done)
   x_for = x_is ∙ ap (brought done.part.kind done) f_is ∙ ap (λ (q : Part). brought q.kind done (forks_told done)) (sym same)
 
@@ -53,12 +57,12 @@ module _ {S : Type 0} (l : Lang S) (h : List Event) (t : Tables S) (k : IsKept l
       → (same_kind p.kind kind.Eval ≡ false → (e : ℕ) → e ≢ p.exec → tasks e ≡ t.tasks e) → holding ≤ room → count ≤ t.count
       → IsKept l (Finished who p ∷ h) (record t { rows = rows; holders = holders; holding = holding; tasks = tasks; room = room; count = count })
   finish_kept rows holders holding tasks room count updates out at waiters free others fits fewer =
-      finished_kept l h t k laws who p holds wanted rows holders holding tasks room count
+      finished_kept finishing rows holders holding tasks room count
       (option_and_then (finished_in x) (t.rows p.exec))
       (then ∙ row_then l h t k who p done holds wanted (right_for l (doc l h).homes p done same right))
       updates out
-      (tasks_then l h t k laws who p holds wanted tasks
+      (tasks_then finishing tasks
       (at ∙ ap (λ b. task_behind (kind_behind p.kind b)) f_is
       ∙ ap task_behind (behind_is l h t k who p done holds wanted (right_for l (doc l h).homes p done same right)))
       waiters free others)
-      (behind_eval l h t k laws who p holds wanted) fits fewer
+      (behind_eval finishing) fits fewer

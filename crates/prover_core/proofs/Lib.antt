@@ -16,6 +16,7 @@ mod KeptOn
 mod EndedKept
 mod DroppedKept
 mod ClaimedKept
+mod FinishFacts
 mod FinishedKept
 mod FinishedTasks
 mod EvaluatedTasks
