@@ -30,29 +30,20 @@ module _ {S : Type 0} (l : Lang S) (span : Range) (e : ℕ) where
   abbrev made : Bool → Bool → Bool → Completed
   made a b z = record { eval = a; fork = b; print = z }
 
+  evaluation_seen : (s : Setting S) (f a b z : Bool) → (b ≡ true → a ≡ true) → filter is_reported (all_seen s (made a b z) (kinds_by (input.Next e) f))
+      ≡ parts_by span e (progress_by (result l e s) f (input.Next e) (made a b z))
+  evaluation_seen s false true b z order = refl
+  evaluation_seen s false false b z order = refl
+  evaluation_seen s true true true z order = refl
+  evaluation_seen s true true false z order = refl
+  evaluation_seen s true false false z order = refl
+  evaluation_seen s true false true z order = let no : false ≡ true = order refl in absurd (cc)
+
   -- those that are finished
   pub finished_seen : (s : Setting S) (taken : Input) (f : Bool) (c : Completed) → InOrder c
       → filter is_reported (all_seen s c (kinds_by taken f)) ≡ parts_by span e (progress_by (result l e s) f taken c)
-  finished_seen s (input.First head) f c order = by f c.eval c.fork c.print order
-    where
-      by : (f a b z : Bool) → (b ≡ true → a ≡ true) → filter is_reported (all_seen s (made a b z) (kinds_by (input.First head) f))
-          ≡ parts_by span e (progress_by (result l e s) f (input.First head) (made a b z))
-      by false true b z order = refl
-      by false false b z order = refl
-      by true true true z order = refl
-      by true true false z order = refl
-      by true false false z order = refl
-      by true false true z order = let no : false ≡ true = order refl in absurd (cc)
-  finished_seen s (input.Next q) f c order = by f c.eval c.fork c.print order
-    where
-      by : (f a b z : Bool) → (b ≡ true → a ≡ true) → filter is_reported (all_seen s (made a b z) (kinds_by (input.Next q) f))
-          ≡ parts_by span e (progress_by (result l e s) f (input.Next q) (made a b z))
-      by false true b z order = refl
-      by false false b z order = refl
-      by true true true z order = refl
-      by true true false z order = refl
-      by true false false z order = refl
-      by true false true z order = let no : false ≡ true = order refl in absurd (cc)
+  finished_seen s (input.First head) f c order = evaluation_seen s f c.eval c.fork c.print order
+  finished_seen s (input.Next q) f c order = evaluation_seen s f c.eval c.fork c.print order
   finished_seen s (input.Print q) f c order = by f c.eval c.fork c.print
     where
       by : (f a b z : Bool) → filter is_reported (all_seen s (made a b z) (kinds_by (input.Print q) f))
