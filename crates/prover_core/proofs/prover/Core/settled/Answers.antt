@@ -17,7 +17,9 @@ use Rattle.prover_core.specs.Settling.{IsLeft, IsSettled}
 use Rattle.prover_core.proofs.BehindSettled.{ready_is_left, held_is_left, is_settled_so, stuck_is}
 use Rattle.prover_core.proofs.LossesBehind.{no_version}
 use Rattle.prover_core.proofs.KnownResults.{on_err}
+use Rattle.prover_core.proofs.prover.Core.settled.Given.{Over}
 use Rattle.prover_core.proofs.prover.Core.settled.Goals as goal
+use Rattle.prover_core.proofs.prover.Core.settled.Goals.{After-looked_at}
 
 pub returns-in_default-clause-settled : goal.returns-in_default-clause-settled
 returns-in_default-clause-settled g c =
@@ -46,27 +48,26 @@ returns-in-Some-held_below-clause-settled g c =
     (held_is_left l _ _ c.self.invariant c.tip_law.ensures c.holders_law.ensures.told c.homes_law.ensures.begun c.args.id
     c.in-Some.behind number c.in-Some-held_below.part found.2.0 found.0 found.1 found.2.1)
 
-pub returns-in_err-all-clause-err : goal.returns-in_err-all-clause-err
-returns-in_err-all-clause-err g c =
+-- where nothing is ready and nothing held below, the version is settled
+is_settled : (g : Over) (c : After-looked_at g) → IsSettled g.L.Language.lang c.self.inside.past c.args.id
+is_settled g c =
     let l = g.L.Language.lang in
     let number : number_of c.self.inside.losses.losses c.args.id ≡ Some c.in-Some.behind = search rules in
     let no_ready : (p : Part) → IsReadyPart (standing c.self.inside.queue) p → c.in-Some.behind ≤ p.exec = search rules in
     let no_held : (who : ℕ) (p : Part) → looked c.self.inside.holders who ≡ Some p → p.exec < c.in-Some.behind
     → is_some (standing c.self.inside.queue p.exec) ≡ false = search rules in
-    let so = is_settled_so l _ _ c.self.invariant c.tip_law.ensures c.holders_law.ensures.told c.homes_law.ensures.begun c.args.id
-    c.in-Some.behind number c.homes_law.ensures.live no_ready no_held in
-    on_err c.from_residual.result (subst (λ (s : CoreState). IsSettled l s.past c.args.id) c.self.view_is so)
+    is_settled_so l _ _ c.self.invariant c.tip_law.ensures c.holders_law.ensures.told c.homes_law.ensures.begun c.args.id
+    c.in-Some.behind number c.homes_law.ensures.live no_ready no_held
+
+pub returns-in_err-all-clause-err : goal.returns-in_err-all-clause-err
+returns-in_err-all-clause-err g c =
+    let so = is_settled g (goal.at.returns-in_err-all-clause-err g c).After-looked_at in
+    on_err c.from_residual.result (subst (λ (s : CoreState). IsSettled g.L.Language.lang s.past c.args.id) c.self.view_is so)
 
 pub returns-in_err-open_among-clause-err : goal.returns-in_err-open_among-clause-err
 returns-in_err-open_among-clause-err g c =
-    let l = g.L.Language.lang in
-    let number : number_of c.self.inside.losses.losses c.args.id ≡ Some c.in-Some.behind = search rules in
-    let no_ready : (p : Part) → IsReadyPart (standing c.self.inside.queue) p → c.in-Some.behind ≤ p.exec = search rules in
-    let no_held : (who : ℕ) (p : Part) → looked c.self.inside.holders who ≡ Some p → p.exec < c.in-Some.behind
-    → is_some (standing c.self.inside.queue p.exec) ≡ false = search rules in
-    let so = is_settled_so l _ _ c.self.invariant c.tip_law.ensures c.holders_law.ensures.told c.homes_law.ensures.begun c.args.id
-    c.in-Some.behind number c.homes_law.ensures.live no_ready no_held in
-    on_err c.from_residual-in_err-open_among.result (subst (λ (s : CoreState). IsSettled l s.past c.args.id) c.self.view_is so)
+    let so = is_settled g (goal.at.returns-in_err-open_among-clause-err g c).After-looked_at in
+    on_err c.from_residual-in_err-open_among.result (subst (λ (s : CoreState). IsSettled g.L.Language.lang s.past c.args.id) c.self.view_is so)
 
 pub returns-clause-settled : goal.returns-clause-settled
 returns-clause-settled g c =
