@@ -35,6 +35,8 @@ mod RoomKept
 mod JobInputs
 mod FirstJob
 mod GrownHomes
+mod NewVersion
+mod UpdateFacts
 mod UpdatedDoc
 mod UpdatedRows
 mod TasksOver
@@ -53,6 +55,7 @@ mod PlanTasks
 mod PlanFresh
 mod FreshAll
 mod FreshNew
+mod NewPlan
 mod PlannedKept
 mod LiveIds
 mod HasTurned

@@ -25,7 +25,7 @@ use Rattle.core_rules.specs.Sources.{HasHome}
 use Rattle.core_rules.specs.Placed.{RowOf}
 use Rattle.core_rules.proofs.KnownNumbers.{length_grown}
 use Rattle.prover_core.proofs.GivenNumbers.{numbers, has_number, new_there}
-use Rattle.prover_core.proofs.UpdatedDoc.{NewLaws}
+use Rattle.prover_core.proofs.NewVersion.{NewLaws}
 
 in_print_list : (o : Option ℕ) (e : ℕ) → o ≡ Some e → has (print_list o) e ≡ true
 in_print_list o e is = ap (λ x. has (print_list x) e) is ∙ or_left (e == e) false (eq-eqb e e refl)

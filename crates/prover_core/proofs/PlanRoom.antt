@@ -23,6 +23,7 @@ use Rattle.prover_core.specs.Planned.{plan_of}
 use Rattle.prover_core.proofs.FreshAll.{links_of}
 use Rattle.prover_core.specs.Tasks.{HasTask}
 use Rattle.prover_core.specs.Kept.{Tables, IsKept}
+use Rattle.prover_core.proofs.UpdateFacts.{tables_with}
 
 abbrev pub inputs_of : Fresh → List ℕ
 inputs_of one = one.task.inputs
@@ -64,17 +65,7 @@ pub roomy_tables : {S : Type 0} (l : Lang S) (h : List Event) (t : Tables S) →
     → (versions : History Version) (losses : List Loss) (rows : ℕ → Option (Execution (Done S))) (homes : ℕ → Option Home) (tasks : ℕ → Option Task) (room count : ℕ) (cancelled : List ℕ) (spare : ℕ)
     → versions.start ≡ t.versions.start → versions.live ≡ t.versions.live → losses ≡ t.losses → ((e : ℕ) → rows e ≡ t.rows e) → ((e : ℕ) → homes e ≡ t.homes e)
     → ((e : ℕ) → tasks e ≡ t.tasks e) → t.room ≤ room → count ≡ t.count → cancelled ≡ t.cancelled → t.spare ≤ spare
-    → IsKept l h (record t {
-      versions = versions;
-      losses = losses;
-      rows = rows;
-      homes = homes;
-      tasks = tasks;
-      room = room;
-      count = count;
-      cancelled = cancelled;
-      spare = spare;
-    })
+    → IsKept l h (tables_with t versions losses t.next rows homes tasks room count cancelled spare)
 roomy_tables l h t k versions losses rows homes tasks room count cancelled spare begins lives same_losses same_rows same_homes same_tasks more
     as_many same_cancelled sparer = record {
       legal = k.legal;

@@ -14,83 +14,74 @@ use Rattle.exec_rules.specs.declared.home.Home.{Home}
 use Rattle.exec_rules.specs.Kept.{BlobList}
 use Rattle.language.specs.Lang.{Lang}
 use Rattle.core_rules.specs.declared.event.Event.{Event}
-use Rattle.core_rules.specs.declared.event.Event.TheVariants.{Update}
 use Rattle.core_rules.specs.Numbered.{numbered, grown}
-use Rattle.core_rules.specs.Assigned.{assigns, is_assigned}
+use Rattle.core_rules.specs.Assigned.{assigns}
 use Rattle.core_rules.specs.Settings.{Setting, setting, made_of}
 use Rattle.core_rules.specs.Parts.{sources_of, evaluation}
 use Rattle.core_rules.specs.Standing.{is_done, is_finished}
-use Rattle.core_rules.specs.Doc.{Doc, doc, assignment_of, version_of}
+use Rattle.core_rules.specs.Doc.{assignment_of}
 use Rattle.core_rules.specs.Sources.{is_evaluation, IsSource, HasHome}
 use Rattle.core_jobs.specs.declared.done.Done.{Done}
 use Rattle.update_plans.specs.declared.beginning.Fresh.{Fresh}
 use Rattle.update_plans.specs.Begun.{is_evaluated, IsBegun, AreBegun}
 use Rattle.prover_core.specs.Progress.{completed_in, execution_by, row_by, result as brought}
 use Rattle.prover_core.specs.Plans.{IsTaskFor, AreTasksFor}
-use Rattle.prover_core.specs.Kept.{Tables, IsKnown, IsKept}
+use Rattle.prover_core.specs.Kept.{Tables, IsKnown}
 use Rattle.prover_core.proofs.FreshPlan.{homes_in, tasks_in}
 use Rattle.prover_core.proofs.GrownHomes.{number_grown}
 use Rattle.prover_core.proofs.Olders.{numbered_last}
-use Rattle.prover_core.proofs.UpdatedDoc.{NewLaws}
 use Rattle.prover_core.proofs.UpdateTables.{no_row}
 use Rattle.core_rules.proofs.KnownNumbers.{numbered_within}
 use Rattle.prover_core.proofs.EvaluatedBy.{evaluated_by}
+use Rattle.prover_core.proofs.UpdateFacts.{Updating, d, now, new}
 
-module _ {S : Type 0} (l : Lang S) (h : List Event) (t : Tables S) (k : IsKept l h t) (id : ℕ) (nodes : NodeList) (blobs : BlobList)
-    (laws : NewLaws l h id nodes blobs) (tip_live : (e : ℕ) → assigns (doc l h).tip e ≡ true → is_assigned (doc l h).live e ≡ true)
-    (tip_homes : (e : ℕ) → assigns (doc l h).tip e ≡ true → HasHome l (doc l h) (doc l h).tip e)
+module _ {S : Type 0} {l : Lang S} {h : List Event} {t : Tables S} {id : ℕ} {nodes : NodeList} {blobs : BlobList} (u : Updating l h t id nodes blobs)
     (rows : List (Row (Done S))) (are : (e : ℕ) → execution_of rows e ≡ t.rows e) where
-  abbrev d : Doc
-  d = doc l h
-
-  abbrev now : Doc
-  now = doc l (Update id nodes blobs ∷ h)
-
   abbrev told : Option (Execution (Done S)) → Bool
   told o = is_some (option_and_then (λ (one : Execution (Done S)). result_of kind.Eval one.progress) o)
 
   row_told : (f : ℕ) (o : Option Home) (s : Option (Setting S)) (x : Home) (y : Setting S) → o ≡ Some x → s ≡ Some y → is_evaluation x.input ≡ true
-      → told (row_by l (has d.cancelled f) f (completed_in h f) o s) ≡ is_finished h (evaluation f)
+      → told (row_by l (has (d u).cancelled f) f (completed_in h f) o s) ≡ is_finished h (evaluation f)
   row_told f o s x y homed set evaluates =
-      ap (λ p. told (row_by l (has d.cancelled f) f (completed_in h f) p s)) homed
-      ∙ ap (λ p. told (option_map (execution_by l (has d.cancelled f) f (completed_in h f) x) p)) set
+      ap (λ p. told (row_by l (has (d u).cancelled f) f (completed_in h f) p s)) homed
+      ∙ ap (λ p. told (option_map (execution_by l (has (d u).cancelled f) f (completed_in h f) x) p)) set
       ∙ evaluated_by (brought l f y) (made_of l y).forks x.input (completed_in h f) evaluates
 
   one_home : (o : Option Home) (x y : Home) → o ≡ Some x → o ≡ Some y → x ≡ y
   one_home o x y p q = cc
 
-  old_told : (f : ℕ) (x : Home) → f ≤ length d.homes → assigns d.tip f ≡ true → numbered now.homes f ≡ Some x → is_evaluation x.input ≡ true
+  old_told : (f : ℕ) (x : Home) → f ≤ length (d u).homes → assigns (d u).tip f ≡ true → numbered (now u).homes f ≡ Some x → is_evaluation x.input ≡ true
       → is_evaluated rows f ≡ is_finished h (evaluation f)
   old_told f x le is homed evaluates =
-      let live = tip_live f is in
-      let known : IsKnown l d.homes f = k.known f live in
-      let same : known.home ≡ x = one_home (numbered d.homes f) known.home x known.homed
-      (sym (number_grown d.homes (assignment_of d nodes blobs).homes f le) ∙ homed) in
-      ap told (are f ∙ k.rows f)
-      ∙ ap (λ b. told (cond b (row_by l (has d.cancelled f) f (completed_in h f) (numbered d.homes f) (setting l d.homes f)) None)) live
-      ∙ row_told f (numbered d.homes f) (setting l d.homes f) known.home known.works_on known.homed known.setting_is
+      let live = u.tip_live f is in
+      let known : IsKnown l (d u).homes f = u.kept.known f live in
+      let same : known.home ≡ x = one_home (numbered (d u).homes f) known.home x known.homed
+      (sym (number_grown (d u).homes (assignment_of (d u) nodes blobs).homes f le) ∙ homed) in
+      ap told (are f ∙ u.kept.rows f)
+      ∙ ap (λ b. told (cond b (row_by l (has (d u).cancelled f) f (completed_in h f) (numbered (d u).homes f) (setting l (d u).homes f)) None)) live
+      ∙ row_told f (numbered (d u).homes f) (setting l (d u).homes f) known.home known.works_on known.homed known.setting_is
       (ap (λ (y : Home). is_evaluation y.input) same ∙ evaluates)
 
-  new_told : (f : ℕ) → length d.homes < f → is_evaluated rows f ≡ is_finished h (evaluation f)
+  new_told : (f : ℕ) → length (d u).homes < f → is_evaluated rows f ≡ is_finished h (evaluation f)
   new_told f past =
-      ap told (are f ∙ no_row l h t k laws.within tip_live tip_homes f past) ∙ sym (ap is_done (laws.unmade (evaluation f) past))
+      ap told (are f ∙ no_row u f past) ∙ sym (ap is_done (u.laws.unmade (evaluation f) past))
 
   -- the sources of a new execution
-  pub sources_told : (e : ℕ) (x : Home) → length d.homes < e → numbered now.homes e ≡ Some x → (f : ℕ) → has (sources_of x.input) f ≡ true
+  pub sources_told : (e : ℕ) (x : Home) → length (d u).homes < e → numbered (now u).homes e ≡ Some x → (f : ℕ) → has (sources_of x.input) f ≡ true
       → is_evaluated rows f ≡ is_finished h (evaluation f)
   sources_told e x past at f is =
-      let le = numbered_within now.homes e x at in
-      let home : HasHome l now (version_of nodes blobs (assignment_of d nodes blobs)) e = laws.homes e (laws.given e past le) in
-      let same : home.home ≡ x = one_home (numbered now.homes e) home.home x home.homed at in
-      let source : IsSource now (version_of nodes blobs (assignment_of d nodes blobs)) e f =
-      each_has (IsSource now (version_of nodes blobs (assignment_of d nodes blobs)) e) (sources_of home.home.input) f home.sources
+      let le = numbered_within (now u).homes e x at in
+      let home : HasHome l (now u) (new u) e = u.laws.homes e (u.laws.given e past le) in
+      let same : home.home ≡ x = one_home (numbered (now u).homes e) home.home x home.homed at in
+      let source : IsSource (now u) (new u) e f =
+      each_has (IsSource (now u) (new u) e) (sources_of home.home.input) f home.sources
       (ap (λ (y : Home). has (sources_of y.input) f) same ∙ is) in
-      go (cases_lt (length d.homes) f) source
+      go (cases_lt (length (d u).homes) f) source
     where
-      go : (length d.homes < f) ⊎ (f ≤ length d.homes) → IsSource now (version_of nodes blobs (assignment_of d nodes blobs)) e f
+      go : (length (d u).homes < f) ⊎ (f ≤ length (d u).homes) → IsSource (now u) (new u) e f
           → is_evaluated rows f ≡ is_finished h (evaluation f)
-      go (inl new) source = new_told f new
-      go (inr old) source = old_told f source.home old (laws.kept f source.assigned old) source.homed source.evaluates
+      go (inl past) source = new_told f past
+      go (inr old) source = old_told f source.home old (u.laws.kept f source.assigned old) source.homed source.evaluates
 
 -- the tasks of new executions are told by what has happened
 module _ {R : Type 0} (h : List Event) (rows : List (Row R)) where

@@ -1,5 +1,5 @@
 -- The tasks of executions that the version before had as well.
-use Rattle.std.proofs.Common.{◌≡◌, ℕ, ◌≤◌, Bool, true, false, cond, not, ◌&&◌, List, [], ◌∷◌, length, Option, Some, None, refl, ap, sym, ◌∙◌}
+use Rattle.std.proofs.Common.{◌≡◌, ℕ, ◌≤◌, Bool, true, false, cond, not, ◌&&◌, List, [], length, Option, Some, None, refl, ap, sym, ◌∙◌}
 use Rattle.std.proofs.lemmas.Bool.{false≢true}
 use Rattle.std.specs.Option.{option_map, option_map_or, option_and_then}
 use Rattle.import_rounds.specs.Rounds.{has}
@@ -9,75 +9,60 @@ use Rattle.doc_nodes.specs.Imports.{NodeList}
 use Rattle.task_queue.specs.declared.task.Standing.{Standing as Task}
 use Rattle.task_queue.specs.Tasks.{has as has_input}
 use Rattle.exec_rules.specs.declared.home.Home.{Home}
-use Rattle.exec_rules.specs.declared.version.Version.{Version}
 use Rattle.exec_rules.specs.Kept.{BlobList}
 use Rattle.language.specs.Lang.{Lang}
 use Rattle.core_rules.specs.declared.event.Event.{Event}
-use Rattle.core_rules.specs.declared.event.Event.TheVariants.{Update}
 use Rattle.core_rules.specs.Numbered.{numbered}
-use Rattle.core_rules.specs.Assigned.{assigns, is_visible, is_assigned}
+use Rattle.core_rules.specs.Assigned.{assigns, is_visible}
 use Rattle.core_rules.specs.Settings.{made_of}
 use Rattle.core_rules.specs.Parts.{forks, waits_by, sources_of, evaluation}
 use Rattle.core_rules.specs.Standing.{standing, is_done}
-use Rattle.core_rules.specs.Doc.{Doc, doc, assignment_of, version_of}
 use Rattle.core_rules.specs.Ready.{priority_by}
 use Rattle.prover_core.specs.Progress.{completed_in, next_kind, next_of}
 use Rattle.prover_core.specs.Tasks.{present_kind, IsTaskOf, AreTasks}
 use Rattle.prover_core.specs.Plans.{ranked}
-use Rattle.prover_core.specs.Kept.{Tables, IsKept}
+use Rattle.prover_core.specs.Kept.{Tables}
 use Rattle.prover_core.proofs.RankedTasks.{ranked_same, ranked_held, ranked_inputs, ranked_urgent}
-use Rattle.prover_core.proofs.UpdatedDoc.{NewLaws, same_home, same_setting, not_cancelled}
+use Rattle.prover_core.proofs.UpdatedDoc.{same_home, same_setting, not_cancelled}
+use Rattle.prover_core.proofs.UpdateFacts.{Updating, d, more, now, new}
 
-module _ {S : Type 0} (l : Lang S) (h : List Event) (t : Tables S) (k : IsKept l h t) (id : ℕ) (nodes : NodeList) (blobs : BlobList)
-    (laws : NewLaws l h id nodes blobs) (tip_live : (e : ℕ) → assigns (doc l h).tip e ≡ true → is_assigned (doc l h).live e ≡ true) where
-  abbrev d : Doc
-  d = doc l h
-
-  abbrev more : List Event
-  more = Update id nodes blobs ∷ h
-
-  abbrev now : Doc
-  now = doc l more
-
-  abbrev new : Version
-  new = version_of nodes blobs (assignment_of d nodes blobs)
-
-  pub next_old : (e : ℕ) → e ≤ length d.homes → next_of l more now e ≡ next_of l h d e
+module _ {S : Type 0} {l : Lang S} {h : List Event} {t : Tables S} {id : ℕ} {nodes : NodeList} {blobs : BlobList} (u : Updating l h t id nodes blobs) where
+  pub next_old : (e : ℕ) → e ≤ length (d u).homes → next_of l (more u) (now u) e ≡ next_of l h (d u) e
   next_old e le =
       ap (λ s. option_and_then (λ (x : Home). next_kind x.input (option_map_or (λ w. (made_of l w).forks) s false) (completed_in h e))
-      (numbered now.homes e)) (same_setting l h id nodes blobs laws tip_live e le)
-      ∙ ap (option_and_then (λ (x : Home). next_kind x.input (forks l d.homes e) (completed_in h e)))
-      (same_home l h id nodes blobs laws tip_live e le)
+      (numbered (now u).homes e)) (same_setting u e le)
+      ∙ ap (option_and_then (λ (x : Home). next_kind x.input (forks l (d u).homes e) (completed_in h e)))
+      (same_home u e le)
 
-  pub present_old : (e : ℕ) → e ≤ length d.homes → assigns new e ≡ true → present_kind l more now e ≡ present_kind l h d e
+  pub present_old : (e : ℕ) → e ≤ length (d u).homes → assigns (new u) e ≡ true → present_kind l (more u) (now u) e ≡ present_kind l h (d u) e
   present_old e le is =
-      ap (λ b. cond (assigns new e && not b) (next_of l more now e) None) (not_cancelled l h id nodes blobs laws tip_live e is)
-      ∙ ap (λ b. cond (b && true) (next_of l more now e) None) is
+      ap (λ b. cond (assigns (new u) e && not b) (next_of l (more u) (now u) e) None) (not_cancelled u e is)
+      ∙ ap (λ b. cond (b && true) (next_of l (more u) (now u) e) None) is
       ∙ next_old e le
-      ∙ sym (ap (λ b. cond (assigns d.tip e && not b) (next_of l h d e) None) (was_not (has d.cancelled e) refl)
-      ∙ ap (λ b. cond (b && true) (next_of l h d e) None) (laws.kept e is le))
+      ∙ sym (ap (λ b. cond (assigns (d u).tip e && not b) (next_of l h (d u) e) None) (was_not (has (d u).cancelled e) refl)
+      ∙ ap (λ b. cond (b && true) (next_of l h (d u) e) None) (u.laws.kept e is le))
     where
-      was_not : (b : Bool) → has d.cancelled e ≡ b → b ≡ false
+      was_not : (b : Bool) → has (d u).cancelled e ≡ b → b ≡ false
       was_not false x = refl
-      was_not true x = absurd (false≢true (sym (laws.not_again e x) ∙ is))
+      was_not true x = absurd (false≢true (sym (u.laws.not_again e x) ∙ is))
 
-  waits_old : (e : ℕ) (x : PartKind) → e ≤ length d.homes → waits_by now.homes x e ≡ waits_by d.homes x e
+  waits_old : (e : ℕ) (x : PartKind) → e ≤ length (d u).homes → waits_by (now u).homes x e ≡ waits_by (d u).homes x e
   waits_old e kind.Fork le = refl
-  waits_old e kind.Eval le = ap (λ o. option_map_or (λ (y : Home). sources_of y.input) o []) (same_home l h id nodes blobs laws tip_live e le)
-  waits_old e kind.Print le = ap (λ o. option_map_or (λ (y : Home). sources_of y.input) o []) (same_home l h id nodes blobs laws tip_live e le)
+  waits_old e kind.Eval le = ap (λ o. option_map_or (λ (y : Home). sources_of y.input) o []) (same_home u e le)
+  waits_old e kind.Print le = ap (λ o. option_map_or (λ (y : Home). sources_of y.input) o []) (same_home u e le)
 
-  ranked_task : (e : ℕ) (x : PartKind) (s : Task) → e ≤ length d.homes → IsTaskOf (standing h) d.tip d.homes e x s
-      → IsTaskOf (standing more) new now.homes e x (ranked (is_visible new e) s)
+  ranked_task : (e : ℕ) (x : PartKind) (s : Task) → e ≤ length (d u).homes → IsTaskOf (standing h) (d u).tip (d u).homes e x s
+      → IsTaskOf (standing (more u)) (new u) (now u).homes e x (ranked (is_visible (new u) e) s)
   ranked_task e x s le task = record {
-    same_kind = ranked_same (is_visible new e) s ∙ task.same_kind;
-    urgent = ranked_urgent (is_visible new e) (is_visible d.tip e) x s task.same_kind task.urgent;
-    waits = λ f. ap (λ es. has_input es f) (ranked_inputs (is_visible new e) s) ∙ task.waits f
+    same_kind = ranked_same (is_visible (new u) e) s ∙ task.same_kind;
+    urgent = ranked_urgent (is_visible (new u) e) (is_visible (d u).tip e) x s task.same_kind task.urgent;
+    waits = λ f. ap (λ es. has_input es f) (ranked_inputs (is_visible (new u) e) s) ∙ task.waits f
         ∙ ap (λ ws. has ws f && not (is_done (standing h (evaluation f)))) (sym (waits_old e x le));
-    held = ranked_held (is_visible new e) s ∙ task.held;
+    held = ranked_held (is_visible (new u) e) s ∙ task.held;
   }
 
-  same_task : (e : ℕ) (x : PartKind) (s : Task) → e ≤ length d.homes → is_visible new e ≡ is_visible d.tip e
-      → IsTaskOf (standing h) d.tip d.homes e x s → IsTaskOf (standing more) new now.homes e x s
+  same_task : (e : ℕ) (x : PartKind) (s : Task) → e ≤ length (d u).homes → is_visible (new u) e ≡ is_visible (d u).tip e
+      → IsTaskOf (standing h) (d u).tip (d u).homes e x s → IsTaskOf (standing (more u)) (new u) (now u).homes e x s
   same_task e x s le sees task = record {
     same_kind = task.same_kind;
     urgent = task.urgent ∙ ap (priority_by x) (sym sees);
@@ -85,15 +70,15 @@ module _ {S : Type 0} (l : Lang S) (h : List Event) (t : Tables S) (k : IsKept l
     held = task.held;
   }
 
-  pub ranked_are : (e : ℕ) (o : Option PartKind) (s : Option Task) → e ≤ length d.homes → AreTasks (standing h) d.tip d.homes e o s
-      → AreTasks (standing more) new now.homes e o (option_map (ranked (is_visible new e)) s)
+  pub ranked_are : (e : ℕ) (o : Option PartKind) (s : Option Task) → e ≤ length (d u).homes → AreTasks (standing h) (d u).tip (d u).homes e o s
+      → AreTasks (standing (more u)) (new u) (now u).homes e o (option_map (ranked (is_visible (new u) e)) s)
   ranked_are e None None le are = are
   ranked_are e None (Some s) le are = absurd (are)
   ranked_are e (Some x) None le are = absurd (are)
   ranked_are e (Some x) (Some s) le are = ranked_task e x s le are
 
-  pub same_are : (e : ℕ) (o : Option PartKind) (s : Option Task) → e ≤ length d.homes → is_visible new e ≡ is_visible d.tip e
-      → AreTasks (standing h) d.tip d.homes e o s → AreTasks (standing more) new now.homes e o s
+  pub same_are : (e : ℕ) (o : Option PartKind) (s : Option Task) → e ≤ length (d u).homes → is_visible (new u) e ≡ is_visible (d u).tip e
+      → AreTasks (standing h) (d u).tip (d u).homes e o s → AreTasks (standing (more u)) (new u) (now u).homes e o s
   same_are e None None le sees are = are
   same_are e None (Some s) le sees are = absurd (are)
   same_are e (Some x) None le sees are = absurd (are)

@@ -4,25 +4,23 @@ use mathlib.Core.Bool.{or_assoc}
 use Rattle.std.proofs.lemmas.Bool.{false≢true}
 use Rattle.std.proofs.Math.Bool.{or-false}
 use Rattle.import_rounds.specs.Rounds.{has}
-use Rattle.pide_base.specs.declared.part.Part.{Part}
 use Rattle.doc_nodes.specs.Imports.{NodeList}
 use Rattle.doc_versions.specs.declared.versions.Live.{Live}
 use Rattle.exec_rules.specs.declared.version.Version.{Version}
 use Rattle.exec_rules.specs.Kept.{BlobList}
-use Rattle.exec_rules.specs.Assigning.{Assignment}
 use Rattle.language.specs.Lang.{Lang}
 use Rattle.core_rules.specs.declared.event.Event.{Event}
-use Rattle.core_rules.specs.declared.event.Event.TheVariants.{Update}
 use Rattle.core_rules.specs.Numbered.{numbered}
 use Rattle.core_rules.specs.Assigned.{executions_of, assigns, is_assigned}
 use Rattle.core_rules.specs.Settings.{setting}
-use Rattle.core_rules.specs.Standing.{Free, standing, is_done, is_open}
-use Rattle.core_rules.specs.Doc.{Doc, doc, assignment_of, version_of}
-use Rattle.core_rules.specs.Sources.{HasHome}
+use Rattle.core_rules.specs.Standing.{standing, is_done, is_open}
+use Rattle.core_rules.specs.Doc.{assignment_of}
 use Rattle.pide_base.specs.declared.part.PartKind.TheVariants as kind
 use Rattle.prover_core.specs.Progress.{Completed, part, completed_in}
 use Rattle.import_rounds.proofs.KnownHas.{has_both, has_passing}
 use Rattle.core_rules.proofs.KnownStays.{number_grown, setting_grown}
+use Rattle.prover_core.specs.Kept.{Tables}
+use Rattle.prover_core.proofs.UpdateFacts.{Updating, d, more, now, new}
 
 pub pushed : (live : List (Live Version)) (one : Live Version) (e : ℕ)
     → is_assigned (live ++ one ∷ []) e ≡ (is_assigned live e || assigns one.version e)
@@ -33,75 +31,49 @@ pushed (x ∷ live) one e = ap (λ b. assigns x.version e || b) (pushed live one
 abbrev pub three : Bool → Bool → Bool → Completed
 three a b c = record { eval = a; fork = b; print = c }
 
-module _ {S : Type 0} (l : Lang S) (h : List Event) (id : ℕ) (nodes : NodeList) (blobs : BlobList) where
-  abbrev pub d : Doc
-  d = doc l h
+module _ {S : Type 0} {l : Lang S} {h : List Event} {t : Tables S} {id : ℕ} {nodes : NodeList} {blobs : BlobList} (u : Updating l h t id nodes blobs) where
+  pub same_home : (e : ℕ) → e ≤ length (d u).homes → numbered (now u).homes e ≡ numbered (d u).homes e
+  same_home e le = number_grown l (d u).homes (assignment_of (d u) nodes blobs).homes e le
 
-  abbrev pub more : List Event
-  more = Update id nodes blobs ∷ h
+  pub same_setting : (e : ℕ) → e ≤ length (d u).homes → setting l (now u).homes e ≡ setting l (d u).homes e
+  same_setting e le = setting_grown l (d u).homes (assignment_of (d u) nodes blobs).homes e le
 
-  abbrev pub now : Doc
-  now = doc l more
+  pub old_live : (e : ℕ) → e ≤ length (d u).homes → is_assigned (now u).live e ≡ is_assigned (d u).live e
+  old_live e le = pushed (d u).live (record { id = id; version = new u }) e ∙ go (assigns (new u) e) refl (is_assigned (d u).live e) refl
+    where
+      go : (a : Bool) → assigns (new u) e ≡ a → (b : Bool) → is_assigned (d u).live e ≡ b → (b || a) ≡ b
+      go false is true live = refl
+      go false is false live = refl
+      go true is true live = refl
+      go true is false live = absurd (false≢true (sym live ∙ u.tip_live e (u.laws.kept e is le)))
 
-  abbrev pub made : Assignment
-  made = assignment_of d nodes blobs
+  pub new_live : (e : ℕ) → length (d u).homes < e → is_assigned (now u).live e ≡ assigns (new u) e
+  new_live e past = pushed (d u).live (record { id = id; version = new u }) e ∙ go (is_assigned (d u).live e) refl
+    where
+      go : (b : Bool) → is_assigned (d u).live e ≡ b → (b || assigns (new u) e) ≡ assigns (new u) e
+      go false is = refl
+      go true is = absurd (omega (arith, past, u.laws.within e is))
 
-  abbrev pub new : Version
-  new = version_of nodes blobs made
+  -- what is dropped is the tip's, unfinished, and not the new version's
+  pub cancelled_now : (e : ℕ) → has (now u).cancelled e
+      ≡ (((is_open l h (d u).homes e && not (assigns (new u) e)) && assigns (d u).tip e) || has (d u).cancelled e)
+  cancelled_now e = has_both (filter (λ x. is_open l h (d u).homes x && not (assigns (new u) x)) (executions_of (d u).tip)) (d u).cancelled e
+      ∙ ap (λ b. b || has (d u).cancelled e) (has_passing (λ x. is_open l h (d u).homes x && not (assigns (new u) x)) (executions_of (d u).tip) e)
 
-  -- what holds of the new version
-  pub record NewLaws : Type 0 where
-    pub homes : (e : ℕ) → assigns new e ≡ true → HasHome l now new e
-    pub within : (e : ℕ) → is_assigned d.live e ≡ true → e ≤ length d.homes
-    pub unmade : (p : Part) → length d.homes < p.exec → standing h p ≡ Free
-    pub not_again : (e : ℕ) → has d.cancelled e ≡ true → assigns new e ≡ false
-    -- an older execution is one of the tip's, and each new one is assigned
-    pub kept : (e : ℕ) → assigns new e ≡ true → e ≤ length d.homes → assigns d.tip e ≡ true
-    pub given : (e : ℕ) → length d.homes < e → e ≤ length now.homes → assigns new e ≡ true
+  pub not_cancelled : (e : ℕ) → assigns (new u) e ≡ true → has (now u).cancelled e ≡ false
+  not_cancelled e is = cancelled_now e
+      ∙ ap (λ b. ((is_open l h (d u).homes e && not b) && assigns (d u).tip e) || has (d u).cancelled e) is
+      ∙ go (is_open l h (d u).homes e) (assigns (d u).tip e) (has (d u).cancelled e) refl
+    where
+      go : (a b c : Bool) → has (d u).cancelled e ≡ c → (((a && false) && b) || c) ≡ false
+      go true b false x = refl
+      go false b false x = refl
+      go a b true x = absurd (false≢true (sym (u.laws.not_again e x) ∙ is))
 
-  module _ (laws : NewLaws) (tip_live : (e : ℕ) → assigns d.tip e ≡ true → is_assigned d.live e ≡ true) where
-    pub same_home : (e : ℕ) → e ≤ length d.homes → numbered now.homes e ≡ numbered d.homes e
-    same_home e le = number_grown l d.homes made.homes e le
-
-    pub same_setting : (e : ℕ) → e ≤ length d.homes → setting l now.homes e ≡ setting l d.homes e
-    same_setting e le = setting_grown l d.homes made.homes e le
-
-    pub old_live : (e : ℕ) → e ≤ length d.homes → is_assigned now.live e ≡ is_assigned d.live e
-    old_live e le = pushed d.live (record { id = id; version = new }) e ∙ go (assigns new e) refl (is_assigned d.live e) refl
-      where
-        go : (a : Bool) → assigns new e ≡ a → (b : Bool) → is_assigned d.live e ≡ b → (b || a) ≡ b
-        go false is true live = refl
-        go false is false live = refl
-        go true is true live = refl
-        go true is false live = absurd (false≢true (sym live ∙ tip_live e (laws.kept e is le)))
-
-    pub new_live : (e : ℕ) → length d.homes < e → is_assigned now.live e ≡ assigns new e
-    new_live e past = pushed d.live (record { id = id; version = new }) e ∙ go (is_assigned d.live e) refl
-      where
-        go : (b : Bool) → is_assigned d.live e ≡ b → (b || assigns new e) ≡ assigns new e
-        go false is = refl
-        go true is = absurd (omega (arith, past, laws.within e is))
-
-    -- what is dropped is the tip's, unfinished, and not the new version's
-    pub cancelled_now : (e : ℕ) → has now.cancelled e
-        ≡ (((is_open l h d.homes e && not (assigns new e)) && assigns d.tip e) || has d.cancelled e)
-    cancelled_now e = has_both (filter (λ x. is_open l h d.homes x && not (assigns new x)) (executions_of d.tip)) d.cancelled e
-        ∙ ap (λ b. b || has d.cancelled e) (has_passing (λ x. is_open l h d.homes x && not (assigns new x)) (executions_of d.tip) e)
-
-    pub not_cancelled : (e : ℕ) → assigns new e ≡ true → has now.cancelled e ≡ false
-    not_cancelled e is = cancelled_now e
-        ∙ ap (λ b. ((is_open l h d.homes e && not b) && assigns d.tip e) || has d.cancelled e) is
-        ∙ go (is_open l h d.homes e) (assigns d.tip e) (has d.cancelled e) refl
-      where
-        go : (a b c : Bool) → has d.cancelled e ≡ c → (((a && false) && b) || c) ≡ false
-        go true b false x = refl
-        go false b false x = refl
-        go a b true x = absurd (false≢true (sym (laws.not_again e x) ∙ is))
-
-    -- nothing of a new execution is done
-    pub nothing_done : (e : ℕ) → length d.homes < e → completed_in more e ≡ three false false false
-    nothing_done e past =
-        ap (λ s. three (is_done s) (is_done (standing h (part e kind.Fork))) (is_done (standing h (part e kind.Print))))
-        (laws.unmade (part e kind.Eval) past)
-        ∙ ap (λ s. three false (is_done s) (is_done (standing h (part e kind.Print)))) (laws.unmade (part e kind.Fork) past)
-        ∙ ap (λ s. three false false (is_done s)) (laws.unmade (part e kind.Print) past)
+  -- nothing of a new execution is done
+  pub nothing_done : (e : ℕ) → length (d u).homes < e → completed_in (more u) e ≡ three false false false
+  nothing_done e past =
+      ap (λ s. three (is_done s) (is_done (standing h (part e kind.Fork))) (is_done (standing h (part e kind.Print))))
+      (u.laws.unmade (part e kind.Eval) past)
+      ∙ ap (λ s. three false (is_done s) (is_done (standing h (part e kind.Print)))) (u.laws.unmade (part e kind.Fork) past)
+      ∙ ap (λ s. three false false (is_done s)) (u.laws.unmade (part e kind.Print) past)

@@ -1,5 +1,5 @@
 -- The tasks of the tip that an update makes.
-use Rattle.std.proofs.Common.{◌≡◌, ◌⊎◌, inl, inr, ℕ, ◌<◌, ◌≤◌, Bool, true, false, cond, not, ◌&&◌, List, ◌∷◌, length, Option, Some, None, refl, ap, sym, subst, ◌∙◌}
+use Rattle.std.proofs.Common.{◌≡◌, ◌⊎◌, inl, inr, ℕ, ◌<◌, ◌≤◌, Bool, true, false, cond, not, ◌&&◌, List, length, Option, Some, None, refl, ap, sym, subst, ◌∙◌}
 use Rattle.std.proofs.lemmas.Bool.{false≢true, cases_lt}
 use Rattle.std.specs.Option.{option_map, option_and_then}
 use Rattle.import_rounds.specs.Rounds.{has}
@@ -9,50 +9,35 @@ use Rattle.task_queue.specs.declared.task.Standing.{Standing as Task}
 use Rattle.exec_rules.specs.declared.home.Home.{Home}
 use Rattle.exec_rules.specs.declared.home.Input.{Input}
 use Rattle.exec_rules.specs.declared.home.Input.TheVariants as input
-use Rattle.exec_rules.specs.declared.version.Version.{Version}
 use Rattle.exec_rules.specs.Kept.{BlobList}
 use Rattle.language.specs.Lang.{Lang}
 use Rattle.core_rules.specs.declared.event.Event.{Event}
-use Rattle.core_rules.specs.declared.event.Event.TheVariants.{Update}
 use Rattle.core_rules.specs.Numbered.{numbered}
-use Rattle.core_rules.specs.Assigned.{assigns, is_visible, is_assigned}
+use Rattle.core_rules.specs.Assigned.{assigns, is_visible}
 use Rattle.core_rules.specs.Parts.{forks}
 use Rattle.core_rules.specs.Standing.{standing}
-use Rattle.core_rules.specs.Doc.{Doc, doc, assignment_of, version_of}
 use Rattle.prover_core.specs.Progress.{completed_in, next_kind, next_of}
 use Rattle.prover_core.specs.Tasks.{present_kind, IsTaskOf, AreTasks, HasTask}
 use Rattle.update_plans.specs.Begun.{first_kind}
 use Rattle.prover_core.specs.Plans.{ranked}
-use Rattle.prover_core.specs.Kept.{Tables, IsKept}
-use Rattle.prover_core.proofs.UpdatedDoc.{NewLaws, three, not_cancelled, nothing_done}
+use Rattle.prover_core.specs.Kept.{Tables}
+use Rattle.prover_core.proofs.UpdatedDoc.{three, not_cancelled, nothing_done}
 use Rattle.prover_core.proofs.TasksOver.{present_old, ranked_are, same_are}
+use Rattle.prover_core.proofs.UpdateFacts.{Updating, d, more, now, new}
 
-module _ {S : Type 0} (l : Lang S) (h : List Event) (t : Tables S) (k : IsKept l h t) (id : ℕ) (nodes : NodeList) (blobs : BlobList)
-    (laws : NewLaws l h id nodes blobs) (tip_live : (e : ℕ) → assigns (doc l h).tip e ≡ true → is_assigned (doc l h).live e ≡ true) where
-  abbrev d : Doc
-  d = doc l h
-
-  abbrev more : List Event
-  more = Update id nodes blobs ∷ h
-
-  abbrev now : Doc
-  now = doc l more
-
-  abbrev new : Version
-  new = version_of nodes blobs (assignment_of d nodes blobs)
-
+module _ {S : Type 0} {l : Lang S} {h : List Event} {t : Tables S} {id : ℕ} {nodes : NodeList} {blobs : BlobList} (u : Updating l h t id nodes blobs) where
   -- the tasks of an update: those that are dropped are gone, others have their priority told anew
   -- where that is another, and new ones are put in
   pub record AreTasksThen (tasks : ℕ → Option Task) : Type 0 where
-    pub dropped : (e : ℕ) → e ≤ length d.homes → assigns new e ≡ false → tasks e ≡ cond (assigns d.tip e) None (t.tasks e)
-    pub ranked : (e : ℕ) → e ≤ length d.homes → assigns new e ≡ true
-        → (tasks e ≡ option_map (ranked (is_visible new e)) (t.tasks e))
-        ⊎ ((tasks e ≡ t.tasks e) × (is_visible new e ≡ is_visible d.tip e))
-    pub fresh : (e : ℕ) (x : Home) → length d.homes < e → numbered now.homes e ≡ Some x
-        → (s : Task) × (tasks e ≡ Some s) × IsTaskOf (standing more) new now.homes e (first_kind x.input) s
-    pub others : (e : ℕ) → length now.homes < e → tasks e ≡ None
+    pub dropped : (e : ℕ) → e ≤ length (d u).homes → assigns (new u) e ≡ false → tasks e ≡ cond (assigns (d u).tip e) None (t.tasks e)
+    pub ranked : (e : ℕ) → e ≤ length (d u).homes → assigns (new u) e ≡ true
+        → (tasks e ≡ option_map (ranked (is_visible (new u) e)) (t.tasks e))
+        ⊎ ((tasks e ≡ t.tasks e) × (is_visible (new u) e ≡ is_visible (d u).tip e))
+    pub fresh : (e : ℕ) (x : Home) → length (d u).homes < e → numbered (now u).homes e ≡ Some x
+        → (s : Task) × (tasks e ≡ Some s) × IsTaskOf (standing (more u)) (new u) (now u).homes e (first_kind x.input) s
+    pub others : (e : ℕ) → length (now u).homes < e → tasks e ≡ None
 
-  nothing_there : (e : ℕ) (o : Option PartKind) (s : Option Task) → o ≡ None → AreTasks (standing h) d.tip d.homes e o s → s ≡ None
+  nothing_there : (e : ℕ) (o : Option PartKind) (s : Option Task) → o ≡ None → AreTasks (standing h) (d u).tip (d u).homes e o s → s ≡ None
   nothing_there e None None is are = refl
   nothing_there e None (Some s) is are = absurd (are)
   nothing_there e (Some x) s is are = absurd (cc)
@@ -62,58 +47,58 @@ module _ {S : Type 0} (l : Lang S) (h : List Event) (t : Tables S) (k : IsKept l
   first_next (input.Next e) f = refl
   first_next (input.Print e) f = refl
 
-  pub tasks_now : (tasks : ℕ → Option Task) → AreTasksThen tasks → (e : ℕ) → HasTask l more now e (tasks e)
-  tasks_now tasks so e = go (assigns new e) refl (cases_lt (length d.homes) e)
+  pub tasks_now : (tasks : ℕ → Option Task) → AreTasksThen tasks → (e : ℕ) → HasTask l (more u) (now u) e (tasks e)
+  tasks_now tasks so e = go (assigns (new u) e) refl (cases_lt (length (d u).homes) e)
     where
-      gone : assigns new e ≡ false → present_kind l more now e ≡ None
-      gone is = ap (λ b. cond (b && not (has now.cancelled e)) (next_of l more now e) None) is
+      gone : assigns (new u) e ≡ false → present_kind l (more u) (now u) e ≡ None
+      gone is = ap (λ b. cond (b && not (has (now u).cancelled e)) (next_of l (more u) (now u) e) None) is
 
-      absent : assigns new e ≡ false → e ≤ length d.homes → tasks e ≡ None
-      absent is le = so.dropped e le is ∙ by (assigns d.tip e) refl
+      absent : assigns (new u) e ≡ false → e ≤ length (d u).homes → tasks e ≡ None
+      absent is le = so.dropped e le is ∙ by (assigns (d u).tip e) refl
         where
-          by : (b : Bool) → assigns d.tip e ≡ b → cond b None (t.tasks e) ≡ None
+          by : (b : Bool) → assigns (d u).tip e ≡ b → cond b None (t.tasks e) ≡ None
           by true x = refl
-          by false x = nothing_there e (present_kind l h d e) (t.tasks e)
-              (ap (λ b. cond (b && not (has d.cancelled e)) (next_of l h d e) None) x) (k.tasks e)
+          by false x = nothing_there e (present_kind l h (d u) e) (t.tasks e)
+              (ap (λ b. cond (b && not (has (d u).cancelled e)) (next_of l h (d u) e) None) x) (u.kept.tasks e)
 
-      none : assigns new e ≡ false → tasks e ≡ None → HasTask l more now e (tasks e)
-      none is gone_too = subst (λ o. AreTasks (standing more) new now.homes e (present_kind l more now e) o) (sym gone_too)
-          (subst (λ o. AreTasks (standing more) new now.homes e o None) (sym (gone is)) tt)
+      none : assigns (new u) e ≡ false → tasks e ≡ None → HasTask l (more u) (now u) e (tasks e)
+      none is gone_too = subst (λ o. AreTasks (standing (more u)) (new u) (now u).homes e (present_kind l (more u) (now u) e) o) (sym gone_too)
+          (subst (λ o. AreTasks (standing (more u)) (new u) (now u).homes e o None) (sym (gone is)) tt)
 
-      old : e ≤ length d.homes → assigns new e ≡ true → HasTask l more now e (tasks e)
+      old : e ≤ length (d u).homes → assigns (new u) e ≡ true → HasTask l (more u) (now u) e (tasks e)
       old le is = by (so.ranked e le is)
         where
-          by : (tasks e ≡ option_map (ranked (is_visible new e)) (t.tasks e))
-              ⊎ ((tasks e ≡ t.tasks e) × (is_visible new e ≡ is_visible d.tip e)) → HasTask l more now e (tasks e)
-          by (inl x) = subst (λ o. AreTasks (standing more) new now.homes e (present_kind l more now e) o) (sym x)
-              (subst (λ o. AreTasks (standing more) new now.homes e o (option_map (ranked (is_visible new e)) (t.tasks e)))
-              (sym (present_old l h t k id nodes blobs laws tip_live e le is)) (ranked_are l h t k id nodes blobs laws tip_live e (present_kind l h d e) (t.tasks e) le (k.tasks e)))
-          by (inr x) = subst (λ o. AreTasks (standing more) new now.homes e (present_kind l more now e) o) (sym x.0)
-              (subst (λ o. AreTasks (standing more) new now.homes e o (t.tasks e))
-              (sym (present_old l h t k id nodes blobs laws tip_live e le is)) (same_are l h t k id nodes blobs laws tip_live e (present_kind l h d e) (t.tasks e) le x.1 (k.tasks e)))
+          by : (tasks e ≡ option_map (ranked (is_visible (new u) e)) (t.tasks e))
+              ⊎ ((tasks e ≡ t.tasks e) × (is_visible (new u) e ≡ is_visible (d u).tip e)) → HasTask l (more u) (now u) e (tasks e)
+          by (inl x) = subst (λ o. AreTasks (standing (more u)) (new u) (now u).homes e (present_kind l (more u) (now u) e) o) (sym x)
+              (subst (λ o. AreTasks (standing (more u)) (new u) (now u).homes e o (option_map (ranked (is_visible (new u) e)) (t.tasks e)))
+              (sym (present_old u e le is)) (ranked_are u e (present_kind l h (d u) e) (t.tasks e) le (u.kept.tasks e)))
+          by (inr x) = subst (λ o. AreTasks (standing (more u)) (new u) (now u).homes e (present_kind l (more u) (now u) e) o) (sym x.0)
+              (subst (λ o. AreTasks (standing (more u)) (new u) (now u).homes e o (t.tasks e))
+              (sym (present_old u e le is)) (same_are u e (present_kind l h (d u) e) (t.tasks e) le x.1 (u.kept.tasks e)))
 
-      present_new : (x : Home) → length d.homes < e → assigns new e ≡ true → numbered now.homes e ≡ Some x
-          → present_kind l more now e ≡ Some (first_kind x.input)
+      present_new : (x : Home) → length (d u).homes < e → assigns (new u) e ≡ true → numbered (now u).homes e ≡ Some x
+          → present_kind l (more u) (now u) e ≡ Some (first_kind x.input)
       present_new x past is at =
-          ap (λ b. cond (assigns new e && not b) (next_of l more now e) None) (not_cancelled l h id nodes blobs laws tip_live e is)
-          ∙ ap (λ b. cond (b && true) (next_of l more now e) None) is
-          ∙ ap (option_and_then (λ (y : Home). next_kind y.input (forks l now.homes e) (completed_in more e))) at
-          ∙ ap (next_kind x.input (forks l now.homes e)) (nothing_done l h id nodes blobs laws tip_live e past)
-          ∙ first_next x.input (forks l now.homes e)
+          ap (λ b. cond (assigns (new u) e && not b) (next_of l (more u) (now u) e) None) (not_cancelled u e is)
+          ∙ ap (λ b. cond (b && true) (next_of l (more u) (now u) e) None) is
+          ∙ ap (option_and_then (λ (y : Home). next_kind y.input (forks l (now u).homes e) (completed_in (more u) e))) at
+          ∙ ap (next_kind x.input (forks l (now u).homes e)) (nothing_done u e past)
+          ∙ first_next x.input (forks l (now u).homes e)
 
-      new_one : length d.homes < e → assigns new e ≡ true → HasTask l more now e (tasks e)
+      new_one : length (d u).homes < e → assigns (new u) e ≡ true → HasTask l (more u) (now u) e (tasks e)
       new_one past is =
-          let x = laws.homes e is in
+          let x = u.laws.homes e is in
           let s = so.fresh e x.home past x.homed in
-          subst (λ o. AreTasks (standing more) new now.homes e (present_kind l more now e) o) (sym s.1)
-          (subst (λ o. AreTasks (standing more) new now.homes e o (Some s.0)) (sym (present_new x.home past is x.homed)) s.2)
+          subst (λ o. AreTasks (standing (more u)) (new u) (now u).homes e (present_kind l (more u) (now u) e) o) (sym s.1)
+          (subst (λ o. AreTasks (standing (more u)) (new u) (now u).homes e o (Some s.0)) (sym (present_new x.home past is x.homed)) s.2)
 
-      go : (b : Bool) → assigns new e ≡ b → (length d.homes < e) ⊎ (e ≤ length d.homes) → HasTask l more now e (tasks e)
+      go : (b : Bool) → assigns (new u) e ≡ b → (length (d u).homes < e) ⊎ (e ≤ length (d u).homes) → HasTask l (more u) (now u) e (tasks e)
       go true is (inl past) = new_one past is
       go true is (inr le) = old le is
       go false is (inr le) = none is (absent is le)
-      go false is (inl past) = none is (so.others e (above (cases_lt (length now.homes) e)))
+      go false is (inl past) = none is (so.others e (above (cases_lt (length (now u).homes) e)))
         where
-          above : (length now.homes < e) ⊎ (e ≤ length now.homes) → length now.homes < e
+          above : (length (now u).homes < e) ⊎ (e ≤ length (now u).homes) → length (now u).homes < e
           above (inl lt) = lt
-          above (inr le) = absurd (false≢true (sym is ∙ laws.given e past le))
+          above (inr le) = absurd (false≢true (sym is ∙ u.laws.given e past le))

@@ -1,4 +1,4 @@
-use Rattle.std.proofs.Common.{◌≡◌, ◌<◌, ◌≤◌, ◌-◌, ℕ, Bool, List, ◌∷◌, None, cond, map, false, sym, ap, subst, ◌∙◌, refl, arith, reverse, length}
+use Rattle.std.proofs.Common.{◌≡◌, ◌<◌, ◌≤◌, ◌-◌, ℕ, Bool, List, ◌∷◌, cond, map, sym, ap, subst, ◌∙◌, refl, arith, reverse, length}
 use Rattle.std.proofs.lemmas.List.{length-map, length-reverse}
 use Rattle.std.proofs.Math.Nat.{min-le_left, min-le_right}
 use Rattle.std.specs.Prelude.{min, flat_map, vec_capacity}
@@ -7,39 +7,28 @@ use Rattle.task_queue.specs.declared.task.Task.{Task}
 use Rattle.std.specs.Option.{option_map}
 use Rattle.std.specs.List.{AllByRecursion}
 use Rattle.import_rounds.specs.Rounds.{has}
-use Rattle.exec_table.specs.Rows.{execution_of}
-use Rattle.exec_table.specs.Finish.{after_cancelling}
 use Rattle.task_queue.specs.Tasks.{standing}
 use Rattle.doc_versions.specs.Live.{version_of}
 use Rattle.core_rules.specs.declared.event.Event.{Event}
-use Rattle.core_rules.specs.Standing.{has_ended}
 use Rattle.core_rules.specs.Doc.{doc}
 use Rattle.core_rules.specs.Legal.{IsLegal}
 use Rattle.update_plans.specs.declared.beginning.Fresh.{Fresh}
 use Rattle.update_plans.specs.declared.seeing.Sight.{Sight}
 use Rattle.prover_core.specs.Looked.{looked}
 use Rattle.prover_core.specs.States.{CoreState}
-use Rattle.prover_core.specs.Plans.{PlanState, ranked, IsPlanOf}
+use Rattle.prover_core.specs.Plans.{ranked}
 use Rattle.prover_core.proofs.EndedKept.{moved}
 use Rattle.prover_core.proofs.LiveIds.{live_ids, fresh_id}
 use Rattle.prover_core.proofs.FreshAll.{homes_of, links_of}
-use Rattle.prover_core.specs.Laws.{UpdateLaws}
+use Rattle.prover_core.proofs.NewPlan.{plans_in}
 use Rattle.prover_core.proofs.PlannedKept.{can_add, seen_so, planned_kept, has_room}
 use Rattle.prover_core.proofs.prover.Core.update.Goals as goal
 
 pub add_all-requires-clause-new : goal.add_all-requires-clause-new
 add_all-requires-clause-new g c =
-    let l = g.L.Language.lang in
-    let going = subst (λ (s : CoreState). has_ended s.past ≡ false) (sym c.self.view_is) c.requires.going in
-    let planned = subst (λ (p : PlanState). IsPlanOf l c.self.inside.past p) (sym c.plan.view_is)
-    (subst (λ (s : CoreState). IsPlanOf l s.past c.args.plan) (sym c.self.view_is) c.requires.planned) in
-    let all : UpdateLaws l = c.plan_laws.ensures.update in
-    let rows = subst (λ (ds : List ℕ). (e : ℕ) → execution_of c.drop_all.new.execs.rows e ≡ cond (has ds e)
-    (after_cancelling (execution_of c.self.inside.execs.rows e)) (execution_of c.self.inside.execs.rows e)) (c.as_slice.ensures ∙ c.get.ensures)
-    c.drop_all.ensures.rows in
-    let tasks = subst (λ (ds : List ℕ). (e : ℕ) → standing c.drop_all.new.queue e ≡ cond (has ds e) None (standing c.self.inside.queue e))
-    (c.as_slice.ensures ∙ c.get.ensures) c.drop_all.ensures.tasks in
-    can_add l _ _ c.self.invariant all _ (reverse c.plan.inside.fresh.items) refl refl going planned _ _ _ rows (λ e. refl) tasks
+    let plan = plans_in c.self.invariant c.plan_laws.ensures.update _ _ (reverse c.plan.inside.fresh.items) _ refl refl (ap (λ (s : CoreState). s.past) c.self.view_is)
+    c.plan.view_is c.requires.going c.requires.planned in
+    can_add plan _ (c.as_slice.ensures ∙ c.get.ensures) _ _ _ c.drop_all.ensures.rows (λ e. refl) c.drop_all.ensures.tasks
 
 pub add_all-requires-clause-executions : goal.add_all-requires-clause-executions
 add_all-requires-clause-executions g c =
@@ -85,24 +74,16 @@ push-requires-2 g c =
 pub push-requires-clause-fresh : goal.push-requires-clause-fresh
 push-requires-clause-fresh g c =
     let l = g.L.Language.lang in
-    let planned = subst (λ (p : PlanState). IsPlanOf l c.self.inside.past p) (sym c.plan.view_is)
-    (subst (λ (s : CoreState). IsPlanOf l s.past c.args.plan) (sym c.self.view_is) c.requires.planned) in
+    let plan = plans_in c.self.invariant c.plan_laws.ensures.update _ _ (reverse c.plan.inside.fresh.items) _ refl refl (ap (λ (s : CoreState). s.past) c.self.view_is)
+    c.plan.view_is c.requires.going c.requires.planned in
     ap (λ live. version_of live c.plan.inside.id) c.self.invariant.live
     ∙ fresh_id (doc l c.self.inside.past).last c.plan.inside.id (doc l c.self.inside.past).live
-    (live_ids l c.self.inside.past c.self.invariant.legal) planned.fits.newer
+    (live_ids l c.self.inside.past c.self.invariant.legal) plan.planned.fits.newer
 
 pub invariant_of-self : goal.invariant_of-self
 invariant_of-self g c =
-    let l = g.L.Language.lang in
-    let going = subst (λ (s : CoreState). has_ended s.past ≡ false) (sym c.self.view_is) c.requires.going in
-    let planned = subst (λ (p : PlanState). IsPlanOf l c.self.inside.past p) (sym c.plan.view_is)
-    (subst (λ (s : CoreState). IsPlanOf l s.past c.args.plan) (sym c.self.view_is) c.requires.planned) in
-    let all : UpdateLaws l = c.plan_laws.ensures.update in
-    let rows = subst (λ (ds : List ℕ). (e : ℕ) → execution_of c.drop_all.new.execs.rows e ≡ cond (has ds e)
-    (after_cancelling (execution_of c.self.inside.execs.rows e)) (execution_of c.self.inside.execs.rows e)) (c.as_slice.ensures ∙ c.get.ensures)
-    c.drop_all.ensures.rows in
-    let tasks = subst (λ (ds : List ℕ). (e : ℕ) → standing c.drop_all.new.queue e ≡ cond (has ds e) None (standing c.self.inside.queue e))
-    (c.as_slice.ensures ∙ c.get.ensures) c.drop_all.ensures.tasks in
+    let plan = plans_in c.self.invariant c.plan_laws.ensures.update _ _ (reverse c.plan.inside.fresh.items) _ refl refl (ap (λ (s : CoreState). s.past) c.self.view_is)
+    c.plan.view_is c.requires.going c.requires.planned in
     let sees = subst (λ (ss : List Sight). (see : ℕ → Bool) → AllByRecursion (λ (s : Sight). see s.exec ≡ s.visible) ss → (e : ℕ)
     → standing c.see_all.new.queue e ≡ cond (has (map (λ (s : Sight). s.exec) ss) e)
     (option_map (ranked (see e)) (standing c.add_all.new.queue e)) (standing c.add_all.new.queue e)) c.deref.ensures.value
@@ -113,11 +94,11 @@ invariant_of-self g c =
     let noted : length (map (λ (x : Fresh). x.task) (reverse c.plan.inside.fresh.items)) ≤ min (min c.self.inside.execs.room (spare c.self.inside.known))
     (vec_capacity c.self.inside.cancelled - length c.self.inside.queue.tasks) = here.executions in
     moved _ _ _ _ (c.add.ensures.items ∙ ap (λ (x : Event). x ∷ c.self.inside.past) c.plan.invariant)
-    (planned_kept l _ _ c.self.invariant all _ (reverse c.plan.inside.fresh.items) refl refl going planned c.push.new.self
-    c.push.ensures.start c.push.ensures.live _ _ _ _ _ _ rows c.add_all.ensures.rows
+    (planned_kept plan c.push.new.self c.push.ensures.start c.push.ensures.live _ (c.as_slice.ensures ∙ c.get.ensures) _ _ _ _ _ _
+    c.drop_all.ensures.rows c.add_all.ensures.rows
     (homes_of (reverse c.plan.inside.fresh.items) (λ e. looked c.self.inside.known e) (λ e. looked c.add_all.new.known e) c.add_all.ensures.homes)
-    tasks c.add_all.ensures.tasks
-    (sees _ (seen_so l _ _ c.self.invariant all _ (reverse c.plan.inside.fresh.items) refl refl going planned)) _ c.push-2.ensures.losses _ _ _ _
+    c.drop_all.ensures.tasks c.add_all.ensures.tasks
+    (sees _ (seen_so plan)) _ c.push-2.ensures.losses _ _ _ _
     (omega (arith, most, len, c.drop_all.ensures.room, c.add_all.ensures.room, c.see_all.ensures.room, c.self.invariant.room))
     c.clear.ensures.items
     (omega (
@@ -134,9 +115,7 @@ invariant_of-self g c =
 
 pub returns-clause-legal : goal.returns-clause-legal
 returns-clause-legal g c =
-    let l = g.L.Language.lang in
-    let going = subst (λ (s : CoreState). has_ended s.past ≡ false) (sym c.self.view_is) c.requires.going in
-    let planned = subst (λ (p : PlanState). IsPlanOf l c.self.inside.past p) (sym c.plan.view_is)
-    (subst (λ (s : CoreState). IsPlanOf l s.past c.args.plan) (sym c.self.view_is) c.requires.planned) in
-    subst (IsLegal l) (sym (c.add.ensures.items ∙ ap (λ (x : Event). x ∷ c.self.inside.past) c.plan.invariant))
-    (c.self.invariant.legal, (going, planned.fits))
+    let plan = plans_in c.self.invariant c.plan_laws.ensures.update _ _ (reverse c.plan.inside.fresh.items) _ refl refl (ap (λ (s : CoreState). s.past) c.self.view_is)
+    c.plan.view_is c.requires.going c.requires.planned in
+    subst (IsLegal g.L.Language.lang) (sym (c.add.ensures.items ∙ ap (λ (x : Event). x ∷ c.self.inside.past) c.plan.invariant))
+    (c.self.invariant.legal, (plan.going, plan.planned.fits))
