@@ -23,18 +23,7 @@ after_step_of t not_Fact not_ConjI not_ConjE1 not_ConjE2 = by (out-Term t) refl
     by (Term-F.ConjI x0 x1) is = absurd (not_ConjI x0 x1 (back t (Term-F.ConjI x0 x1) (T.ConjI x0 x1) is (T.rolls-ConjI x0 x1)))
     by (Term-F.ConjE1 x0 x1) is = absurd (not_ConjE1 x0 x1 (back t (Term-F.ConjE1 x0 x1) (T.ConjE1 x0 x1) is (T.rolls-ConjE1 x0 x1)))
     by (Term-F.ConjE2 x0 x1) is = absurd (not_ConjE2 x0 x1 (back t (Term-F.ConjE2 x0 x1) (T.ConjE2 x0 x1) is (T.rolls-ConjE2 x0 x1)))
-    by (Term-F.DisjI1 x0) is = tt
-    by (Term-F.DisjI2 x0) is = tt
-    by (Term-F.DisjE x0 x1 x2 x3 x4 x5 x6) is = tt
-    by (Term-F.ImpI x0 x1) is = tt
-    by (Term-F.ImpE x0 x1 x2) is = tt
-    by (Term-F.NotI x0 x1) is = tt
-    by (Term-F.NotE x0 x1 x2) is = tt
-    by (Term-F.FalseE x0) is = tt
-    by (Term-F.AllI x0 x1) is = tt
-    by (Term-F.AllE x0 x1 x2) is = tt
-    by (Term-F.ExI x0 x1) is = tt
-    by (Term-F.ExE x0 x1 x2 x3 x4) is = tt
+    by l is = tt
 
 pub after_disjoined : (t : Term) → IsDisjoined (out-Term t) → ((x0 : Term) → t ≡ T.DisjI1 x0 → ⊥)
     → ((x0 : Term) → t ≡ T.DisjI2 x0 → ⊥)
@@ -43,22 +32,10 @@ pub after_disjoined : (t : Term) → IsDisjoined (out-Term t) → ((x0 : Term) �
 after_disjoined t is_one not_DisjI1 not_DisjI2 not_DisjE = by (out-Term t) refl is_one
   where
     by : (l : Term-F Term) → out-Term t ≡ l → IsDisjoined l → IsImplied l
-    by (Term-F.Fact x0) is here = absurd here
-    by (Term-F.ConjI x0 x1) is here = absurd here
-    by (Term-F.ConjE1 x0 x1) is here = absurd here
-    by (Term-F.ConjE2 x0 x1) is here = absurd here
     by (Term-F.DisjI1 x0) is here = absurd (not_DisjI1 x0 (back t (Term-F.DisjI1 x0) (T.DisjI1 x0) is (T.rolls-DisjI1 x0)))
     by (Term-F.DisjI2 x0) is here = absurd (not_DisjI2 x0 (back t (Term-F.DisjI2 x0) (T.DisjI2 x0) is (T.rolls-DisjI2 x0)))
     by (Term-F.DisjE x0 x1 x2 x3 x4 x5 x6) is here = absurd (not_DisjE x0 x1 x2 x3 x4 x5 x6 (back t (Term-F.DisjE x0 x1 x2 x3 x4 x5 x6) (T.DisjE x0 x1 x2 x3 x4 x5 x6) is (T.rolls-DisjE x0 x1 x2 x3 x4 x5 x6)))
-    by (Term-F.ImpI x0 x1) is here = tt
-    by (Term-F.ImpE x0 x1 x2) is here = tt
-    by (Term-F.NotI x0 x1) is here = tt
-    by (Term-F.NotE x0 x1 x2) is here = tt
-    by (Term-F.FalseE x0) is here = tt
-    by (Term-F.AllI x0 x1) is here = tt
-    by (Term-F.AllE x0 x1 x2) is here = tt
-    by (Term-F.ExI x0 x1) is here = tt
-    by (Term-F.ExE x0 x1 x2 x3 x4) is here = tt
+    by l is here = here
 
 pub after_implied : (t : Term) → IsImplied (out-Term t) → ((x0 : List ℕ) (x1 : Term) → t ≡ T.ImpI x0 x1 → ⊥)
     → ((x0 : Formula) (x1 : Term) (x2 : Term) → t ≡ T.ImpE x0 x1 x2 → ⊥)
@@ -69,22 +46,12 @@ pub after_implied : (t : Term) → IsImplied (out-Term t) → ((x0 : List ℕ) (
 after_implied t is_one not_ImpI not_ImpE not_NotI not_NotE not_FalseE = by (out-Term t) refl is_one
   where
     by : (l : Term-F Term) → out-Term t ≡ l → IsImplied l → IsQuantified l
-    by (Term-F.Fact x0) is here = absurd here
-    by (Term-F.ConjI x0 x1) is here = absurd here
-    by (Term-F.ConjE1 x0 x1) is here = absurd here
-    by (Term-F.ConjE2 x0 x1) is here = absurd here
-    by (Term-F.DisjI1 x0) is here = absurd here
-    by (Term-F.DisjI2 x0) is here = absurd here
-    by (Term-F.DisjE x0 x1 x2 x3 x4 x5 x6) is here = absurd here
     by (Term-F.ImpI x0 x1) is here = absurd (not_ImpI x0 x1 (back t (Term-F.ImpI x0 x1) (T.ImpI x0 x1) is (T.rolls-ImpI x0 x1)))
     by (Term-F.ImpE x0 x1 x2) is here = absurd (not_ImpE x0 x1 x2 (back t (Term-F.ImpE x0 x1 x2) (T.ImpE x0 x1 x2) is (T.rolls-ImpE x0 x1 x2)))
     by (Term-F.NotI x0 x1) is here = absurd (not_NotI x0 x1 (back t (Term-F.NotI x0 x1) (T.NotI x0 x1) is (T.rolls-NotI x0 x1)))
     by (Term-F.NotE x0 x1 x2) is here = absurd (not_NotE x0 x1 x2 (back t (Term-F.NotE x0 x1 x2) (T.NotE x0 x1 x2) is (T.rolls-NotE x0 x1 x2)))
     by (Term-F.FalseE x0) is here = absurd (not_FalseE x0 (back t (Term-F.FalseE x0) (T.FalseE x0) is (T.rolls-FalseE x0)))
-    by (Term-F.AllI x0 x1) is here = tt
-    by (Term-F.AllE x0 x1 x2) is here = tt
-    by (Term-F.ExI x0 x1) is here = tt
-    by (Term-F.ExE x0 x1 x2 x3 x4) is here = tt
+    by l is here = here
 
 pub after_quantified : (t : Term) → IsQuantified (out-Term t) → ((x0 : List ℕ) (x1 : Term) → t ≡ T.AllI x0 x1 → ⊥)
     → ((x0 : Formula) (x1 : Argument) (x2 : Term) → t ≡ T.AllE x0 x1 x2 → ⊥)
@@ -94,19 +61,8 @@ pub after_quantified : (t : Term) → IsQuantified (out-Term t) → ((x0 : List 
 after_quantified t is_one not_AllI not_AllE not_ExI not_ExE = by (out-Term t) refl is_one
   where
     by : (l : Term-F Term) → out-Term t ≡ l → IsQuantified l → ⊥
-    by (Term-F.Fact x0) is here = absurd here
-    by (Term-F.ConjI x0 x1) is here = absurd here
-    by (Term-F.ConjE1 x0 x1) is here = absurd here
-    by (Term-F.ConjE2 x0 x1) is here = absurd here
-    by (Term-F.DisjI1 x0) is here = absurd here
-    by (Term-F.DisjI2 x0) is here = absurd here
-    by (Term-F.DisjE x0 x1 x2 x3 x4 x5 x6) is here = absurd here
-    by (Term-F.ImpI x0 x1) is here = absurd here
-    by (Term-F.ImpE x0 x1 x2) is here = absurd here
-    by (Term-F.NotI x0 x1) is here = absurd here
-    by (Term-F.NotE x0 x1 x2) is here = absurd here
-    by (Term-F.FalseE x0) is here = absurd here
     by (Term-F.AllI x0 x1) is here = absurd (not_AllI x0 x1 (back t (Term-F.AllI x0 x1) (T.AllI x0 x1) is (T.rolls-AllI x0 x1)))
     by (Term-F.AllE x0 x1 x2) is here = absurd (not_AllE x0 x1 x2 (back t (Term-F.AllE x0 x1 x2) (T.AllE x0 x1 x2) is (T.rolls-AllE x0 x1 x2)))
     by (Term-F.ExI x0 x1) is here = absurd (not_ExI x0 x1 (back t (Term-F.ExI x0 x1) (T.ExI x0 x1) is (T.rolls-ExI x0 x1)))
     by (Term-F.ExE x0 x1 x2 x3 x4) is here = absurd (not_ExE x0 x1 x2 x3 x4 (back t (Term-F.ExE x0 x1 x2 x3 x4) (T.ExE x0 x1 x2 x3 x4) is (T.rolls-ExE x0 x1 x2 x3 x4)))
+    by l is here = here
