@@ -16,6 +16,7 @@ mod EnterLemmas
 mod OwnLemmas
 mod JoinLemmas
 mod TakenLemmas
+mod CallLemmas
 mod RowLemmas
 mod StepLemmas
 mod FormLemmas

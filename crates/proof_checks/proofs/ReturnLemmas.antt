@@ -1,5 +1,5 @@
 -- What a term comes to, by what is told of its step and of its parts.
-use Rattle.std.proofs.Common.{◌≡◌, ◌-◌, ℕ, List, Result, Ok, Err, sym, ◌∙◌, subst}
+use Rattle.std.proofs.Common.{◌≡◌, ◌-◌, ℕ, List, Result, Ok, Err, sym, subst}
 use Rattle.nj_formula.specs.declared.formula.Formula.{Formula}
 use Rattle.nj_formula.specs.Meaning.{meaning}
 use Rattle.nj_formula.specs.Statement.{Statement}
@@ -23,10 +23,19 @@ use Rattle.proof_checks.specs.Scopes.{inside, remaining}
 use Rattle.proof_checks.proofs.ProvingLemmas.{checked_is, checked_err, within_of, entered_halt, two_first, two_next, three_first, three_second, three_next}
 
 -- a step's answer is the term's
-pub stepped : (left : ℕ) (t : Term) (goal : Formula) (scope : Scoped) (step : Step) (result : Result Thm Halt) → step_within left (out-Term t) goal ≡ Ok step
-    → Gives result (of_step (checked_within (left - 1)) scope goal step) (meaning goal) → Gives result (checked_within left t goal scope) (meaning goal)
-stepped left t goal scope step result e told =
-    subst (λ w. Gives result w (meaning goal)) (sym (checked_is left t goal scope step e (within_of left (out-Term t) goal step e))) told
+pub stepped : (left : ℕ) (t : Term) (goal : Formula) (scope : Scoped) (step got : Step) (result : Result Thm Halt) → step_within left (out-Term t) goal ≡ Ok step
+    → got ≡ step → Gives result (of_step (checked_within (left - 1)) scope goal got) (meaning goal) → Gives result (checked_within left t goal scope) (meaning goal)
+stepped left t goal scope step got result e same told =
+    subst (λ w. Gives result w (meaning goal)) (sym (checked_is left t goal scope step e (within_of left (out-Term t) goal step e)))
+    (subst (λ s. Gives result (of_step (checked_within (left - 1)) scope goal s) (meaning goal)) same told)
+
+-- an answer to the same term in the same scope is handed on
+pub gives_as : (left : ℕ) (term other : Term) (goal : Formula) (scope here : Scoped) (given result : Result Thm Halt) → result ≡ given → term ≡ other → scope ≡ here
+    → Gives given (checked_within left term goal scope) (meaning goal) → Gives result (checked_within left other goal here) (meaning goal)
+gives_as left term other goal scope here given result on same inside told =
+    subst (λ r. Gives r (checked_within left other goal here) (meaning goal)) (sym on)
+    (subst (λ s. Gives given (checked_within left other goal s) (meaning goal)) inside
+    (subst (λ x. Gives given (checked_within left x goal scope) (meaning goal)) same told))
 
 pub enter_halts : (left : ℕ) (t : Term) (goal : Formula) (scope : Scoped) (given : Result Step Halt) (result : Result Thm Halt) (h : Halt) → given ≡ Err h → result ≡ Err h
     → Enters given (step_within left (out-Term t) goal) → Gives result (checked_within left t goal scope) (meaning goal)

@@ -16,7 +16,7 @@ use Rattle.proof_checks.specs.Answers.{Gives, Asked}
 use Rattle.proof_checks.specs.Checks.{Found}
 use Rattle.proof_checks.specs.Fits.{Fits, FitsOne, FitsTwo, FitsThree, IsWithin}
 
-module _ (step : Step) (left : ℕ) (g : Statement) where
+module _ (step : Step) (left : ℕ) where
   pub one_within : (rule : Unary) (p : Part) → step ≡ One rule p → IsWithin step left → 0 < left
   one_within rule p is within = subst (λ s. IsWithin s left) is within
 
@@ -26,6 +26,7 @@ module _ (step : Step) (left : ℕ) (g : Statement) where
   pub three_within : (p q r : Part) → step ≡ Three p q r → IsWithin step left → 0 < left
   three_within p q r is within = subst (λ s. IsWithin s left) is within
 
+module _ (step : Step) (g : Statement) where
   pub one_fits : (rule : Unary) (p : Part) → step ≡ One rule p → Fits step g → FitsOne rule p.own (meaning p.goal) g
   unfolding Fits
   one_fits rule p is fits = subst (λ s. Fits s g) is fits
