@@ -16,3 +16,4 @@ mod Meeting
 mod Telling
 mod Doing
 mod Placed
+mod Present
