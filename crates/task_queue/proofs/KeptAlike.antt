@@ -1,5 +1,5 @@
 -- A queue whose tasks lie in another order, or that has more room, is kept as well.
-use Rattle.std.proofs.Common.{◌≡◌, ℕ, ◌≤◌, List, sym, subst, true, Some, ◌∙◌, arith}
+use Rattle.std.proofs.Common.{◌≡◌, ℕ, ◌≤◌, List, sym, subst, ◌∙◌, arith}
 use Rattle.std.specs.HashMap.{hash_map_len}
 use Rattle.pide_base.specs.declared.part.Part.{Part}
 use Rattle.task_queue.specs.declared.queue.TaskQueue.TheInside.{Inside}

@@ -1,5 +1,5 @@
 -- A list of entries has no fewer entries than keys that are found in it.
-use Rattle.std.proofs.Common.{◌≡◌, ◌≢◌, ℕ, zero, suc, ◌<◌, ◌≤◌, ◌+◌, Bool, true, false, cond, ◌&&◌, eqb, List, [], ◌∷◌, length, get_or, IsSome, refl, sym, ap, arith, rules}
+use Rattle.std.proofs.Common.{◌≡◌, ◌≢◌, ℕ, zero, suc, ◌<◌, ◌≤◌, Bool, true, false, cond, ◌&&◌, eqb, List, [], ◌∷◌, length, get_or, IsSome, refl, ap, arith}
 use Rattle.std.specs.Map.{lookup}
 use Rattle.std.specs.List.{All, AllPairs}
 use Rattle.pide_base.specs.declared.part.Part.{Part}

@@ -1,5 +1,5 @@
 -- A list with one element more or less: its length, and what stands where.
-use Rattle.std.proofs.Common.{◌≡◌, ℕ, ◌+◌, ◌-◌, ◌<◌, ◌≤◌, List, ◌∷◌, ◌++◌, length, take, drop, get_or, rules, arith}
+use Rattle.std.proofs.Common.{◌≡◌, ℕ, ◌+◌, ◌<◌, ◌≤◌, List, ◌∷◌, ◌++◌, length, take, drop, get_or, rules, arith}
 use Rattle.std.proofs.lemmas.List.{places}
 
 abbrev pub put_in : {X : Type 0} → List X → ℕ → X → List X

@@ -1,7 +1,5 @@
 use Rattle.std.proofs.Common.{rules, arith}
 use Rattle.std.proofs.lemmas.List.{same_lists, places}
-use Rattle.std.proofs.lemmas.Slice.{overwrites}
-use Rattle.std.proofs.lemmas.Grind.{common_steps, elements, moves, pieces}
 use Rattle.task_queue.proofs.deque.close_up.Goals as goal
 
 pub returns-clause-moved : goal.returns-clause-moved

@@ -1,5 +1,4 @@
 use Rattle.std.proofs.Common.{rules, ◌≡◌, Some, None, sym, ◌∙◌}
-use Rattle.task_queue.specs.declared.task.Standing.{Standing}
 use Rattle.task_queue.specs.Kept.{looked}
 use Rattle.task_queue.proofs.queue.release.Goals as goal
 

@@ -1,8 +1,7 @@
-use Rattle.std.proofs.Common.{rules, arith, ◌≡◌, ℕ, true, false, Some, None, IsTrue, List, map, sym, ◌∙◌, ap, eqb, subst, Option}
+use Rattle.std.proofs.Common.{rules, ◌≡◌, ℕ, true, false, Some, List, map, sym, ◌∙◌, eqb, subst, Option}
 use Rattle.std.specs.Cmp.{nat_eq_equiv}
 use Rattle.std.specs.List.{All}
 use Rattle.std.specs.Option.{IfSome}
-use Rattle.std.specs.Map.{lookup}
 use Rattle.std.specs.Map.Iter.{deref_pair}
 use Rattle.std.proofs.lemmas.List.Elements.{All-map}
 use Rattle.std.proofs.lemmas.Map.Entries.{All-lookup}

@@ -1,4 +1,4 @@
-use Rattle.std.proofs.Common.{rules, arith}
+use Rattle.std.proofs.Common.{rules}
 use Rattle.task_queue.proofs.Links.{few}
 use Rattle.task_queue.proofs.waiters.Waiters.add.Goals as goal
 

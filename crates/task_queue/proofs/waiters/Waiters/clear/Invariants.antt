@@ -1,4 +1,4 @@
-use Rattle.std.proofs.Common.{◌≡◌, ◌≢◌, ◌≤◌, ℕ}
+use Rattle.std.proofs.Common.{◌≢◌, ◌≤◌, ℕ}
 use Rattle.task_queue.specs.Waiters.{Waits, HasAll, count_of, room_of}
 use Rattle.task_queue.proofs.waiters.Waiters.clear.Given as goal
 

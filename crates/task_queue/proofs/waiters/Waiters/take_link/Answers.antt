@@ -1,4 +1,3 @@
-use Rattle.std.proofs.Common.{rules}
 use Rattle.task_queue.proofs.waiters.Waiters.take_link.Goals as goal
 
 pub returns-clause-link : goal.returns-clause-link
