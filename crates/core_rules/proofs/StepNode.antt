@@ -26,6 +26,7 @@ use Rattle.core_rules.proofs.KnownPlaces.{place_found}
 use Rattle.core_rules.proofs.ImportAliases.{ImportStands}
 use Rattle.core_rules.proofs.Sound.{IsSoundTip, extends_grown}
 use Rattle.core_rules.proofs.KnownKeys.{AreInside, key_is}
+use Rattle.core_rules.proofs.TipNode.{AfterTip}
 use Rattle.core_rules.proofs.TipKept.{before_node, kept_shut}
 use Rattle.core_rules.proofs.WantedImports.{all_shut}
 use Rattle.core_rules.proofs.Progress.{Progress}
@@ -76,13 +77,24 @@ module _ (facts : Facts) (d : Doc) (tip : IsSoundTip d) (nodes : NodeList) (blob
   count : length d.homes ≤ length homes
   count = omega (arith, length_grown d.homes w.homes)
 
+  after_tip : AfterTip d homes nodes blobs (assigned_at w.done) p pair key (length homes)
+  after_tip = record {
+    facts = facts;
+    tip = tip;
+    older = so.older;
+    more = extends_grown d.homes w.homes;
+    at = at;
+    fits = fits;
+    is_key = key_is nodes w.done pair.1;
+    stand = stand;
+    count = count;
+  }
+
   pub before : Before (numbered homes) update pair (head_at update p pair key) (rows_in d.tip pair.0) kept (length homes)
-  before = before_node facts d tip homes so.older (extends_grown d.homes w.homes) nodes blobs (assigned_at w.done) p pair at
-      fits key (key_is nodes w.done pair.1) stand (length homes) count
+  before = before_node after_tip
 
   shut_kept : 0 < kept → has_open key ≡ false
-  shut_kept lt = kept_shut facts d tip homes so.older (extends_grown d.homes w.homes) nodes blobs (assigned_at w.done) p pair at
-      fits key (key_is nodes w.done pair.1) stand (length homes) count lt
+  shut_kept lt = kept_shut after_tip lt
 
   pub wanted_within : wanted_at nodes p ≤ length pair.1.entries
   wanted_within = subst

@@ -57,12 +57,21 @@ evals_within homes node blobs m (e ∷ es) (v ∷ vs) i le all = (
   evals_within homes node blobs m es vs (input.Next v) le all.1,
 )
 
-module _ (facts : Facts) (d : Doc) (tip : IsSoundTip d) (homes : List Home) (older : AreOlder homes)
-    (more : Extends (numbered d.homes) (numbered homes)) (nodes : NodeList) (blobs : BlobList) (assigned : ℕ → Assigned)
-    (p : ℕ) (pair : List ℕ × Node) (at : slice_get nodes p ≡ Some pair) (fits : FitsNode d pair) (key : Key)
-    (is_key : key ≡ key_from nodes assigned pair.1)
-    (stand : find (is_bad nodes) pair.1.imports ≡ None → AllByRecursion (ImportStands homes nodes blobs assigned) pair.1.imports)
-    (m : ℕ) (count : length d.homes ≤ m) where
+-- a node of an update to a version that is sound, where the nodes before it are assigned
+pub record AfterTip (d : Doc) (homes : List Home) (nodes : NodeList) (blobs : BlobList) (assigned : ℕ → Assigned) (p : ℕ)
+    (pair : List ℕ × Node) (key : Key) (m : ℕ) : Type 0 where
+  pub facts : Facts
+  pub tip : IsSoundTip d
+  pub older : AreOlder homes
+  pub more : Extends (numbered d.homes) (numbered homes)
+  pub at : slice_get nodes p ≡ Some pair
+  pub fits : FitsNode d pair
+  pub is_key : key ≡ key_from nodes assigned pair.1
+  pub stand : find (is_bad nodes) pair.1.imports ≡ None → AllByRecursion (ImportStands homes nodes blobs assigned) pair.1.imports
+  pub count : length d.homes ≤ m
+
+module _ {d : Doc} {homes : List Home} {nodes : NodeList} {blobs : BlobList} {assigned : ℕ → Assigned} {p : ℕ} {pair : List ℕ × Node}
+    {key : Key} {m : ℕ} (new : AfterTip d homes nodes blobs assigned p pair key m) where
   abbrev pub u : Update
   u = update_of d nodes blobs
 
@@ -76,7 +85,7 @@ module _ (facts : Facts) (d : Doc) (tip : IsSoundTip d) (homes : List Home) (old
     found = place_found d.tip.nodes pair.0 q place
 
     pub sound_here : IsSoundAt d.homes d.tip.nodes d.tip.blobs (assigned_to d.tip) q found.pair
-    sound_here = tip.tip.each q found.pair found.stands
+    sound_here = new.tip.tip.each q found.pair found.stands
 
     pub was_entries : entries_in d.tip pair.0 ≡ found.pair.1.entries
     was_entries = ap (λ o. option_map_or (entries_at d.tip.nodes) o []) place ∙ entries_found d.tip.nodes q found.pair found.stands
@@ -91,9 +100,9 @@ module _ (facts : Facts) (d : Doc) (tip : IsSoundTip d) (homes : List Home) (old
     pub front : SameFront pair.1 found.pair.1 blobs d.tip.blobs kept_here pair.1.entries found.pair.1.entries
     front = same_front pair.1 found.pair.1 (times u) pair.1.entries found.pair.1.entries (assigned_to d.tip q).rows
         (same_sources d pair found.pair.1 (times u) was_node
-        (differ_at d.tip.nodes q found.pair tip.differ found.stands)
-        (most_at d.commands d.tip.nodes q found.pair tip.most found.stands)
-        pair.1.entries found.pair.1.entries fits.known (λ i b is. (i, is)))
+        (differ_at d.tip.nodes q found.pair new.tip.differ found.stands)
+        (most_at d.commands d.tip.nodes q found.pair new.tip.most found.stands)
+        pair.1.entries found.pair.1.entries new.fits.known (λ i b is. (i, is)))
 
     pub shut_here : 0 < kept_here → has_open (assigned_to d.tip q).key ≡ false
     shut_here lt = sound_here.closed (omega (
@@ -106,7 +115,7 @@ module _ (facts : Facts) (d : Doc) (tip : IsSoundTip d) (homes : List Home) (old
         → input.First (head_in d.tip.nodes q found.pair (assigned_to d.tip q).key) ≡ input.First (head_at u p pair key)
     begins_so same lt =
         let header = same_header (times u) pair.1 found.pair.1 (assigned_to d.tip q).rows
-        (subst (KeepsHeader pair.1) was_node fits.header) lt in
-        ap input.First (same_head homes older nodes (facts.nodes nodes) blobs assigned p pair at key is_key stand d.tip
-        (facts.nodes d.tip.nodes) (sound_on d.homes homes more d.tip tip.tip) q found.pair found.stands (shut_here lt)
-        found.named header.0 header.1 ((facts.keys key (assigned_to d.tip q).key).0 same))
+        (subst (KeepsHeader pair.1) was_node new.fits.header) lt in
+        ap input.First (same_head homes new.older nodes (new.facts.nodes nodes) blobs assigned p pair new.at key new.is_key new.stand d.tip
+        (new.facts.nodes d.tip.nodes) (sound_on d.homes homes new.more d.tip new.tip.tip) q found.pair found.stands (shut_here lt)
+        found.named header.0 header.1 ((new.facts.keys key (assigned_to d.tip q).key).0 same))
