@@ -13,7 +13,7 @@ use Rattle.language.specs.Lang.{Lang}
 use Rattle.document_session.specs.Contents.{SessionState}
 use Rattle.document_serve.specs.Laws.{ListLaws}
 use Rattle.document_serve.specs.Served.{calls_in}
-use Rattle.document_serve.specs.Headline.{CallsSo, IsRun}
+use Rattle.document_serve.specs.Headline.{AloneSo, BytesSent, BytesWritten, CallsSo, Closed, IsRun, LosesSo}
 use Rattle.document_serve.specs.Causes.{BadFrameSo, DoneSo, TakesSo, TruncatedSo}
 use Rattle.document_serve.specs.Runs.{EndsWith, Serving, Stopped, StoppedWithin}
 use Rattle.document_serve.proofs.Decoding.{all_read, ends_fine}
@@ -78,27 +78,41 @@ module _ {S : Type 0} (l : Lang S) (laws : ListLaws l) (limit : ℕ) (left left'
   read_all = subst (λ (ms : List (List (List ℕ))). IsReadAs taken ms (ending_of frames)) (sym (ended_calls l laws s t e))
       (all_read taken (calls_in s.items) frames serving.stands serving.none_waits)
 
-  abbrev so : (how : Status) → Type 0
-  so how = Stopped l how taken held held' t
+  -- what is so of a run that ends, as of one that is done
+  written : BytesWritten l status.Done held held' t
+  written = ended_written l laws s t e held held' serving.rests serving.written
+
+  sent : BytesSent l status.Done held held' t
+  sent = ended_sent l laws s t e held held' serving.rests serving.written
+
+  kept : LosesSo l status.Done t
+  kept = ended_kept l laws s t e serving.rests
+
+  alone : AloneSo l status.Done taken t
+  alone = ended_alone l laws s t e serving.rests.going.alone
+
+  closed : Closed l status.Done t
+  closed = ended_closed l laws s t e
+
+  stopped_by : (how : Status) → BytesWritten l how held held' t → BytesSent l how held held' t → LosesSo l how t → Closed l how t → AloneSo l how taken t
+      → CallsSo how taken t → Stopped l how taken held held' t
+  stopped_by how written sent kept closed alone read = record {
+    written = written;
+    sent = sent;
+    kept = kept;
+    legal = record { legal = ended_legal l laws s t e; list = e.legal; closed = closed };
+    read = read;
+    alone = alone;
+  }
 
   -- at the source's end
   pub end_run : (how : Status) → EndsWith how (ending_of frames) → IsAtEnd left' → length taken < limit → IsRun l limit how left left' held held' t
-  end_run status.Done ends at_end few = run_of l limit left left' held held' taken took t status.Done (record {
-    written = ended_written l laws s t e held held' serving.rests serving.written;
-    sent = ended_sent l laws s t e held held' serving.rests serving.written;
-    kept = ended_kept l laws s t e serving.rests;
-    legal = record { legal = ended_legal l laws s t e; list = e.legal; closed = ended_closed l laws s t e };
-    read = (ending_of frames, read_all, ends);
-    alone = ended_alone l laws s t e serving.rests.going.alone;
-  }) at_end few (λ at e. cc) (λ e. cc)
-  end_run (status.Truncated at) ends at_end few = run_of l limit left left' held held' taken took t (status.Truncated at) (record {
-    written = ended_written l laws s t e held held' serving.rests serving.written;
-    sent = ended_sent l laws s t e held held' serving.rests serving.written;
-    kept = ended_kept l laws s t e serving.rests;
-    legal = record { legal = ended_legal l laws s t e; list = e.legal; closed = ended_closed l laws s t e };
-    read = (ending_of frames, read_all, ends);
-    alone = ended_alone l laws s t e serving.rests.going.alone;
-  }) at_end few (λ at e. cc) (λ e. cc)
+  end_run status.Done ends at_end few =
+      run_of l limit left left' held held' taken took t status.Done (stopped_by status.Done written sent kept closed alone (ending_of frames, read_all, ends))
+      at_end few (λ at e. cc) (λ e. cc)
+  end_run (status.Truncated at) ends at_end few =
+      run_of l limit left left' held held' taken took t (status.Truncated at) (stopped_by (status.Truncated at) written sent kept closed alone (ending_of frames, read_all, ends))
+      at_end few (λ at e. cc) (λ e. cc)
   end_run (status.BadFrame at) ends at_end few = absurd (ends)
   end_run status.WriteFault ends at_end few = absurd (ends)
   end_run status.Usage ends at_end few = absurd (ends)
@@ -109,25 +123,15 @@ module _ {S : Type 0} (l : Lang S) (laws : ListLaws l) (limit : ℕ) (left left'
 
   -- at a fault of the source
   pub fault_run : length taken < limit → IsRun l limit status.ReadFault left left' held held' t
-  fault_run few = run_of l limit left left' held held' taken took t status.ReadFault (record {
-    written = ended_written l laws s t e held held' serving.rests serving.written;
-    sent = ended_sent l laws s t e held held' serving.rests serving.written;
-    kept = ended_kept l laws s t e serving.rests;
-    legal = record { legal = ended_legal l laws s t e; list = e.legal; closed = ended_closed l laws s t e };
-    read = (ending_of frames, read_all, tt);
-    alone = ended_alone l laws s t e serving.rests.going.alone;
-  }) tt few (λ at e. cc) (λ e. cc)
+  fault_run few =
+      run_of l limit left left' held held' taken took t status.ReadFault (stopped_by status.ReadFault written sent kept closed alone (ending_of frames, read_all, tt))
+      tt few (λ at e. cc) (λ e. cc)
 
   -- where too much came
   fine : (fault : FrameFault) → ending_of frames ≡ Bad fault → ⊥
   fine fault bad = ends_fine frames fault serving.fine bad
 
   pub long_run : length taken ≡ limit → IsRun l limit status.LongInput left left' held held' t
-  long_run many = run_of l limit left left' held held' taken took t status.LongInput (record {
-    written = ended_written l laws s t e held held' serving.rests serving.written;
-    sent = ended_sent l laws s t e held held' serving.rests serving.written;
-    kept = ended_kept l laws s t e serving.rests;
-    legal = record { legal = ended_legal l laws s t e; list = e.legal; closed = ended_closed l laws s t e };
-    read = (ending_of frames, read_all, fine);
-    alone = ended_alone l laws s t e serving.rests.going.alone;
-  }) tt (many, λ fault has. fine fault (one-reading taken (calls_in t.items) has.0 (ending_of frames) (Bad fault) read_all has.1).1) (λ at e. cc) (λ e. cc)
+  long_run many =
+      run_of l limit left left' held held' taken took t status.LongInput (stopped_by status.LongInput written sent kept closed alone (ending_of frames, read_all, fine))
+      tt (many, λ fault has. fine fault (one-reading taken (calls_in t.items) has.0 (ending_of frames) (Bad fault) read_all has.1).1) (λ at e. cc) (λ e. cc)
