@@ -5,3 +5,5 @@ pub mod Merges
 pub mod NamedSo
 pub mod Adding
 pub mod Ambiguous
+pub mod KnownNames
+pub mod Covered

@@ -8,3 +8,4 @@ pub mod Merged
 pub mod Cited
 pub mod Agreement
 pub mod Ambiguity
+pub mod NameSets

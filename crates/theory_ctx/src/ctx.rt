@@ -5,17 +5,18 @@ ghost use Rattle.nj_formula.specs.Free.{is_free};
 ghost use Rattle.shared_map.specs.Pairs.{IsSorted};
 ghost use Rattle.shared_map.specs.Lent.{lent};
 ghost use Rattle.theory_ctx.specs.Facts.{Fact, fact_of, is_called};
-ghost use Rattle.theory_ctx.specs.Order.{by_name};
 ghost use Rattle.theory_ctx.specs.Answers.{told};
 ghost use Rattle.theory_ctx.specs.Looked.{among, looked};
 ghost use Rattle.theory_ctx.specs.Merged.{added, merged};
-ghost use Rattle.theory_ctx.specs.Order.{to_name};
+ghost use Rattle.theory_ctx.specs.Order.{by_name, to_name};
+ghost use Rattle.shared_map.specs.Changes.{united};
 ghost use Rattle.shared_map.specs.Cuts.{within};
 
 use crate::called::{Called, Named};
 use crate::cited::Cited;
 use crate::fact_name::FactName;
 use crate::lookup::Lookup;
+use crate::name_set::NameSet;
 use nj_formula::{Formula, Name};
 use shared_map::{Entries, SharedMap};
 use std::alloc::{AllocError, Global};
@@ -46,11 +47,14 @@ impl From<AllocError> for AddError {
 #[derive(Drop)]
 pub struct Ctx {
     facts: SharedMap<FactName, Formula>,
+    /// All names that are free in a fact; one that was free in a fact that is gone may be left.
+    free: NameSet,
 }
 
 impl Model for Ctx {
     ghost use Rattle.std.specs.Prelude.{List};
     ghost use Rattle.theory_ctx.specs.Facts.{Fact};
+    ghost use Rattle.theory_ctx.specs.NameSets.{CoversAll};
     ghost use Rattle.nj_formula.specs.contracts.formula.Formula as formula;
     ghost use Rattle.std.specs.Coded.{codes};
 
@@ -59,6 +63,8 @@ impl Model for Ctx {
     ghost coded = { Prim.hlevel (codes, formula.the_row.coded) };
 
     ghost view = { λ ctx. ctx.facts };
+
+    ghost invariant = { λ ctx. CoversAll ctx.free ctx.facts };
 }
 
 impl Ctx {
@@ -68,6 +74,7 @@ impl Ctx {
     {
         Ctx {
             facts: SharedMap::new(),
+            free: NameSet::new(),
         }
     }
 
@@ -77,6 +84,7 @@ impl Ctx {
     {
         Ok(Ctx {
             facts: self.facts.copy()?,
+            free: self.free.copy()?,
         })
     }
 
@@ -121,7 +129,12 @@ impl Ctx {
             name: Name::new(alloc, name)?,
             theory: Name::new(alloc, theory)?,
         };
-        self.facts.set(alloc, fact, formula)
+        let free = self.free.with_formula(alloc, &formula)?;
+        let mut facts = self.facts.copy()?;
+        facts.set(alloc, fact, formula)?;
+        self.facts = facts;
+        self.free = free;
+        Ok(())
     }
 
     /// Whether the theory has a fact of this name.
@@ -136,11 +149,20 @@ impl Ctx {
     pub fn merge(alloc: Global, parts: &[&Ctx]) -> Result<Ctx, AllocError>
         ensures { IfOk result (λ ctx. ctx ≡ merged (map (λ part. part.now) parts.now)) }
     {
-        let mut facts = SharedMap::new();
+        let mut ctx = Ctx::new();
         for part in parts {
-            facts = facts.union(alloc, &part.facts)?;
+            ctx = ctx.joined(alloc, part)?;
         }
-        Ok(Ctx { facts })
+        Ok(ctx)
+    }
+
+    /// The facts of both, of which this context's are kept.
+    fn joined(&self, alloc: Global, other: &Ctx) -> Result<Ctx, AllocError>
+        ensures { IfOk result (λ ctx. ctx ≡ united by_name self.now other.now) }
+    {
+        let facts = self.facts.union(alloc, &other.facts)?;
+        let free = self.free.union(alloc, &other.free)?;
+        Ok(Ctx { facts, free })
     }
 
     /// All facts, sorted by name and then by theory, lent.
@@ -151,10 +173,13 @@ impl Ctx {
         self.facts.iter()
     }
 
-    /// Whether the name is free in a fact.
+    /// Whether the name is free in a fact. Where it isn't, and never was, no fact is looked at.
     pub fn has_free(&self, name: &str) -> bool
         ensures { result ≡ list_any (λ fact. is_free name.now (meaning fact.1)) self.now }
     {
+        if !self.free.has(name) {
+            return false;
+        }
         any_has_free(self.facts.iter(), name)
     }
 

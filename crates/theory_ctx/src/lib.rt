@@ -10,9 +10,11 @@ mod cited;
 mod ctx;
 mod fact_name;
 mod inner_scope;
+mod key;
 mod laws;
 mod local;
 mod lookup;
+mod name_set;
 mod naming;
 mod scope;
 
@@ -22,5 +24,6 @@ pub use inner_scope::InnerScope;
 pub use laws::{local_law, merge_law, order_law};
 pub use local::Local;
 pub use lookup::{LongName, Lookup};
+pub use name_set::NameSet;
 pub use naming::{add_law, ambiguous_law};
 pub use scope::Scope;

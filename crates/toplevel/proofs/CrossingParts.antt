@@ -8,6 +8,8 @@ use Rattle.nj_formula.specs.contracts.formula.Formula as formula
 use Rattle.nj_formula.specs.contracts.name.Name as name
 use Rattle.theory_ctx.specs.contracts.fact_name.FactName as fact_name
 use Rattle.theory_ctx.specs.contracts.ctx.Ctx as ctx
+use Rattle.theory_ctx.specs.contracts.key.Key as key
+use Rattle.theory_ctx.specs.contracts.name_set.NameSet as name_set
 use Rattle.proof_state.specs.contracts.local_fact.LocalFact as local_fact
 use Rattle.proof_state.specs.contracts.subgoal.Subgoal as subgoal
 use Rattle.proof_state.specs.contracts.block.Block as block
@@ -41,11 +43,23 @@ fact_name_send = search (name_send, name_sync, kit.crosses, sendable) depth 60 f
 pub fact_name_sync : IsSync fact_name.the_row
 fact_name_sync = search (name_send, name_sync, kit.crosses, sendable) depth 60 fits 20000
 
+pub key_send : IsSend key.the_row
+key_send = search (name_send, name_sync, kit.crosses, sendable) depth 60 fits 20000
+
+pub key_sync : IsSync key.the_row
+key_sync = search (name_send, name_sync, kit.crosses, sendable) depth 60 fits 20000
+
+pub name_set_send : IsSend name_set.the_row
+name_set_send = search (key_send, key_sync, kit.crosses, trees.crosses, sendable) depth 60 fits 20000
+
+pub name_set_sync : IsSync name_set.the_row
+name_set_sync = search (key_send, key_sync, kit.crosses, trees.crosses, sendable) depth 60 fits 20000
+
 pub ctx_send : IsSend ctx.the_row
-ctx_send = search (formula_send, formula_sync, fact_name_send, fact_name_sync, kit.crosses, trees.crosses, sendable) depth 60 fits 20000
+ctx_send = search (formula_send, formula_sync, fact_name_send, fact_name_sync, name_set_send, name_set_sync, kit.crosses, trees.crosses, sendable) depth 60 fits 20000
 
 pub ctx_sync : IsSync ctx.the_row
-ctx_sync = search (formula_send, formula_sync, fact_name_send, fact_name_sync, kit.crosses, trees.crosses, sendable) depth 60 fits 20000
+ctx_sync = search (formula_send, formula_sync, fact_name_send, fact_name_sync, name_set_send, name_set_sync, kit.crosses, trees.crosses, sendable) depth 60 fits 20000
 
 pub local_fact_field_send : IsSend local_fact.the_field.row
 local_fact_field_send = search (name_send, formula_field_send, kit.crosses, sendable) depth 60 fits 20000

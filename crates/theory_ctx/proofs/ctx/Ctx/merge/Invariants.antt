@@ -5,4 +5,4 @@ use Rattle.theory_ctx.specs.Order.{by_name}
 use Rattle.theory_ctx.proofs.ctx.Ctx.merge.Given as goal
 
 abbrev pub invariant-loop-part : goal.invariant-loop-part
-invariant-loop-part l = l.facts ≡ fold (λ facts part. united by_name facts part.now) [] (take l.part-index l.parts)
+invariant-loop-part l = l.ctx ≡ fold (λ facts part. united by_name facts part.now) [] (take l.part-index l.parts)
