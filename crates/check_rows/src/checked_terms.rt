@@ -81,7 +81,7 @@ fn facts(alloc: Global) -> Result<Ctx, AddError> {
 
 /// A scope of the theory `A` with local facts.
 fn scope<'a>(alloc: Global, ctx: &'a Ctx) -> Result<Scope<'a>, AllocError> {
-    let mut scope = Scope::new(alloc, "A", ctx);
+    let mut scope = Scope::new("A", ctx);
     for (name, text) in [
         ("h", "A & B"),
         ("either", "A | B"),

@@ -1,14 +1,16 @@
 //! Scopes of local facts (`theory_ctx`): which fact a name means inside a block.
 use crate::contexts::{atom, meaning, said};
+use nj_formula::Name;
 use std::alloc::{AllocError, Global};
 use std::test::Fail;
-use theory_ctx::{Ctx, InnerScope, Local, Scope};
+use theory_ctx::{Ctx, InnerScope, Local, Locals, Scope};
 
 /// Something that is done with a scope, or asked of it.
 enum Call {
     /// Adds a local fact: its name, and an atom.
     Push(&'static str, &'static str),
-    Pop,
+    /// Adds the local facts of a block: the name of each and an atom, the oldest first.
+    PushAll(&'static [(&'static str, &'static str)]),
     /// What the name means.
     Means(&'static str),
     /// The local fact this deep.
@@ -36,7 +38,7 @@ struct InnerRow(InnerCall, &'static str);
 /// other.
 struct Script(&'static str, &'static str, &'static [Row]);
 
-use Call::{At, Inside, Means, Pop, Push};
+use Call::{At, Inside, Means, Push, PushAll};
 use InnerCall::{Around, Means as InnerMeans, Pop as InnerPop, Push as InnerPush};
 
 const SCRIPTS: &[Script] = &[
@@ -44,15 +46,29 @@ const SCRIPTS: &[Script] = &[
         "a local fact hides a fact of a theory",
         "h",
         &[
+            Row(Means("h"), "A.h: A"),
             Row(Push("h", "P"), "done"),
+            Row(Means("h"), "local.h: P"),
             Row(Push("h", "Q"), "done"),
             Row(Means("h"), "local.h: Q"),
             Row(Means("A.h"), "A.h: A"),
-            Row(Pop, "h: Q"),
-            Row(Means("h"), "local.h: P"),
-            Row(Pop, "h: P"),
-            Row(Means("h"), "A.h: A"),
-            Row(Pop, "none"),
+        ],
+    ),
+    Script(
+        "the innermost block is sought first, and in it the newest fact",
+        "",
+        &[
+            Row(PushAll(&[("g", "P"), ("h", "Q"), ("g", "R")]), "done"),
+            Row(Means("g"), "local.g: R"),
+            Row(PushAll(&[("h", "S")]), "done"),
+            Row(PushAll(&[]), "done"),
+            Row(Means("h"), "local.h: S"),
+            Row(Means("g"), "local.g: R"),
+            Row(Means("k"), "unknown"),
+            Row(At(0), "h: S"),
+            Row(At(1), "g: R"),
+            Row(At(3), "g: P"),
+            Row(At(4), "none"),
         ],
     ),
     Script(
@@ -111,6 +127,21 @@ fn push(alloc: Global, scope: &mut Scope, name: &str, said: &str) -> Result<Stri
     done(alloc)
 }
 
+/// Adds the local facts of a block.
+fn push_all(
+    alloc: Global,
+    scope: &mut Scope,
+    facts: &[(&str, &str)],
+) -> Result<String, AllocError> {
+    let mut locals = Locals::new();
+    for (name, said) in facts {
+        let name = Name::new(alloc, name)?;
+        locals = locals.with_first(alloc, &name, &atom(alloc, said)?)?;
+    }
+    scope.push_all(alloc, &locals)?;
+    done(alloc)
+}
+
 /// Adds a local fact inside.
 fn push_inside(
     alloc: Global,
@@ -153,7 +184,7 @@ fn inside(alloc: Global, scope: &Scope, rows: &[InnerRow]) -> Result<String, All
 fn told(alloc: Global, scope: &mut Scope, call: &Call) -> Result<String, AllocError> {
     match call {
         Push(name, said) => push(alloc, scope, name, said),
-        Pop => local(alloc, scope.pop().as_ref()),
+        PushAll(facts) => push_all(alloc, scope, facts),
         Means(name) => meaning(alloc, scope.lookup(name)),
         At(depth) => local(alloc, scope.local_at(*depth)),
         Inside(rows) => inside(alloc, scope, rows),
@@ -187,7 +218,7 @@ fn ctx_of(alloc: Global, name: &str) -> Result<Ctx, Fail> {
 /// The first row of a script that tells something else.
 fn first_other(alloc: Global, name: &str, rows: &[Row]) -> Result<Option<String>, Fail> {
     let ctx = ctx_of(alloc, name)?;
-    let mut scope = Scope::new(alloc, "A", &ctx);
+    let mut scope = Scope::new("A", &ctx);
     Ok(first_other_in(alloc, &mut scope, rows)?)
 }
 

@@ -1,14 +1,12 @@
 -- A list from a place on, with the item before it.
-use Rattle.std.proofs.Common.{◌≡◌, ℕ, suc, ◌+◌, ◌-◌, ◌<◌, ◌≤◌, Option, Some, None, List, ◌∷◌, ◌++◌, length, drop, refl, sym, ◌∙◌, ap, append_assoc, arith}
+use Rattle.std.proofs.Common.{◌≡◌, ℕ, suc, ◌+◌, ◌-◌, ◌<◌, ◌≤◌, Some, List, ◌∷◌, ◌++◌, length, drop, sym, ◌∙◌, ap, append_assoc, arith}
 use Rattle.std.specs.Prelude.{slice_get}
-use Rattle.std.specs.List.{cons_option}
 use Rattle.std.proofs.Math.Seq.{drop-cons}
 use Rattle.std.proofs.lemmas.Option.{get_or_from_slice_get, slice_get_within}
 use Rattle.theory_ctx.specs.Locals.{Scoped}
-use Rattle.theory_ctx.specs.declared.local.Local.{Local}
-use Rattle.proof_state.specs.declared.local_fact.LocalFact.{LocalFact}
 use Rattle.proof_state.specs.declared.frame.Frame.{Frame}
-use Rattle.proof_state.specs.Locals.{as_local, named, around_locals}
+use Rattle.proof_state.specs.Named.{named}
+use Rattle.proof_state.specs.Locals.{around_locals}
 
 pub one_before : {X : Type 0} (xs : List X) (left : ℕ) (x : X) → 0 < left → Some x ≡ slice_get xs (left - 1) → drop (left - 1) xs ≡ x ∷ drop left xs
 one_before xs left x some at =
@@ -17,23 +15,7 @@ one_before xs left x some at =
     ∙ ap (λ y. y ∷ drop (suc (left - 1)) xs) (get_or_from_slice_get xs (left - 1) x x (sym at))
     ∙ ap (λ n. x ∷ drop n xs) next
 
-cons_before : (o : Option Local) (xs ys : List Local) → cons_option o (xs ++ ys) ≡ cons_option o xs ++ ys
-cons_before None xs ys = refl
-cons_before (Some x) xs ys = refl
-
 module _ (old before new : Scoped) (left : ℕ) (some : 0 < left) where
-  pub fact_pushed : (facts : List LocalFact) (fact : LocalFact) → left ≤ length facts → Some fact ≡ slice_get facts (left - 1)
-      → before ≡ record old { locals = named (drop left facts) ++ old.locals }
-      → new ≡ record before { locals = cons_option (as_local fact) before.locals }
-      → (left - 1 ≤ length facts) × (new ≡ record old { locals = named (drop (left - 1) facts) ++ old.locals })
-  fact_pushed facts fact within at was is = (
-    omega (arith, within),
-    is ∙ (ap {A = Scoped} {B = Scoped} (λ scope. record scope { locals = cons_option (as_local fact) scope.locals }) was
-        ∙ ap {B = Scoped} (λ l. record old { locals = l })
-        (cons_before (as_local fact) (named (drop left facts)) old.locals
-        ∙ sym (ap (λ l. named l ++ old.locals) (one_before facts left fact some at)))),
-  )
-
   pub frame_pushed : (frames : List Frame) (frame : Frame) → left ≤ length frames → Some frame ≡ slice_get frames (left - 1)
       → before ≡ record old { locals = around_locals (drop left frames) ++ old.locals }
       → new ≡ record before { locals = named frame.block.facts ++ before.locals }

@@ -10,7 +10,8 @@ use Rattle.theory_ctx.specs.Facts.{Fact}
 use Rattle.theory_ctx.specs.declared.local.Local.{Local}
 use Rattle.proof_state.specs.declared.local_fact.LocalFact.{LocalFact}
 use Rattle.proof_state.specs.declared.frame.Frame.{Frame}
-use Rattle.proof_state.specs.Locals.{named, around_locals}
+use Rattle.proof_state.specs.Named.{named}
+use Rattle.proof_state.specs.Locals.{around_locals}
 use Rattle.proof_state.specs.Follows.{Follows, IsFact}
 use Rattle.proof_state.specs.Worth.{Given, IsWorthInside}
 use Rattle.proof_state.proofs.KnownSets.{in_either}

@@ -5,6 +5,8 @@ pub mod Fits
 pub mod Fresh
 pub mod Steps
 pub mod Answers
+pub mod Named
+pub mod Kept
 pub mod Locals
 pub mod Describes
 pub mod Follows

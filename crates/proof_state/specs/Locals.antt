@@ -1,19 +1,11 @@
 -- The local facts that a proof sees, the innermost first (this project's own).
-use Rattle.std.specs.Prelude.{Option, List, [], ◌++◌, option_map}
-use Rattle.std.specs.List.{filter_map, flat_map}
+use Rattle.std.specs.Prelude.{List, [], ◌++◌}
+use Rattle.std.specs.List.{flat_map}
 use Rattle.theory_ctx.specs.declared.local.Local.{Local}
-use Rattle.proof_state.specs.declared.local_fact.LocalFact.{LocalFact}
 use Rattle.proof_state.specs.declared.frame.Frame.{Frame}
 use Rattle.proof_state.specs.declared.levels.Levels.{Levels}
 use Rattle.proof_state.specs.declared.levels.Levels.TheVariants.{Closed, Prove, State}
-
--- the fact, if it has a name
-abbrev pub as_local : LocalFact → Option Local
-as_local fact = option_map (λ n. record { name = n; formula = fact.formula }) fact.name
-
--- the facts that have names
-abbrev pub named : List LocalFact → List Local
-named = filter_map as_local
+use Rattle.proof_state.specs.Named.{named}
 
 -- the named facts of the blocks, from the innermost one out
 abbrev pub around_locals : List Frame → List Local

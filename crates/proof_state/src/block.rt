@@ -1,10 +1,11 @@
 ghost use Rattle.std.specs.Prelude.{◌≡◌, [], ◌∷◌, IfOk};
 ghost use Rattle.proof_state.specs.Blocks.{opened};
 
+use crate::facts::Facts;
 use crate::local_fact::LocalFact;
 use crate::subgoal::{Subgoal, copies, subgoals_of};
+use crate::variables::Variables;
 use nj_formula::{Formula, Name};
-use shared_map::SharedList;
 use sqlite_items::Items;
 use std::alloc::{AllocError, Global};
 
@@ -15,9 +16,9 @@ pub(crate) struct Block {
     /// The subgoals that are still to be shown.
     pub(crate) pending: Items<Subgoal>,
     /// The fixed names, the newest first.
-    pub(crate) variables: SharedList<Name>,
+    pub(crate) variables: Variables,
     /// The assumptions and facts, the newest first.
-    pub(crate) facts: SharedList<LocalFact>,
+    pub(crate) facts: Facts,
 }
 
 impl Block {
@@ -28,8 +29,8 @@ impl Block {
         Ok(Block {
             goal: goal.copy(alloc)?,
             pending: subgoals_of(alloc, goal, dash)?,
-            variables: SharedList::new(),
-            facts: SharedList::new(),
+            variables: Variables::new(),
+            facts: Facts::new(),
         })
     }
 
@@ -53,8 +54,8 @@ impl Block {
         Ok(Block {
             goal: self.goal.copy(alloc)?,
             pending: copies(alloc, self.pending.as_slice())?,
-            variables: SharedList::new(),
-            facts: SharedList::new(),
+            variables: Variables::new(),
+            facts: Facts::new(),
         })
     }
 

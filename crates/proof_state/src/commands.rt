@@ -46,9 +46,10 @@ impl Levels {
         if taken {
             return Err(ProofFault::NotFresh { name });
         }
+        let around = around.copy()?;
         Ok(Levels::State {
             block: block.with_variable(alloc, name)?,
-            around: around.copy()?,
+            around,
         })
     }
 

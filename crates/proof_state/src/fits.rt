@@ -9,11 +9,11 @@ ghost use Rattle.proof_state.specs.Fits.{concludes, assumed, fits, fitting};
 ghost use Rattle.proof_state.specs.Same.{says_same};
 
 use crate::block::Block;
-use crate::local_fact::LocalFact;
+use crate::facts::Facts;
 use crate::same::says_same;
 use crate::subgoal::Subgoal;
+use crate::variables::Variables;
 use nj_formula::{Formula, Name, ObjTerm};
-use shared_map::SharedList;
 use std::alloc::{AllocError, Global};
 
 /// The place of the first pending subgoal of the block that `shown` fits.
@@ -49,7 +49,7 @@ fn fits(
 /// Whether the subgoal's conclusion is `shown`, for one of the fixed names where it asks for one.
 fn concludes(
     alloc: Global,
-    fixed: &SharedList<Name>,
+    fixed: &Variables,
     shown: &Formula,
     subgoal: &Subgoal,
 ) -> Result<bool, AllocError>
@@ -66,7 +66,7 @@ fn concludes(
 /// Whether `shown` is the body at one of the fixed names.
 fn is_instance(
     alloc: Global,
-    fixed: &SharedList<Name>,
+    fixed: &Variables,
     shown: &Formula,
     body: &Formula,
 ) -> Result<bool, AllocError>
@@ -91,7 +91,7 @@ fn is_at(alloc: Global, name: &Name, shown: &Formula, body: &Formula) -> Result<
 }
 
 /// Whether each assumption among these facts is one of the subgoal.
-fn are_assumed(facts: &SharedList<LocalFact>, subgoal: &Subgoal) -> bool
+fn are_assumed(facts: &Facts, subgoal: &Subgoal) -> bool
     ensures { result ≡ list_all (λ a. list_any (says_same a) (assumed subgoal.now))
         (map (λ fact. fact.formula) (filter is_assumption facts.now)) }
 {

@@ -2,13 +2,10 @@
 
 ghost use Rattle.std.specs.Prelude.{◌≡◌};
 ghost use Rattle.std.specs.List.{list_any};
-ghost use Rattle.std.specs.Str.{bytes_eq};
-ghost use Rattle.proof_state.specs.Fresh.{is_in, is_used, is_taken};
+ghost use Rattle.proof_state.specs.Fresh.{is_used, is_taken};
 
 use crate::block::Block;
 use crate::frame::Frame;
-use crate::local_fact::LocalFact;
-use nj_formula::Name;
 use shared_map::SharedList;
 use theory_ctx::Ctx;
 
@@ -22,29 +19,7 @@ pub(crate) fn is_taken(ctx: &Ctx, name: &str, block: &Block, around: &SharedList
 fn is_used(name: &str, block: &Block) -> bool
     ensures { result ≡ is_used name.now block.now }
 {
-    is_fixed(name, &block.variables) || block.goal.has_free(name) || is_stated(name, &block.facts)
-}
-
-fn is_fixed(name: &str, variables: &SharedList<Name>) -> bool
-    ensures { result ≡ list_any (λ y. bytes_eq y name.now) variables.now }
-{
-    for variable in variables.iter() {
-        if variable.is(name) {
-            return true;
-        }
-    }
-    false
-}
-
-fn is_stated(name: &str, facts: &SharedList<LocalFact>) -> bool
-    ensures { result ≡ list_any (λ fact. is_in name.now fact.formula) facts.now }
-{
-    for fact in facts.iter() {
-        if fact.formula.has_free(name) {
-            return true;
-        }
-    }
-    false
+    block.variables.has(name) || block.goal.has_free(name) || block.facts.has_free(name)
 }
 
 fn is_used_around(name: &str, around: &SharedList<Frame>) -> bool

@@ -10,6 +10,7 @@ mod block;
 mod closing;
 mod commands;
 mod describe;
+mod facts;
 mod fault;
 mod fits;
 mod frame;
@@ -21,6 +22,7 @@ mod locals;
 mod proof;
 mod same;
 mod subgoal;
+mod variables;
 
 pub use fault::ProofFault;
 pub use laws::{kept_law, one_description, same_law, worth_law};

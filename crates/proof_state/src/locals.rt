@@ -1,44 +1,22 @@
 //! The local facts of a scope.
 
 ghost use Rattle.std.specs.Prelude.{◌≡◌, ◌++◌, OnOk};
-ghost use Rattle.std.specs.List.{cons_option};
-ghost use Rattle.proof_state.specs.Locals.{as_local, named, around_locals, locals_of};
+ghost use Rattle.proof_state.specs.Named.{named};
+ghost use Rattle.proof_state.specs.Locals.{around_locals, locals_of};
 
+use crate::facts::Facts;
 use crate::frame::Frame;
 use crate::levels::Levels;
-use crate::local_fact::LocalFact;
 use shared_map::SharedList;
 use std::alloc::{AllocError, Global};
 use theory_ctx::Scope;
 
-/// Adds the named ones of these facts, the oldest first.
-fn push_facts(
-    alloc: Global,
-    scope: &mut Scope,
-    facts: &SharedList<LocalFact>,
-) -> Result<(), AllocError>
+/// Adds the named ones of these facts.
+fn push_facts(alloc: Global, scope: &mut Scope, facts: &Facts) -> Result<(), AllocError>
     ensures { OnOk result (scope.new
         ≡ record scope.old { locals = named facts.now ++ scope.old.locals }) }
 {
-    let mut left = facts.len();
-    'facts: while left > 0 {
-        left -= 1;
-        let Some(fact) = facts.get(left) else {
-            unreachable!()
-        };
-        push_fact(alloc, scope, fact)?;
-    }
-    Ok(())
-}
-
-fn push_fact(alloc: Global, scope: &mut Scope, fact: &LocalFact) -> Result<(), AllocError>
-    ensures { OnOk result (scope.new
-        ≡ record scope.old { locals = cons_option (as_local fact.now) scope.old.locals }) }
-{
-    match &fact.name {
-        Some(name) => scope.push(alloc, name.as_str(), fact.formula.copy(alloc)?),
-        None => Ok(()),
-    }
+    scope.push_all(alloc, facts.named())
 }
 
 /// Adds the named facts of these blocks, the outermost first.

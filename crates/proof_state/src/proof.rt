@@ -183,7 +183,7 @@ impl Proof {
         ensures { IfOk result (λ scope. scope
             ≡ record { locals = locals_of self.now; theory = theory.now; facts = ctx.now }) }
     {
-        let mut scope = Scope::new(alloc, theory, ctx);
+        let mut scope = Scope::new(theory, ctx);
         self.levels.push_locals(alloc, &mut scope)?;
         Ok(scope)
     }

@@ -8,7 +8,8 @@ use Rattle.theory_ctx.specs.declared.local.Local.{Local}
 use Rattle.proof_state.specs.declared.frame.Frame.{Frame}
 use Rattle.proof_state.specs.declared.levels.Levels.TheVariants as levels
 use Rattle.proof_state.specs.declared.local_fact.LocalFact.{LocalFact}
-use Rattle.proof_state.specs.Locals.{named, around_locals}
+use Rattle.proof_state.specs.Named.{named}
+use Rattle.proof_state.specs.Locals.{around_locals}
 use Rattle.proof_terms.specs.declared.term.Term.{Term}
 use Rattle.suggest_rules.specs.Search.{suggested}
 use Rattle.isar_rules.specs.declared.state.Place.{Place}

@@ -7,3 +7,4 @@ pub mod Adding
 pub mod Ambiguous
 pub mod KnownNames
 pub mod Covered
+pub mod BlockLocals

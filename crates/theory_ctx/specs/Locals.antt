@@ -1,8 +1,11 @@
 -- Local facts: which of them a name means, and how they hide the facts of theories (this project's
 -- own).
-use Rattle.std.specs.Prelude.{ℕ, List, [], ◌∷◌, ◌++◌, find, Option, Some, None}
+use Rattle.std.specs.Prelude.{◌≡◌, ℕ, List, [], ◌∷◌, ◌++◌, find, Option, Some, None}
+use Rattle.std.specs.List.{flat_map}
 use Rattle.std.specs.Str.{bytes_eq}
+use Rattle.shared_map.specs.Pairs.{found as found_at}
 use Rattle.theory_ctx.specs.Facts.{Fact}
+use Rattle.theory_ctx.specs.Order.{by_bytes}
 use Rattle.theory_ctx.specs.declared.local.Local.{Local}
 use Rattle.theory_ctx.specs.Answers.{Answer, found}
 use Rattle.theory_ctx.specs.Looked.{parts_of, looked}
@@ -22,9 +25,21 @@ pub record Nested : Type 0 where
 abbrev pub seen : Nested → Scoped
 seen scope = record scope.outer { locals = scope.own ++ scope.outer.locals }
 
+-- the first local fact n
+abbrev pub first_named : List ℕ → List Local → Option Local
+first_named n = find (λ local. bytes_eq local.name n)
+
+-- a map has, for each name, the first local fact of it
+abbrev pub AreFirst : List (List ℕ × Local) → List Local → Type 0
+AreFirst map locals = (n : List ℕ) → found_at by_bytes n map ≡ first_named n locals
+
+-- the local facts of several blocks, the innermost block first
+abbrev pub joined : List (List Local) → List Local
+joined = flat_map (λ locals. locals)
+
 -- the innermost local fact n; a name of several parts means none
 abbrev pub local_of : List Local → List (List ℕ) → Option Local
-local_of locals (n ∷ []) = find (λ local. bytes_eq local.name n) locals
+local_of locals (n ∷ []) = first_named n locals
 local_of locals parts = None
 
 -- the local fact where there is one, else what the theory answers

@@ -1,10 +1,13 @@
-ghost use Rattle.std.specs.Prelude.{◌≡◌, ◌∷◌, OnOk, OnErr, drop, slice_get};
+ghost use Rattle.std.specs.Prelude.{◌≡◌, ◌∷◌, OnOk, OnErr, drop, reverse, slice_get};
+ghost use Rattle.std.specs.Option.{option_copied};
 ghost use Rattle.theory_ctx.specs.Answers.{told};
-ghost use Rattle.theory_ctx.specs.Locals.{looked_in, seen};
+ghost use Rattle.theory_ctx.specs.Looked.{parts_of};
+ghost use Rattle.theory_ctx.specs.Locals.{first_named, local_of, looked_in, seen};
 
+use crate::cited::Cited;
 use crate::local::Local;
 use crate::lookup::Lookup;
-use crate::scope::{Scope, cited_in};
+use crate::scope::Scope;
 use nj_formula::{Formula, Name};
 use sqlite_items::Items;
 use std::alloc::{AllocError, Global};
@@ -63,4 +66,21 @@ impl<'s, 'a> InnerScope<'s, 'a> {
             None => self.outer.lookup(name),
         }
     }
+}
+
+/// The last of the facts that is cited so. A long name passes them by.
+fn cited_in<'a>(locals: &'a [Local], name: &str) -> Option<&'a Local>
+    ensures { option_copied result ≡ local_of (reverse locals.now) (parts_of name.now) }
+{
+    match Cited::new(name) {
+        Cited::Plain(name) => newest(locals, name),
+        Cited::Long { .. } | Cited::Longer => None,
+    }
+}
+
+/// The last of the facts that has this name.
+fn newest<'a>(locals: &'a [Local], name: &str) -> Option<&'a Local>
+    ensures { option_copied result ≡ first_named name.now (reverse locals.now) }
+{
+    locals.iter().rev().find(|local| local.name.is(name))
 }

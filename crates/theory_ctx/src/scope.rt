@@ -1,33 +1,34 @@
-ghost use Rattle.std.specs.Prelude.{◌≡◌, [], ◌∷◌, OnOk, OnErr, drop, find, reverse, slice_get};
+ghost use Rattle.std.specs.Prelude.{◌≡◌, [], ◌∷◌, ◌++◌, OnOk, OnErr, slice_get};
 ghost use Rattle.std.specs.Option.{option_copied};
-ghost use Rattle.std.specs.Str.{bytes_eq};
 ghost use Rattle.theory_ctx.specs.Answers.{told};
 ghost use Rattle.theory_ctx.specs.Looked.{parts_of};
-ghost use Rattle.theory_ctx.specs.Locals.{local_of, looked_in};
+ghost use Rattle.theory_ctx.specs.Locals.{first_named, joined, local_of, looked_in};
 
 use crate::cited::Cited;
 use crate::ctx::Ctx;
 use crate::inner_scope::InnerScope;
 use crate::local::Local;
+use crate::locals::Locals;
 use crate::lookup::Lookup;
 use nj_formula::{Formula, Name};
+use shared_map::SharedList;
 use sqlite_items::Items;
 use std::alloc::{AllocError, Global};
 use std::marker::Model;
 
-/// What a lookup goes through: local facts, of which the newest is the innermost, then the facts
-/// that a theory sees. Contracts see it as these lists. An unnamed local fact can't be cited, so it
-/// is never put here.
+/// What a lookup goes through: local facts of blocks, the innermost of which is the newest, and the
+/// facts that a theory sees. Contracts see it as these lists. An unnamed local fact can't be cited,
+/// so it is never put here.
 #[derive(Drop)]
 pub struct Scope<'a> {
-    locals: Items<Local>,
+    /// The local facts of each block, the innermost block first.
+    blocks: SharedList<Locals>,
     theory: &'a str,
     ctx: &'a Ctx,
 }
 
 impl<'a> Model for Scope<'a> {
-    ghost use Rattle.std.specs.Prelude.{reverse};
-    ghost use Rattle.theory_ctx.specs.Locals.{Scoped};
+    ghost use Rattle.theory_ctx.specs.Locals.{Scoped, joined};
     ghost use Rattle.nj_formula.specs.contracts.formula.Formula as formula;
     ghost use Rattle.std.specs.Coded.{codes};
 
@@ -36,7 +37,7 @@ impl<'a> Model for Scope<'a> {
     ghost coded = { Prim.hlevel (codes, formula.the_row.coded) };
 
     ghost view = { λ scope. record {
-      locals = reverse scope.locals;
+      locals = joined scope.blocks;
       theory = scope.theory.now;
       facts = scope.ctx.now;
     } };
@@ -44,11 +45,11 @@ impl<'a> Model for Scope<'a> {
 
 impl<'a> Scope<'a> {
     /// The scope of a theory, with no local facts. It takes no memory.
-    pub fn new(alloc: Global, theory: &'a str, ctx: &'a Ctx) -> Scope<'a>
+    pub fn new(theory: &'a str, ctx: &'a Ctx) -> Scope<'a>
         ensures { result ≡ record { locals = []; theory = theory.now; facts = ctx.now } }
     {
         Scope {
-            locals: Items::new(alloc),
+            blocks: SharedList::new(),
             theory,
             ctx,
         }
@@ -62,28 +63,27 @@ impl<'a> Scope<'a> {
         ensures err { OnErr result (self.new ≡ self.old) }
     {
         let name = Name::new(alloc, name)?;
-        self.locals.push(Local { name, formula })?;
-        Ok(())
+        let locals = Locals::new().with_first(alloc, &name, &formula)?;
+        self.push_all(alloc, &locals)
     }
 
-    /// Takes the innermost local fact back, if there is one.
-    pub fn pop(&mut self) -> Option<Local>
-        ensures local { result ≡ slice_get self.old.locals 0 }
-        ensures rest { self.new ≡ record self.old { locals = drop 1 self.old.locals } }
+    /// Adds the local facts of a block, as the innermost ones, in time that doesn't depend on how
+    /// many they are. For want of memory it adds nothing.
+    pub fn push_all(&mut self, alloc: Global, locals: &Locals) -> Result<(), AllocError>
+        ensures ok { OnOk result (self.new
+            ≡ record self.old { locals = locals.now ++ self.old.locals }) }
+        ensures err { OnErr result (self.new ≡ self.old) }
     {
-        self.locals.pop()
+        let blocks = self.blocks.with_first(alloc, locals.copy()?)?;
+        self.blocks = blocks;
+        Ok(())
     }
 
     /// The local fact this deep, from 0 for the innermost.
     pub fn local_at(&self, depth: usize) -> Option<&Local>
         ensures { option_copied result ≡ slice_get self.now.locals depth }
     {
-        let locals = self.locals.as_slice();
-        if depth < locals.len() {
-            Some(&locals[locals.len() - 1 - depth])
-        } else {
-            None
-        }
+        local_at(&self.blocks, depth)
     }
 
     /// A scope inside this one, which is lent. It takes no memory.
@@ -110,24 +110,35 @@ impl<'a> Scope<'a> {
     fn local(&self, name: &str) -> Option<&Local>
         ensures { option_copied result ≡ local_of self.now.locals (parts_of name.now) }
     {
-        cited_in(self.locals.as_slice(), name)
+        match Cited::new(name) {
+            Cited::Plain(name) => first_named(&self.blocks, name),
+            Cited::Long { .. } | Cited::Longer => None,
+        }
     }
 }
 
-/// The last of the facts that is cited so. A long name passes them by.
-pub(crate) fn cited_in<'a>(locals: &'a [Local], name: &str) -> Option<&'a Local>
-    ensures { option_copied result ≡ local_of (reverse locals.now) (parts_of name.now) }
+/// The first of the local facts of these blocks that has this name.
+fn first_named<'a>(blocks: &'a SharedList<Locals>, name: &str) -> Option<&'a Local>
+    ensures { option_copied result ≡ first_named name.now (joined blocks.now) }
 {
-    match Cited::new(name) {
-        Cited::Plain(name) => newest(locals, name),
-        Cited::Long { .. } | Cited::Longer => None,
+    for locals in blocks.iter() {
+        if let Some(local) = locals.first_named(name) {
+            return Some(local);
+        }
     }
+    None
 }
 
-/// The last of the facts that has this name.
-fn newest<'a>(locals: &'a [Local], name: &str) -> Option<&'a Local>
-    ensures { option_copied result
-        ≡ find (λ local. bytes_eq local.name name.now) (reverse locals.now) }
+/// The local fact at this place among those of these blocks, from 0.
+fn local_at(blocks: &SharedList<Locals>, place: usize) -> Option<&Local>
+    ensures { option_copied result ≡ slice_get (joined blocks.now) place }
 {
-    locals.iter().rev().find(|local| local.name.is(name))
+    let mut left = place;
+    for locals in blocks.iter() {
+        if left < locals.len() {
+            return locals.get(left);
+        }
+        left -= locals.len();
+    }
+    None
 }

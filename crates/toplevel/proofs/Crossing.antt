@@ -7,7 +7,8 @@ use Rattle.isar_rules.specs.contracts.state.Theory as theory
 use Rattle.isar_rules.specs.contracts.state.Given as given
 use Rattle.isar_rules.specs.contracts.state.Place as place
 use Rattle.isar_rules.specs.contracts.state.State as state
-use Rattle.toplevel.proofs.CrossingParts.{ctx_send, ctx_sync, formula_field_send, formula_field_sync, name_send, name_sync, proof_send, proof_sync}
+use Rattle.toplevel.proofs.CrossingParts.{ctx_send, ctx_sync, formula_field_send, formula_field_sync, name_send, name_sync}
+use Rattle.toplevel.proofs.CrossingProofs.{proof_send, proof_sync}
 
 given_field_send : IsSend given.the_field.row
 given_field_send = search (ctx_send, kit.crosses, sendable) depth 60 fits 20000

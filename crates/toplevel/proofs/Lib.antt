@@ -1,2 +1,3 @@
 mod CrossingParts
+mod CrossingProofs
 pub mod Crossing

@@ -1,0 +1,103 @@
+ghost use Rattle.std.specs.Prelude.{◌≡◌, [], ◌∷◌, IfOk};
+ghost use Rattle.std.specs.List.{cons_option, list_any};
+ghost use Rattle.proof_state.specs.Fresh.{is_in};
+ghost use Rattle.proof_state.specs.Named.{as_local, named};
+
+use crate::local_fact::LocalFact;
+use shared_map::{ListItems, SharedList};
+use std::alloc::{AllocError, Global};
+use std::marker::Model;
+use theory_ctx::{Locals, NameSet};
+
+/// The assumptions and facts of a block, the newest first. Contracts see them as this list. A copy
+/// shares all with its source.
+#[derive(Drop)]
+pub(crate) struct Facts {
+    all: SharedList<LocalFact>,
+    /// Those that have names.
+    cited: Locals,
+    /// The names that are free in them.
+    free: NameSet,
+}
+
+impl Model for Facts {
+    ghost use Rattle.std.specs.Prelude.{◌≡◌, List};
+    ghost use Rattle.std.specs.Coded.{codes};
+    ghost use Rattle.nj_formula.specs.contracts.formula.Formula as formula;
+    ghost use Rattle.proof_state.specs.declared.local_fact.LocalFact.{LocalFact as Held};
+    ghost use Rattle.proof_state.specs.Named.{named};
+    ghost use Rattle.proof_state.specs.Kept.{AreFree};
+
+    ghost Value = { List Held };
+
+    ghost coded = { Prim.hlevel (codes, formula.the_row.coded) };
+
+    ghost view = { λ facts. facts.all };
+
+    ghost invariant = { λ facts. (facts.cited ≡ named facts.all) × AreFree facts.free facts.all };
+}
+
+impl Facts {
+    /// No facts, which take no memory.
+    pub(crate) fn new() -> Facts
+        ensures { result ≡ [] }
+    {
+        Facts {
+            all: SharedList::new(),
+            cited: Locals::new(),
+            free: NameSet::new(),
+        }
+    }
+
+    /// The same facts, in the same memory.
+    pub(crate) fn copy(&self) -> Result<Facts, AllocError>
+        ensures { IfOk result (λ facts. facts ≡ self.now) }
+    {
+        Ok(Facts {
+            all: self.all.copy()?,
+            cited: self.cited.copy()?,
+            free: self.free.copy()?,
+        })
+    }
+
+    /// These and a newer one.
+    pub(crate) fn with_first(&self, alloc: Global, fact: LocalFact) -> Result<Facts, AllocError>
+        ensures { IfOk result (λ facts. facts ≡ fact ∷ self.now) }
+    {
+        let cited = with_named(alloc, &self.cited, &fact)?;
+        let free = self.free.with_formula(alloc, &fact.formula)?;
+        let all = self.all.with_first(alloc, fact)?;
+        Ok(Facts { all, cited, free })
+    }
+
+    /// They themselves, lent.
+    pub(crate) fn iter(&self) -> ListItems<'_, LocalFact>
+        ensures { result ≡ self.now }
+    {
+        self.all.iter()
+    }
+
+    /// Those that have names.
+    pub(crate) fn named(&self) -> &Locals
+        ensures { result.now ≡ named self.now }
+    {
+        &self.cited
+    }
+
+    /// Whether the name is free in one of them.
+    pub(crate) fn has_free(&self, name: &str) -> bool
+        ensures { result ≡ list_any (λ fact. is_in name.now fact.formula) self.now }
+    {
+        self.free.has(name)
+    }
+}
+
+/// The local facts and this one, if it has a name.
+fn with_named(alloc: Global, locals: &Locals, fact: &LocalFact) -> Result<Locals, AllocError>
+    ensures { IfOk result (λ more. more ≡ cons_option (as_local fact.now) locals.now) }
+{
+    match &fact.name {
+        Some(name) => locals.with_first(alloc, name, &fact.formula),
+        None => locals.copy(),
+    }
+}
