@@ -15,7 +15,8 @@ use Rattle.proof_terms.specs.declared.term.Term.{Term, out-Term, fold-Term, fold
 use Rattle.proof_terms.specs.declared.term.Term.TheOpen.{Term-F}
 use Rattle.proof_terms.specs.declared.term.Term.TheVariants.{Fact, ImpI, rolls-Fact, rolls-ImpI}
 use Rattle.proof_terms.proofs.KnownLayers.{out-Fact, out-ImpI}
-use Rattle.proof_checks.specs.Checks.{and_then, cited, by_one, of_step, step_within, checked_within, deepest, checked}
+use Rattle.proof_terms.specs.Reading.{deepest}
+use Rattle.proof_checks.specs.Checks.{and_then, cited, by_one, of_step, step_within, checked_within, checked}
 use Rattle.proof_checks.specs.Rows.{step_of, imp_i}
 use Rattle.proof_checks.specs.Scopes.{inside, remaining}
 use Rattle.report_markup.specs.declared.kind.ReportKind.TheVariants as kind

@@ -15,6 +15,7 @@ use Rattle.proof_terms.specs.declared.fault.TermFault.TheVariants.{AmbiguousName
 use Rattle.proof_terms.specs.declared.fault.TermFault.TheVariants.{NotFresh}
 use Rattle.proof_terms.specs.declared.term.Term.{Term, out-Term}
 use Rattle.proof_terms.specs.declared.term.Term.TheOpen.{Term-F}
+use Rattle.proof_terms.specs.Reading.{deepest}
 use Rattle.proof_checks.specs.declared.step.Part.{Part}
 use Rattle.proof_checks.specs.declared.step.Step.{Step}
 use Rattle.proof_checks.specs.declared.step.Step.TheVariants.{Cited, One, Two, Three}
@@ -94,10 +95,6 @@ checked_within zero t goal scope = and_then (step_within zero (out-Term t) goal)
     (of_step (λ _ _ _. Err ProofTooDeep) scope goal)
 checked_within (suc n) t goal scope = and_then (step_within (suc n) (out-Term t) goal)
     (of_step (checked_within n) scope goal)
-
--- how many rules may be nested
-unfoldable pub deepest : ℕ
-deepest = 200
 
 -- the answer to a term
 abbrev pub checked : Term → Formula → Scoped → Found

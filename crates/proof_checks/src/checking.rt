@@ -1,7 +1,7 @@
 ghost use Rattle.std.specs.Prelude.{◌≡◌};
 ghost use Rattle.nj_formula.specs.Meaning.{meaning};
 ghost use Rattle.proof_checks.specs.Answers.{Answers, AssumesOnly, Counts};
-ghost use Rattle.proof_checks.specs.Checks.{checked, deepest};
+ghost use Rattle.proof_checks.specs.Checks.{checked};
 ghost use Rattle.proof_checks.specs.Scopes.{Stands};
 ghost use Rattle.proof_checks.specs.Told.{Tells};
 
@@ -11,17 +11,9 @@ use crate::proving::proved;
 use nj_formula::Formula;
 use nj_kernel::Thm;
 use pide_base::Stop;
-use proof_terms::Term;
+use proof_terms::{Term, deepest};
 use std::alloc::Global;
 use theory_ctx::Scope;
-
-/// How many rules may be nested.
-#[tactic(auto, unfolding(crate::specs::Checks::deepest))]
-fn deepest() -> usize
-    ensures { result ≡ deepest }
-{
-    200
-}
 
 /// Checks the term against the goal: `Proved` with a theorem of the goal that assumes formulas of
 /// the scope alone, or `Wrong` with the first fault. A rule is judged before its parts, the parts

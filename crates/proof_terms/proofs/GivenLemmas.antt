@@ -45,10 +45,11 @@ told : (ms rest : List Mark) (e : TermError) → Gives {A = Term} (Err e) rest (
 told ms rest (Fault f) given = answered deepest ms (Err f) given
 told ms rest NoMemory given = tt
 
-pub fault_told : (ms rest : List Mark) (e : TermError) (r : Result Term TermError) → IsErrAnd r (λ f. f ≡ e)
-    → Gives {A = Term} (Err e) rest (read_term deepest ms) → Told ms r
-fault_told ms rest e (Ok t) is given = absurd is
-fault_told ms rest e (Err f) is given = subst (λ z. Told ms (Err z)) (sym is) (told ms rest e given)
+pub fault_told : (n : ℕ) (ms rest : List Mark) (e : TermError) (r : Result Term TermError) → n ≡ deepest → IsErrAnd r (λ f. f ≡ e)
+    → Gives {A = Term} (Err e) rest (read_term n ms) → Told ms r
+fault_told n ms rest e (Ok t) most is given = absurd is
+fault_told n ms rest e (Err f) most is given = subst (λ z. Told ms (Err z)) (sym is)
+    (told ms rest e (subst (λ k. Gives {A = Term} (Err e) rest (read_term k ms)) most given))
 
 -- the answer to the tokens, by what was read
 pub whole_answers : (n : ℕ) (ms : List Mark) (t : Term) (source : List ℕ) (rest : List Token) → read_term n ms ≡ Ok (t, marks source rest)

@@ -125,7 +125,7 @@ read_term zero ms = and_then (read_start ms) (read_on (λ r more. Err ProofTooDe
 read_term (suc n) ms = and_then (read_start ms) (read_on (read_rule (read_term n)))
 
 -- how many rules may be nested
-abbrev pub deepest : ℕ
+unfoldable pub deepest : ℕ
 deepest = 200
 
 -- a term with no token behind it

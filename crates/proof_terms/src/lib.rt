@@ -18,6 +18,6 @@ mod term;
 
 pub use fault::{TermError, TermFault};
 pub use law::{cited_on_tokens, one_answer};
-pub use reading::read;
+pub use reading::{deepest, read};
 pub use rule_names::rule_named;
 pub use term::{Cite, Term};

@@ -2,7 +2,7 @@
 
 ghost use Rattle.std.specs.Prelude.{◌≡◌};
 ghost use Rattle.proof_terms.specs.Marks.{marks};
-ghost use Rattle.proof_terms.specs.Reading.{Gives, read_term, read_rule, read_inside};
+ghost use Rattle.proof_terms.specs.Reading.{Gives, deepest, read_term, read_rule, read_inside};
 ghost use Rattle.proof_terms.specs.Answers.{Told};
 
 use crate::fault::{TermError, TermFault};
@@ -13,13 +13,18 @@ use nj_kernel::Rule;
 use outer_tokens::Token;
 use std::alloc::Global;
 
-/// How many rules may be nested.
-const DEEPEST: usize = 200;
+/// How many rules may be nested in a proof term.
+#[tactic(auto, unfolding(crate::specs::Reading::deepest))]
+pub fn deepest() -> usize
+    ensures { result ≡ deepest }
+{
+    200
+}
 
 /// The proof term that the proper tokens of the source are, all of them. The faults are told in
 /// this order, from the left: a token with which no term goes on (`Malformed`, as where the tokens
 /// end too early or go on behind the term), a quoted text that is no formula or no term
-/// (`BadFormula`, `FormulaTooDeep`), and the name of a rule that stands in 200 others
+/// (`BadFormula`, `FormulaTooDeep`), and the name of a rule that stands in `deepest` others
 /// (`ProofTooDeep`). It looks no further than the fault.
 pub fn read(alloc: Global, source: &[char], tokens: &[Token]) -> Result<Term, TermError>
     ensures { Told (marks source.now tokens.now) result }
@@ -30,7 +35,7 @@ pub fn read(alloc: Global, source: &[char], tokens: &[Token]) -> Result<Term, Te
         rest: tokens,
         letters: String::new(alloc),
     };
-    let term = reader.term(DEEPEST)?;
+    let term = reader.term(deepest())?;
     if reader.rest.is_empty() {
         Ok(term)
     } else {

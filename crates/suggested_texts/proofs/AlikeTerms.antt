@@ -8,7 +8,8 @@ use Rattle.theory_ctx.specs.Locals.{Scoped, looked_in}
 use Rattle.proof_terms.specs.declared.term.Cite.{Cite}
 use Rattle.proof_terms.specs.declared.term.Term.{Term}
 use Rattle.proof_terms.specs.declared.term.Term.TheVariants.{Fact, DisjE}
-use Rattle.proof_checks.specs.Checks.{and_then, discharged, cited, checked, checked_within, deepest}
+use Rattle.proof_terms.specs.Reading.{deepest}
+use Rattle.proof_checks.specs.Checks.{and_then, discharged, cited, checked, checked_within}
 use Rattle.suggested_texts.specs.Alike.{IsAlike, fact, conj_i, conj_e1, conj_e2, disj_i1, disj_i2, disj_e, imp_i, imp_e, not_i, not_e, false_e, SayAlike}
 use Rattle.suggested_texts.proofs.AlikeFacts.{cited_alike}
 use Rattle.suggested_texts.proofs.AlikeRules.{Answers, same_and, same_or, same_implies, part_alike, plain, assumed}

@@ -1,6 +1,6 @@
 use Rattle.std.proofs.Common.{ap, lit≤}
 use Rattle.std.specs.Prelude.{is_ok}
-use Rattle.proof_checks.specs.Checks.{deepest}
+use Rattle.proof_terms.specs.Reading.{deepest}
 use Rattle.suggest_rules.specs.Names.{citable}
 use Rattle.nj_suggest.proofs.SeenLemmas.{citable-seen}
 use Rattle.nj_suggest.proofs.SoundLemmas.{within_right}

@@ -2,7 +2,8 @@ use Rattle.std.proofs.Common.{subst}
 use Rattle.nj_formula.specs.Meaning.{meaning}
 use Rattle.theory_ctx.specs.Locals.{seen}
 use Rattle.proof_checks.specs.Answers.{Gives, Answers}
-use Rattle.proof_checks.specs.Checks.{checked, checked_within, deepest}
+use Rattle.proof_terms.specs.Reading.{deepest}
+use Rattle.proof_checks.specs.Checks.{checked, checked_within}
 use Rattle.proof_checks.proofs.ToldLemmas.{told_answers, told_counts, told_stands}
 use Rattle.proof_checks.proofs.checking.check.Goals as goal
 

@@ -1,4 +1,4 @@
-use Rattle.proof_checks.specs.Checks.{deepest}
+use Rattle.proof_terms.specs.Reading.{deepest}
 use Rattle.proof_checks.proofs.DeriveLemmas.{checked_nj}
 use Rattle.proof_checks.proofs.StandLemmas.{stand}
 use Rattle.proof_checks.proofs.laws.checks_law.Goals as goal
