@@ -20,7 +20,7 @@ use Rattle.theory_ctx.specs.Locals.{Scoped}
 use Rattle.theory_ctx.specs.Looked.{parts_of}
 use Rattle.proof_terms.specs.declared.term.Term.{Term}
 use Rattle.proof_terms.specs.Marks.{mark, marks}
-use Rattle.proof_terms.specs.Reading.{whole, read_term, proof_of}
+use Rattle.proof_terms.specs.Reading.{whole, read_term, proof_of, deepest}
 use Rattle.proof_checks.specs.Checks.{checked}
 use Rattle.suggest_rules.specs.Search.{suggested}
 use Rattle.suggest_rules.specs.TermText.{by_text}
@@ -74,6 +74,7 @@ module _ (aliases : List (List ℕ)) (ls : List Lexeme) (ink : EndsSpace (text_o
 
 module _ (goal : Formula) (scope : Scoped) (aliases : List (List ℕ)) (t : Term) (w : IsWritten aliases 200 t) (ok : IsOk (checked t goal scope)) where
   written_proof : IsProofText aliases goal scope (by_text t)
+  unfolding deepest
   written_proof =
       let ls : List Lexeme = lexemes aliases 200 t w in
       let sits = lexemes_sit aliases 200 t w in

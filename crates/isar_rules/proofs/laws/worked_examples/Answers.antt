@@ -1,6 +1,7 @@
 use Rattle.std.proofs.Common.{refl, ap, ◌∷◌, ◌++◌}
 use Rattle.std.specs.Fmt.{digits}
 use Rattle.nj_formula.proofs.KnownFormulas.{out-Implies}
+use Rattle.proof_terms.specs.Reading.{deepest}
 use Rattle.isar_rules.specs.Places.{refused, accepted, no_subgoal}
 use Rattle.isar_rules.specs.WorkedProofs.{not_p}
 use Rattle.suggest_rules.proofs.KnownSuggestions.{swaps, swaps_text, none, no_fact}
@@ -124,7 +125,7 @@ returns-clause-suggesting_prints c = record {
 }
 
 pub returns-clause-forks : goal.returns-clause-forks
-unfolding digits
+unfolding digits deepest
 returns-clause-forks c = record {
   unknown = unknown;
   no_term = refl;
