@@ -23,6 +23,15 @@ state log s last holding jobs = record {
   jobs = jobs;
 }
 
+-- the session and the state that are kept
+module _ {S : Type 0} {l : Lang S} {service : Service} {log : Log Service Entry} {s : Session} {last holding : ℕ} {jobs : ℕ → Option (Work S)}
+    (k : IsKept l service log s last holding jobs) where
+  abbrev pub session_kept : Session
+  session_kept = s
+
+  abbrev pub state_kept : State S
+  state_kept = state log s last holding jobs
+
 module _ {S : Type 0} (l : Lang S) (service : Service) (old : Log Service Entry) (s : Session) (last holding : ℕ)
     (jobs : ℕ → Option (Work S)) (k : IsKept l service old s last holding jobs) where
   -- room was made, and then the entry was added

@@ -1,5 +1,6 @@
 -- A session of which only the room has changed.
-use Rattle.std.proofs.Common.{◌≡◌, ℕ, ◌≤◌, false, List, Option, Result, sym, ap, subst, ◌∙◌}
+use Rattle.std.proofs.Common.{◌≡◌, ℕ, ◌≤◌, false, List, Option, Result, IfOk, sym, ap, subst, ◌∙◌}
+use Rattle.std.specs.Prelude.{OnErr}
 use Rattle.language.specs.Lang.{Lang}
 use Rattle.message_values.specs.declared.editor_message.EditorMessage.{EditorMessage}
 use Rattle.message_values.specs.declared.refusal.Refusal.{Refusal}
@@ -15,6 +16,8 @@ use Rattle.session_lists.specs.Items.{SessionItem, session_in}
 use Rattle.session_jobs.specs.Works.{Work}
 use Rattle.session_states.specs.Kept.{IsListed, IsKept}
 use Rattle.session_states.specs.States.{with_past}
+use Rattle.document_session.specs.declared.taking.Taken.{Taken}
+use Rattle.document_session.specs.Answers.{TakenSo}
 use Rattle.document_session.specs.Contents.{SessionState}
 use Rattle.document_session.proofs.Rooms.{room_kept}
 use Rattle.document_session.proofs.Tables.{table_kept}
@@ -37,6 +40,19 @@ pub still : (service : Service) (log mid : Log Service Entry) (now : SessionStat
 still service log mid now same items waiting =
     ap (λ (is : List SessionItem). seen_with service is mid.waiting) items
     ∙ ap (λ (ws : List (List ℕ)). seen_with service log.items ws) waiting ∙ same
+
+-- so what is told of the room's session is told of the one before
+pub still_taken : {S E : Type 0} (l : Lang S) (service : Service) (log mid : Log Service Entry) (now : SessionState) → seen service log ≡ now
+    → mid.items ≡ log.items → mid.waiting ≡ log.waiting → (message : List (List ℕ)) (result : Result Taken E) (new : List SessionItem)
+    → IfOk result (λ t. TakenSo l service message mid.items t new) → IfOk result (λ t. TakenSo l now.service message now.items t new)
+still_taken l service log mid now same items waiting message result new told =
+    subst (λ (x : SessionState). IfOk result (λ t. TakenSo l x.service message x.items t new)) (still service log mid now same items waiting) told
+
+-- and what fails leaves the one before as it was
+pub still_err : {E : Type 0} (service : Service) (log mid : Log Service Entry) (now : SessionState) → seen service log ≡ now → mid.items ≡ log.items
+    → mid.waiting ≡ log.waiting → (result : Result Taken E) (new : SessionState) → OnErr result (new ≡ seen service mid) → OnErr result (new ≡ now)
+still_err service log mid now same items waiting result new told =
+    subst (λ (x : SessionState). OnErr result (new ≡ x)) (still service log mid now same items waiting) told
 
 -- it goes on
 pub still_going : {S : Type 0} (l : Lang S) (service : Service) (log mid : Log Service Entry) (now : SessionState) → seen service log ≡ now

@@ -1,6 +1,5 @@
 use Rattle.std.proofs.Common.{◌≤◌, ◌∷◌, List, inl, refl, sym, ap, ◌∙◌, arith}
 use Rattle.pide_base.specs.declared.part.Part.{Part}
-use Rattle.prover_core.specs.Looked.{looked}
 use Rattle.prover_core.proofs.KnownResults.{on_ok}
 use Rattle.reply_outbox.specs.declared.item.Item.TheVariants.{Made}
 use Rattle.reply_writing.specs.declared.told.Told.TheVariants as tells
@@ -8,12 +7,11 @@ use Rattle.session_rules.specs.declared.entry.Entry.TheVariants as entry
 use Rattle.session_rules.specs.Services.{free_workers}
 use Rattle.session_replies.specs.Spelling.{spelling}
 use Rattle.session_lists.specs.Items.{SessionItem}
-use Rattle.session_states.specs.Kept.{session_of}
 use Rattle.document_session.specs.Answers.{IsIdle}
 use Rattle.document_session.specs.Contents.{SessionState}
 use Rattle.document_session.proofs.Claims.{the_part, claimed_kept, claimed_so}
 use Rattle.document_session.proofs.Inside.{known_inside, known_outside}
-use Rattle.document_session.proofs.Rooms.{state}
+use Rattle.document_session.proofs.Rooms.{state_kept}
 use Rattle.document_session.proofs.Still.{still_kept}
 use Rattle.document_session.proofs.session.Session.claim.Goals as goal
 
@@ -58,9 +56,7 @@ pub invariant_of-self-in-Job : goal.invariant_of-self-in-Job
 invariant_of-self-in-Job g c =
     let l = g.L.Language.lang in
     let k = c.self.invariant in
-    let inside = c.self.inside in
-    let s = session_of inside.buffer inside.core.past inside.protocol inside.called in
-    claimed_kept l inside.service (state inside.outbox s inside.last inside.held (λ who. looked inside.jobs who)) c.args.who _ c.in-Job.job _
+    claimed_kept l c.self.inside.service (state_kept k) c.args.who _ c.in-Job.job _
     (sym c.first.ensures ∙ c.in-Some.is) c.in-Job.ensures.claimed c.free_laws.ensures k
     (known_inside l (λ service t. c.args.who ≤ free_workers service) _ _ _ _ c.self.view_is k.listed c.requires.who)
     c.make_room.new.outbox c.add.new.self c.make_room.ensures.items c.make_room.ensures.waiting
@@ -69,9 +65,7 @@ invariant_of-self-in-Job g c =
 
 pub returns-in-Job-clause-claimed : goal.returns-in-Job-clause-claimed
 returns-in-Job-clause-claimed g c =
-    let inside = c.self.inside in
-    let s = session_of inside.buffer inside.core.past inside.protocol inside.called in
-    claimed_so g.L.Language.lang inside.service (state inside.outbox s inside.last inside.held (λ who. looked inside.jobs who)) c.args.who _ c.in-Job.job _
+    claimed_so g.L.Language.lang c.self.inside.service (state_kept c.self.invariant) c.args.who _ c.in-Job.job _
     (sym c.first.ensures ∙ c.in-Some.is) c.in-Job.ensures.claimed c.add.new.self _ c.self.view_is (invariant_of-self-in-Job g c)
     (c.add.ensures.items ∙ ap (λ (is : List SessionItem). Made (entry.Claimed c.args.who c.in-Some.first) ∷ is)
     c.make_room.ensures.items) c.new.result c.new.ensures

@@ -3,7 +3,7 @@ use Rattle.core_rules.specs.declared.event.Event.{Event}
 use Rattle.prover_core.specs.Looked.{looked}
 use Rattle.session_states.specs.Kept.{session_of, IsKept}
 use Rattle.document_session.proofs.Inside.{going_on}
-use Rattle.document_session.proofs.Rooms.{state}
+use Rattle.document_session.proofs.Rooms.{state_kept}
 use Rattle.document_session.proofs.session.Session.end.Goals as goal
 
 pub end-requires-clause-going : goal.end-requires-clause-going
@@ -13,9 +13,7 @@ pub invariant_of-self : goal.invariant_of-self
 invariant_of-self g c =
     let l = g.L.Language.lang in
     let k = c.self.invariant in
-    let inside = c.self.inside in
-    let s = session_of inside.buffer inside.core.past inside.protocol inside.called in
-    subst (λ (past : List Event). IsKept l inside.service c.add.new.self (session_of inside.buffer past inside.protocol inside.called)
-    inside.last inside.held (λ who. looked inside.jobs who)) (sym c.end.ensures.past)
-    (c.writer_laws.ensures.ended inside.service (state inside.outbox s inside.last inside.held (λ who. looked inside.jobs who)) _ k
-    (going_on l _ _ _ s c.self.view_is k.listed c.requires.going) c.add.ensures.items c.add.ensures.waiting c.add.ensures.free)
+    subst (λ (past : List Event). IsKept l c.self.inside.service c.add.new.self (session_of c.self.inside.buffer past c.self.inside.protocol c.self.inside.called)
+    c.self.inside.last c.self.inside.held (λ who. looked c.self.inside.jobs who)) (sym c.end.ensures.past)
+    (c.writer_laws.ensures.ended c.self.inside.service (state_kept k) _ k
+    (going_on l _ _ _ _ c.self.view_is k.listed c.requires.going) c.add.ensures.items c.add.ensures.waiting c.add.ensures.free)

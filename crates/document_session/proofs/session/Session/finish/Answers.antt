@@ -1,5 +1,4 @@
 use Rattle.std.proofs.Common.{◌≤◌, subst, arith}
-use Rattle.prover_core.specs.Looked.{looked}
 use Rattle.session_rules.specs.Services.{free_workers}
 use Rattle.session_states.specs.Kept.{session_of}
 use Rattle.session_states.specs.Works.{IsDoneWorkOf}
@@ -7,7 +6,7 @@ use Rattle.document_session.specs.Contents.{SessionState}
 use Rattle.document_session.specs.Answers.{FinishedSo}
 use Rattle.document_session.proofs.Holding.{one_held}
 use Rattle.document_session.proofs.Inside.{known_inside}
-use Rattle.document_session.proofs.Rooms.{state}
+use Rattle.document_session.proofs.Rooms.{state_kept}
 use Rattle.document_session.proofs.Worked.{finished_so}
 use Rattle.document_session.proofs.session.Session.finish.Goals as goal
 
@@ -39,11 +38,9 @@ pub invariant_of-self : goal.invariant_of-self
 invariant_of-self g c =
     let l = g.L.Language.lang in
     let k = c.self.invariant in
-    let inside = c.self.inside in
-    let s = session_of inside.buffer inside.core.past inside.protocol inside.called in
     let work = known_inside l (λ service t. IsDoneWorkOf l t c.args.who c.args.done) _ _ _ _ c.self.view_is k.listed c.requires.done in
-    let one = one_held inside.core.past c.args.who inside.held c.args.done.done.part k.holders_are work.holds in
-    c.free_laws.ensures.finished inside.service (state inside.outbox s inside.last inside.held (λ who. looked inside.jobs who))
+    let one = one_held c.self.inside.core.past c.args.who c.self.inside.held c.args.done.done.part k.holders_are work.holds in
+    c.free_laws.ensures.finished c.self.inside.service (state_kept k)
     c.args.who c.args.done c.take_in-finish.result _ _ _ k
     (known_inside l (λ service t. c.args.who ≤ free_workers service) _ _ _ _ c.self.view_is k.listed c.requires.who)
     work c.take_in-finish.ensures.finished c.take_in-finish.ensures.items c.take_in-finish.ensures.waiting c.take_in-finish.ensures.free

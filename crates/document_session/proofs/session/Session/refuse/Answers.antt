@@ -1,20 +1,16 @@
 use Rattle.std.proofs.Common.{◌≡◌, Err}
 use Rattle.message_values.specs.Asked.{asked}
-use Rattle.prover_core.specs.Looked.{looked}
 use Rattle.session_rules.specs.Services.{mode_of}
 use Rattle.session_rules.specs.Accepting.{taken}
-use Rattle.session_states.specs.Kept.{session_of}
 use Rattle.document_session.proofs.Inside.{going_on, known_inside}
-use Rattle.document_session.proofs.Rooms.{state, replied_by}
+use Rattle.document_session.proofs.Rooms.{state_kept, replied_by}
 use Rattle.document_session.proofs.session.Session.refuse.Goals as goal
 
 pub invariant_of-self-2 : goal.invariant_of-self-2
 invariant_of-self-2 g c =
     let l = g.L.Language.lang in
     let k = c.self.invariant in
-    let inside = c.self.inside in
-    let s = session_of inside.buffer inside.core.past inside.protocol inside.called in
-    c.look_laws.ensures.refused inside.service (state inside.outbox s inside.last inside.held (λ who. looked inside.jobs who))
+    c.look_laws.ensures.refused c.self.inside.service (state_kept k)
     c.args.message c.args.reason _
     (replied_by l _ _ _ _ _ _ k _ _ _ _ _ c.in_ok-reply.ensures (going_on l _ _ _ _ c.self.view_is k.listed c.requires.going)
     c.make_room.ensures.items c.make_room.ensures.waiting c.in_ok-make_room.ensures.ok

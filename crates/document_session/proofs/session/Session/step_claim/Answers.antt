@@ -1,6 +1,6 @@
-use Rattle.std.proofs.Common.{◌≡◌, ℕ, ◌+◌, IfOk, inl, refl, sym, ap, subst, ◌∙◌, arith}
-use Rattle.std.specs.Prelude.{OnErr}
+use Rattle.std.proofs.Common.{◌≡◌, ℕ, ◌+◌, Ok, inl, refl, sym, ap, ◌∙◌, arith}
 use Rattle.pide_base.specs.declared.part.Part.{Part}
+use Rattle.message_values.specs.Asked.{asked}
 use Rattle.message_values.specs.declared.editor_message.EditorMessage.TheVariants as asks
 use Rattle.prover_core.specs.Looked.{looked}
 use Rattle.reply_writing.specs.declared.told.Told.TheVariants as tells
@@ -8,17 +8,32 @@ use Rattle.session_rules.specs.declared.entry.Entry.TheVariants as entry
 use Rattle.session_rules.specs.Services.{mode_of}
 use Rattle.session_rules.proofs.KnownScript.{script_claims}
 use Rattle.session_replies.specs.Spelling.{spelling}
-use Rattle.session_states.specs.Kept.{session_of}
-use Rattle.document_session.specs.Answers.{TakenSo}
-use Rattle.document_session.specs.Contents.{SessionState}
 use Rattle.document_session.proofs.Claims.{the_part}
 use Rattle.document_session.proofs.Idle.{nothing_claimed}
 use Rattle.document_session.proofs.Inside.{going_on}
-use Rattle.document_session.proofs.Rooms.{state}
-use Rattle.document_session.proofs.Steps.{claim_read, step_added, step_claimed, step_claim_answered}
-use Rattle.document_session.proofs.Still.{asked_inside, still, still_going, still_kept}
+use Rattle.document_session.proofs.Rooms.{session_kept, state_kept}
+use Rattle.document_session.proofs.Steps.{claim_read, IsStepAdded, step_added, step_claimed, step_claim_answered}
+use Rattle.document_session.proofs.Still.{asked_inside, still_err, still_going, still_kept, still_taken}
 use Rattle.document_session.proofs.Tables.{no_job}
+use Rattle.document_session.proofs.session.Session.step_claim.Given.{Over}
 use Rattle.document_session.proofs.session.Session.step_claim.Goals as goal
+use Rattle.document_session.proofs.session.Session.step_claim.Goals.{After-number_of-who, After-add-in-Job}
+
+-- the message asks for a claim of the worker of this number
+claims : (g : Over) (c : After-number_of-who g) → asked (mode_of c.self.inside.service) c.args.message ≡ Ok (asks.Claim c.number_of-who.result)
+claims g c =
+    claim_read (mode_of c.self.inside.service) c.args.message c.args.worker c.number_of-who.result
+    (asked_inside c.self.inside.service c.self.inside.outbox _ c.self.view_is c.args.message _ c.requires.read) c.number_of-who.ensures.value
+
+-- the entries of the message and of its claim are added
+added : (g : Over) (c : After-add-in-Job g) → IsStepAdded c.self.inside.outbox c.add-in-Job.new.self c.args.message (entry.Claimed c.number_of-who.result c.in-Some.first)
+    (spelling (tells.Claimed c.number_of-who.result c.in-Some.first)) (c.self.inside.held + 2)
+added g c =
+    let told = c.in_ok-claimed.ensures ∙ ap (λ (n : ℕ). spelling (tells.Claimed n c.in-Some.first)) (sym c.number_of-who.ensures.value) in
+    step_added c.self.inside.outbox c.make_room.new.outbox c.add.new.self c.add-in-Job.new.self c.args.message
+    (entry.Claimed c.number_of-who.result c.in-Some.first) c.in_ok-claimed.claimed.items _ c.self.inside.held 3 (c.self.inside.held + 2) c.make_room.ensures.items
+    c.make_room.ensures.waiting c.in_ok-make_room.ensures.ok (omega arith) c.add.ensures.items c.add.ensures.waiting c.add.ensures.free
+    c.add-in-Job.ensures.items c.add-in-Job.ensures.waiting c.add-in-Job.ensures.free told
 
 pub invariant_of-self-in_err-reserve_one : goal.invariant_of-self-in_err-reserve_one
 invariant_of-self-in_err-reserve_one g c = still_kept g.L.Language.lang _ _ c.make_room.new.outbox _ _ _ _ _ c.self.invariant c.make_room.ensures.items
@@ -29,29 +44,20 @@ invariant_of-self-in_default g c = still_kept g.L.Language.lang _ _ c.make_room.
     c.make_room.ensures.waiting c.make_room.ensures.free _ refl c.reserve_one.ensures.things
 
 pub refuse-requires-clause-going : goal.refuse-requires-clause-going
-refuse-requires-clause-going g c κs within = still_going g.L.Language.lang c.self.inside.service c.self.inside.outbox c.make_room.new.outbox _
-    c.self.view_is c.make_room.ensures.items c.make_room.ensures.waiting c.requires.going
+refuse-requires-clause-going g c κs within = still_going g.L.Language.lang c.self.inside.service c.self.inside.outbox c.make_room.new.outbox _ c.self.view_is c.make_room.ensures.items c.make_room.ensures.waiting c.requires.going
 
 pub refuse-requires-clause-refused : goal.refuse-requires-clause-refused
 refuse-requires-clause-refused g c κs within =
-    let l = g.L.Language.lang in
-    let inside = c.self.inside in
-    let s = session_of inside.buffer inside.core.past inside.protocol inside.called in
-    let read = asked_inside inside.service inside.outbox _ c.self.view_is c.args.message _ c.requires.read in
-    let going = going_on l _ _ _ _ c.self.view_is c.self.invariant.listed c.requires.going in
-    nothing_claimed l inside.service inside.outbox c.make_room.new.outbox s c.self.invariant.listed c.make_room.ensures.items c.args.message
-    c.args.worker read going (inl (sym c.first.ensures ∙ c.in_default.is))
+    nothing_claimed g.L.Language.lang c.self.inside.service c.self.inside.outbox c.make_room.new.outbox (session_kept c.self.invariant) c.self.invariant.listed c.make_room.ensures.items c.args.message
+    c.args.worker (asked_inside c.self.inside.service c.self.inside.outbox _ c.self.view_is c.args.message _ c.requires.read)
+    (going_on g.L.Language.lang _ _ _ _ c.self.view_is c.self.invariant.listed c.requires.going) (inl (sym c.first.ensures ∙ c.in_default.is))
 
 pub returns-in_default-clause-taken : goal.returns-in_default-clause-taken
 returns-in_default-clause-taken g c =
-    subst (λ (x : SessionState). IfOk c.refuse.result (λ t. TakenSo g.L.Language.lang x.service c.args.message x.items t c.refuse.new.self.items))
-    (still c.self.inside.service c.self.inside.outbox c.make_room.new.outbox _ c.self.view_is c.make_room.ensures.items c.make_room.ensures.waiting)
-    c.refuse.ensures.taken
+    still_taken g.L.Language.lang c.self.inside.service c.self.inside.outbox c.make_room.new.outbox _ c.self.view_is c.make_room.ensures.items c.make_room.ensures.waiting c.args.message c.refuse.result c.refuse.new.self.items c.refuse.ensures.taken
 
 pub returns-in_default-clause-err : goal.returns-in_default-clause-err
-returns-in_default-clause-err g c = subst (λ (x : SessionState). OnErr c.refuse.result (c.refuse.new.self ≡ x))
-    (still c.self.inside.service c.self.inside.outbox c.make_room.new.outbox _ c.self.view_is c.make_room.ensures.items c.make_room.ensures.waiting)
-    c.refuse.ensures.err
+returns-in_default-clause-err g c = still_err c.self.inside.service c.self.inside.outbox c.make_room.new.outbox _ c.self.view_is c.make_room.ensures.items c.make_room.ensures.waiting c.refuse.result c.refuse.new.self c.refuse.ensures.err
 
 pub invariant_of-self-in_err-claimed : goal.invariant_of-self-in_err-claimed
 invariant_of-self-in_err-claimed g c = still_kept g.L.Language.lang _ _ c.make_room.new.outbox _ _ _ _ _ c.self.invariant c.make_room.ensures.items
@@ -66,29 +72,20 @@ invariant_of-self-in-Nothing g c = still_kept g.L.Language.lang _ _ c.make_room.
     c.make_room.ensures.waiting c.make_room.ensures.free _ c.in-Nothing.ensures.claimed.1 c.reserve_one.ensures.things
 
 pub refuse-requires-in-Nothing-clause-going : goal.refuse-requires-in-Nothing-clause-going
-refuse-requires-in-Nothing-clause-going g c κs within = still_going g.L.Language.lang c.self.inside.service c.self.inside.outbox c.make_room.new.outbox _
-    c.self.view_is c.make_room.ensures.items c.make_room.ensures.waiting c.requires.going
+refuse-requires-in-Nothing-clause-going g c κs within = still_going g.L.Language.lang c.self.inside.service c.self.inside.outbox c.make_room.new.outbox _ c.self.view_is c.make_room.ensures.items c.make_room.ensures.waiting c.requires.going
 
 pub refuse-requires-in-Nothing-clause-refused : goal.refuse-requires-in-Nothing-clause-refused
 refuse-requires-in-Nothing-clause-refused g c κs within =
-    let l = g.L.Language.lang in
-    let inside = c.self.inside in
-    let s = session_of inside.buffer inside.core.past inside.protocol inside.called in
-    let read = asked_inside inside.service inside.outbox _ c.self.view_is c.args.message _ c.requires.read in
-    let going = going_on l _ _ _ _ c.self.view_is c.self.invariant.listed c.requires.going in
-    nothing_claimed l inside.service inside.outbox c.make_room.new.outbox s c.self.invariant.listed c.make_room.ensures.items c.args.message
-    c.number_of-who.result (claim_read (mode_of inside.service) c.args.message c.args.worker c.number_of-who.result read c.number_of-who.ensures.value) going c.in-Nothing.ensures.claimed.0
+    nothing_claimed g.L.Language.lang c.self.inside.service c.self.inside.outbox c.make_room.new.outbox (session_kept c.self.invariant) c.self.invariant.listed c.make_room.ensures.items c.args.message
+    c.number_of-who.result (claims g (goal.at.refuse-requires-in-Nothing-clause-refused g c).After-number_of-who)
+    (going_on g.L.Language.lang _ _ _ _ c.self.view_is c.self.invariant.listed c.requires.going) c.in-Nothing.ensures.claimed.0
 
 pub returns-in-Nothing-clause-taken : goal.returns-in-Nothing-clause-taken
 returns-in-Nothing-clause-taken g c =
-    subst (λ (x : SessionState). IfOk c.refuse-in-Nothing.result (λ t. TakenSo g.L.Language.lang x.service c.args.message x.items t c.refuse-in-Nothing.new.self.items))
-    (still c.self.inside.service c.self.inside.outbox c.make_room.new.outbox _ c.self.view_is c.make_room.ensures.items c.make_room.ensures.waiting)
-    c.refuse-in-Nothing.ensures.taken
+    still_taken g.L.Language.lang c.self.inside.service c.self.inside.outbox c.make_room.new.outbox _ c.self.view_is c.make_room.ensures.items c.make_room.ensures.waiting c.args.message c.refuse-in-Nothing.result c.refuse-in-Nothing.new.self.items c.refuse-in-Nothing.ensures.taken
 
 pub returns-in-Nothing-clause-err : goal.returns-in-Nothing-clause-err
-returns-in-Nothing-clause-err g c = subst (λ (x : SessionState). OnErr c.refuse-in-Nothing.result (c.refuse-in-Nothing.new.self ≡ x))
-    (still c.self.inside.service c.self.inside.outbox c.make_room.new.outbox _ c.self.view_is c.make_room.ensures.items c.make_room.ensures.waiting)
-    c.refuse-in-Nothing.ensures.err
+returns-in-Nothing-clause-err g c = still_err c.self.inside.service c.self.inside.outbox c.make_room.new.outbox _ c.self.view_is c.make_room.ensures.items c.make_room.ensures.waiting c.refuse-in-Nothing.result c.refuse-in-Nothing.new.self c.refuse-in-Nothing.ensures.err
 
 pub invariant_of-self-in-NoMemory-1 : goal.invariant_of-self-in-NoMemory-1
 invariant_of-self-in-NoMemory-1 g c = still_kept g.L.Language.lang _ _ c.make_room.new.outbox _ _ _ _ _ c.self.invariant c.make_room.ensures.items
@@ -96,9 +93,8 @@ invariant_of-self-in-NoMemory-1 g c = still_kept g.L.Language.lang _ _ c.make_ro
 
 pub put-requires-clause-new : goal.put-requires-clause-new
 put-requires-clause-new g c =
-    let inside = c.self.inside in
-    let s = session_of inside.buffer inside.core.past inside.protocol inside.called in
-    c.reserve_one.ensures.things c.number_of-who.result ∙ no_job g.L.Language.lang inside.service s (λ w. looked inside.jobs w) c.self.invariant.jobs_are c.number_of-who.result
+    c.reserve_one.ensures.things c.number_of-who.result
+    ∙ no_job g.L.Language.lang c.self.inside.service (session_kept c.self.invariant) (λ w. looked c.self.inside.jobs w) c.self.invariant.jobs_are c.number_of-who.result
     c.in-Job.ensures.claimed.0
 
 pub new-requires : goal.new-requires
@@ -111,38 +107,20 @@ overflow_add-self g c = omega (arith, c.in_ok-make_room.ensures.fits)
 
 pub invariant_of-self-in-Job : goal.invariant_of-self-in-Job
 invariant_of-self-in-Job g c =
-    let l = g.L.Language.lang in
     let k = c.self.invariant in
-    let inside = c.self.inside in
-    let s = session_of inside.buffer inside.core.past inside.protocol inside.called in
-    let st = state inside.outbox s inside.last inside.held (λ who. looked inside.jobs who) in
-    let read = asked_inside inside.service inside.outbox _ c.self.view_is c.args.message _ c.requires.read in
-    let script = script_claims inside.service ((c.a_message_is_asked_where_it_is_spelled.ensures (mode_of inside.service) c.args.message
-    (asks.Claim c.args.worker)).0 read).2 in
-    let told = c.in_ok-claimed.ensures ∙ ap (λ (n : ℕ). spelling (tells.Claimed n c.in-Some.first)) (sym c.number_of-who.ensures.value) in
-    let added = step_added inside.outbox c.make_room.new.outbox c.add.new.self c.add-in-Job.new.self c.args.message
-    (entry.Claimed c.number_of-who.result c.in-Some.first) c.in_ok-claimed.claimed.items _ inside.held 3 (inside.held + 2) c.make_room.ensures.items
-    c.make_room.ensures.waiting c.in_ok-make_room.ensures.ok (omega arith) c.add.ensures.items c.add.ensures.waiting c.add.ensures.free
-    c.add-in-Job.ensures.items c.add-in-Job.ensures.waiting c.add-in-Job.ensures.free told in
-    step_claimed l inside.service st k c.args.message c.number_of-who.result (claim_read (mode_of inside.service) c.args.message c.args.worker c.number_of-who.result read c.number_of-who.ensures.value) c.in-Some.first c.in-Job.job _
-    (sym c.first.ensures ∙ c.in-Some.is) c.in-Job.ensures.claimed c.add-in-Job.new.self added c.step_laws.ensures script c.number_of-who.ensures.range
+    let here = goal.at.invariant_of-self-in-Job g c in
+    let script = script_claims c.self.inside.service ((c.a_message_is_asked_where_it_is_spelled.ensures (mode_of c.self.inside.service) c.args.message
+    (asks.Claim c.args.worker)).0 (asked_inside c.self.inside.service c.self.inside.outbox _ c.self.view_is c.args.message _ c.requires.read)).2 in
+    step_claimed g.L.Language.lang c.self.inside.service (state_kept k) k c.args.message c.number_of-who.result (claims g here.After-number_of-who) c.in-Some.first c.in-Job.job _
+    (sym c.first.ensures ∙ c.in-Some.is) c.in-Job.ensures.claimed c.add-in-Job.new.self (added g here.After-add-in-Job) c.step_laws.ensures script c.number_of-who.ensures.range
     c.new.result c.new.ensures (λ w. looked c.reserve_one.new.table w) (λ w. looked c.put.new.table w) c.reserve_one.ensures.things c.put.ensures.things
 
 pub returns-in-Job-clause-taken : goal.returns-in-Job-clause-taken
 returns-in-Job-clause-taken g c =
-    let l = g.L.Language.lang in
     let k = c.self.invariant in
-    let inside = c.self.inside in
-    let s = session_of inside.buffer inside.core.past inside.protocol inside.called in
-    let st = state inside.outbox s inside.last inside.held (λ who. looked inside.jobs who) in
-    let read = asked_inside inside.service inside.outbox _ c.self.view_is c.args.message _ c.requires.read in
-    let told = c.in_ok-claimed.ensures ∙ ap (λ (n : ℕ). spelling (tells.Claimed n c.in-Some.first)) (sym c.number_of-who.ensures.value) in
-    let added = step_added inside.outbox c.make_room.new.outbox c.add.new.self c.add-in-Job.new.self c.args.message
-    (entry.Claimed c.number_of-who.result c.in-Some.first) c.in_ok-claimed.claimed.items _ inside.held 3 (inside.held + 2) c.make_room.ensures.items
-    c.make_room.ensures.waiting c.in_ok-make_room.ensures.ok (omega arith) c.add.ensures.items c.add.ensures.waiting c.add.ensures.free
-    c.add-in-Job.ensures.items c.add-in-Job.ensures.waiting c.add-in-Job.ensures.free told in
-    step_claim_answered l inside.service st k c.args.message c.number_of-who.result (claim_read (mode_of inside.service) c.args.message c.args.worker c.number_of-who.result read c.number_of-who.ensures.value) c.in-Some.first c.in-Job.job _
-    (sym c.first.ensures ∙ c.in-Some.is) c.in-Job.ensures.claimed c.add-in-Job.new.self added _ c.self.view_is
+    let here = goal.at.returns-in-Job-clause-taken g c in
+    step_claim_answered g.L.Language.lang c.self.inside.service (state_kept k) k c.args.message c.number_of-who.result (claims g here.After-number_of-who) c.in-Some.first c.in-Job.job _
+    (sym c.first.ensures ∙ c.in-Some.is) c.in-Job.ensures.claimed c.add-in-Job.new.self (added g here.After-add-in-Job) _ c.self.view_is
 
 pub returns-in-Job-clause-legal : goal.returns-in-Job-clause-legal
 returns-in-Job-clause-legal g c = (invariant_of-self-in-Job g c).listed.legal

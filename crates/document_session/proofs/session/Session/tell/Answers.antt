@@ -1,25 +1,21 @@
 use Rattle.std.proofs.Common.{refl}
 use Rattle.message_values.specs.Asked.{asked}
-use Rattle.prover_core.specs.Looked.{looked}
 use Rattle.session_rules.specs.Services.{mode_of}
-use Rattle.session_states.specs.Kept.{session_of}
 use Rattle.session_states.specs.Looks.{IsLook}
 use Rattle.document_session.proofs.Inside.{going_on, known_inside}
-use Rattle.document_session.proofs.Rooms.{state, replied_by}
+use Rattle.document_session.proofs.Rooms.{state_kept, replied_by}
 use Rattle.document_session.proofs.session.Session.tell.Goals as goal
 
 pub invariant_of-self-2 : goal.invariant_of-self-2
 invariant_of-self-2 g c =
     let l = g.L.Language.lang in
     let k = c.self.invariant in
-    let inside = c.self.inside in
-    let s = session_of inside.buffer inside.core.past inside.protocol inside.called in
-    c.look_laws.ensures.looked inside.service (state inside.outbox s inside.last inside.held (λ who. looked inside.jobs who))
+    c.look_laws.ensures.looked c.self.inside.service (state_kept k)
     c.args.message c.args.reply.items _
-    (replied_by l inside.service inside.outbox s inside.last inside.held (λ who. looked inside.jobs who) k _ _ _ _ _ refl (going_on l _ _ _ s c.self.view_is k.listed c.requires.going)
+    (replied_by l _ _ _ _ _ _ k _ _ _ _ _ refl (going_on l _ _ _ _ c.self.view_is k.listed c.requires.going)
     c.make_room.ensures.items c.make_room.ensures.waiting c.in_ok-make_room.ensures.ok
     c.add.ensures.items c.add.ensures.waiting c.add.ensures.free)
-    (known_inside l (λ service t. IsLook l service t (asked (mode_of service) c.args.message) c.args.reply.items) _ _ _ s
+    (known_inside l (λ service t. IsLook l service t (asked (mode_of service) c.args.message) c.args.reply.items) _ _ _ _
     c.self.view_is k.listed c.requires.told)
 
 pub returns-clause-legal : goal.returns-clause-legal
