@@ -31,6 +31,36 @@ fn parted(command: &str) -> (&str, Option<&str>) {
     }
 }
 
+/// The state behind a command.
+fn behind(made: Made<State>) -> State {
+    let Made { state, .. } = made;
+    state
+}
+
+/// What a command makes; behind `@` stands the text of the blob that it asks for.
+fn tried(alloc: Global, command: &str, before: &State) -> Result<Made<State>, Fail> {
+    let (source, blob) = parted(command);
+    let source = scalars(alloc, source)?;
+    match blob {
+        Some(blob) => made(alloc, &source, Some(&scalars(alloc, blob)?), before),
+        None => made(alloc, &source, None, before),
+    }
+}
+
+/// Adds what is told of a command.
+fn tell_made(
+    alloc: Global,
+    text: &mut String,
+    command: &str,
+    before: &State,
+    made: &Made<State>,
+) -> Result<(), Fail> {
+    let (source, _) = parted(command);
+    let source = scalars(alloc, source)?;
+    text.push_str(told(alloc, &source, before, made)?.as_str())?;
+    Ok(())
+}
+
 /// Adds what is told of a command, and gives the state behind it.
 fn tell_command(
     alloc: Global,
@@ -38,16 +68,9 @@ fn tell_command(
     command: &str,
     before: &State,
 ) -> Result<State, Fail> {
-    let (source, blob) = parted(command);
-    let source = scalars(alloc, source)?;
-    let blob = match blob {
-        Some(blob) => Some(scalars(alloc, blob)?),
-        None => None,
-    };
-    let made = made(alloc, &source, blob.as_deref(), before)?;
-    text.push_str(told(alloc, &source, before, &made)?.as_str())?;
-    let Made { state, .. } = made;
-    Ok(state)
+    let made = tried(alloc, command, before)?;
+    tell_made(alloc, text, command, before, &made)?;
+    Ok(behind(made))
 }
 
 /// Adds a command's line, and gives the state in which the next one stands.
