@@ -1,6 +1,5 @@
 -- What is reported of a fork stands on the command's tokens, or is of the whole command.
-use Rattle.std.proofs.Common.{◌≡◌, ℕ, Bool, true, false, if◌then◌else◌, List, [], ◌∷◌, ◌++◌, drop, Result, Ok, Err, refl, inl, inr, subst}
-use Rattle.std.specs.Bool.{⊤}
+use Rattle.std.proofs.Common.{◌≡◌, ℕ, Bool, true, false, if◌then◌else◌, List, [], ◌∷◌, ◌++◌, drop, Result, Ok, Err, refl, inl, inr}
 use Rattle.std.specs.List.{AllByRecursion, list_any}
 use Rattle.text_words.proofs.KnownLists.{each-both, each-part}
 use Rattle.pide_base.specs.declared.range.Range.{Range}

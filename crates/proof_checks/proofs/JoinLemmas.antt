@@ -1,5 +1,5 @@
 -- What is found of a rule, by what is found of its last part.
-use Rattle.std.proofs.Common.{◌≡◌, ℕ, List, Option, Result, Ok, Err, OnOk, refl, sym, ◌∙◌, subst}
+use Rattle.std.proofs.Common.{◌≡◌, ℕ, List, Option, Result, Ok, Err, OnOk, refl, sym, subst}
 use Rattle.nj_formula.specs.Statement.{Statement}
 use Rattle.nj_kernel.specs.declared.thm.Thm.{Thm}
 use Rattle.nj_kernel.specs.Sets.{members, Lists}

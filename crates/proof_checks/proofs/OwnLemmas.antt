@@ -1,13 +1,11 @@
 -- A part is checked in the scope with its own assumption.
-use Rattle.std.proofs.Common.{◌≡◌, ◌∷◌, ℕ, drop, Option, Some, None, Result, Ok, Err, OnOk, refl, sym, ◌∙◌, ap, subst}
+use Rattle.std.proofs.Common.{◌≡◌, ◌∷◌, ℕ, drop, Option, Some, None, Result, Ok, Err, OnOk, sym, ◌∙◌, ap, subst}
 use Rattle.nj_formula.specs.declared.formula.Formula.{Formula}
-use Rattle.nj_formula.specs.Statement.{Statement}
 use Rattle.nj_kernel.specs.declared.thm.Thm.{Thm}
 use Rattle.theory_ctx.specs.declared.local.Local.{Local}
 use Rattle.theory_ctx.specs.Locals.{Scoped, Nested, seen}
 use Rattle.proof_checks.specs.declared.halt.Halt.{Halt}
-use Rattle.proof_checks.specs.Answers.{Gives, Asked}
-use Rattle.proof_checks.specs.Checks.{Found}
+use Rattle.proof_checks.specs.Answers.{Asked}
 use Rattle.proof_checks.specs.Scopes.{inside}
 
 pub none_inside : (own : Option Local) (scope : Scoped) → own ≡ None → scope ≡ inside own scope

@@ -1,10 +1,10 @@
 -- Rules of two and three premises.
-use Rattle.std.proofs.Common.{◌≡◌, ℕ, false, List, ◌∷◌, ◌++◌, Option, Some, None, Result, Ok, Err, refl, sym, ◌∙◌, subst}
+use Rattle.std.proofs.Common.{◌≡◌, ℕ, false, List, ◌∷◌, ◌++◌, Option, Some, None, Result, refl, sym, ◌∙◌, subst}
 use Rattle.nj_formula.specs.declared.argument.Argument.TheVariants.{Free}
 use Rattle.nj_formula.specs.Free.{is_free}
 use Rattle.nj_formula.specs.Instance.{instance}
 use Rattle.nj_formula.specs.Meaning.{meaning}
-use Rattle.nj_formula.specs.Statement.{Statement, falsity, neg, conj, disj, implies, exists}
+use Rattle.nj_formula.specs.Statement.{Statement, exists}
 use Rattle.nj_kernel.specs.declared.rule.Rule.TheVariants as R
 use Rattle.nj_kernel.specs.declared.thm.Thm.{Thm}
 use Rattle.nj_kernel.specs.Rules.{Answer, Makes}

@@ -1,5 +1,5 @@
 -- What the rows of the quantifiers say, where the quantifier is there.
-use Rattle.std.proofs.Common.{◌≡◌, ℕ, Bool, true, false, cond, ◌&&◌, IsTrue, List, Result, Ok, Err, sym, ◌∙◌, ap, subst}
+use Rattle.std.proofs.Common.{◌≡◌, ℕ, Bool, true, false, cond, ◌&&◌, IsTrue, List, Ok, Err, sym, ◌∙◌, ap, subst}
 use Rattle.nj_formula.specs.declared.argument.Argument.{Argument}
 use Rattle.nj_formula.specs.declared.argument.Argument.TheVariants.{Free}
 use Rattle.nj_formula.specs.declared.formula.Formula.{Formula, out-Formula, out-roll-Formula}
@@ -19,7 +19,7 @@ use Rattle.proof_checks.specs.declared.step.Unary.TheVariants as U
 use Rattle.proof_checks.specs.declared.step.Binary.TheVariants as B
 use Rattle.proof_checks.specs.Answers.{Plans}
 use Rattle.proof_checks.specs.Parts.{part, under}
-use Rattle.proof_checks.specs.Rows.{Planned, misfit, all_i, ex_i, all_e, ex_e}
+use Rattle.proof_checks.specs.Rows.{misfit, all_i, ex_i, all_e, ex_e}
 use Rattle.proof_checks.specs.Statements.{is_same}
 
 out-All : (f : Formula) (y : List ℕ) (body : Formula) → f ≡ All y body → out-Formula f ≡ Formula-F.All y body

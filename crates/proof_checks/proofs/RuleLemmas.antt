@@ -1,28 +1,25 @@
 -- Each rule of the kernel makes the goal of premises that fit.
-use Rattle.std.proofs.Common.{◌≡◌, ℕ, false, List, ◌∷◌, ◌++◌, Option, Some, None, Result, Ok, Err, refl, sym, subst}
+use Rattle.std.proofs.Common.{◌≡◌, ℕ, false, List, ◌∷◌, Option, Some, None, Result, refl, sym, subst}
 use Rattle.nj_formula.specs.declared.argument.Argument.TheVariants.{Free}
 use Rattle.nj_formula.specs.Free.{is_free}
 use Rattle.nj_formula.specs.Instance.{instance}
 use Rattle.nj_formula.specs.Meaning.{meaning}
-use Rattle.nj_formula.specs.Statement.{Statement, falsity, every, exists}
+use Rattle.nj_formula.specs.Statement.{Statement, every}
 use Rattle.nj_kernel.specs.declared.rule.Rule.TheVariants as R
 use Rattle.nj_kernel.specs.declared.thm.Thm.{Thm}
 use Rattle.nj_kernel.specs.Rules.{Answer, Makes}
 use Rattle.nj_kernel.specs.Rules as K
-use Rattle.nj_kernel.specs.Sets.{members, ◌∪◌, ◌∖◌, Lists, IsFreshIn}
+use Rattle.nj_kernel.specs.Sets.{members, ◌∖◌, Lists, IsFreshIn}
 use Rattle.theory_ctx.specs.declared.local.Local.{Local}
 use Rattle.proof_checks.specs.declared.halt.Halt.{Halt}
 use Rattle.proof_checks.specs.declared.step.Unary.{Unary}
 use Rattle.proof_checks.specs.declared.step.Unary.TheVariants.{ConjE1, ConjE2, DisjI1, DisjI2, ImpI, NotI, FalseE, AllI, AllE, ExI}
-use Rattle.proof_checks.specs.declared.step.Binary.{Binary}
-use Rattle.proof_checks.specs.declared.step.Binary.TheVariants.{ConjI, ImpE, NotE, ExE}
 use Rattle.proof_checks.specs.Answers.{Gives}
-use Rattle.proof_checks.specs.Checks.{by_one, by_two, by_three, if_fresh}
-use Rattle.proof_checks.specs.Fits.{FitsOne, FitsTwo, FitsThree, fresh_one, fresh_two}
-use Rattle.proof_checks.specs.Kernel.{OneAnswers, TwoAnswers, IsFit, Settles}
+use Rattle.proof_checks.specs.Checks.{by_one, if_fresh}
+use Rattle.proof_checks.specs.Fits.{FitsOne, fresh_one}
+use Rattle.proof_checks.specs.Kernel.{OneAnswers, IsFit, Settles}
 use Rattle.proof_checks.specs.Scopes.{remaining}
-use Rattle.proof_checks.specs.Statements.{without}
-use Rattle.proof_checks.proofs.SetLemmas.{Same, joined, left_out}
+use Rattle.proof_checks.proofs.SetLemmas.{Same, left_out}
 use Rattle.proof_checks.proofs.SettleLemmas.{fit_made, made, depending}
 use Rattle.proof_checks.proofs.KnownStatements.{fresh_among, among_fresh, first_fresh, more_fresh}
 

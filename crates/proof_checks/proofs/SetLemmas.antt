@@ -1,5 +1,5 @@
 -- Lists of sets.
-use Rattle.std.proofs.Common.{◌≡◌, ◌⊎◌, ◌↔◌, List, [], ◌∷◌, ◌++◌, inl, inr, ⊎_elim}
+use Rattle.std.proofs.Common.{◌⊎◌, ◌↔◌, List, ◌++◌, inl, inr, ⊎_elim}
 use Rattle.nj_formula.specs.Statement.{Statement}
 use Rattle.nj_kernel.specs.Sets.{members, ◌∪◌, ◌∖◌, Lists}
 use Rattle.proof_state.proofs.KnownSets.{in_left, in_right, in_either}

@@ -1,12 +1,12 @@
 -- What becomes of the kernel's answers.
-use Rattle.std.proofs.Common.{◌≡◌, ℕ, Bool, true, false, cond, List, ◌∷◌, Option, Some, None, Result, Ok, Err, refl, sym, ◌∙◌, ap, subst}
+use Rattle.std.proofs.Common.{◌≡◌, ℕ, Bool, true, false, cond, List, Option, Some, None, Result, Ok, Err, refl, sym, ◌∙◌, ap, subst}
 use Rattle.nj_formula.specs.Statement.{Statement}
 use Rattle.nj_kernel.specs.declared.rule.Rule.{Rule}
 use Rattle.nj_kernel.specs.declared.thm.Thm.{Thm}
 use Rattle.nj_kernel.specs.declared.fault.RuleError.TheVariants as E
 use Rattle.nj_kernel.specs.Rules.{Answer, Makes, Misfits, Depending}
-use Rattle.nj_kernel.specs.Sets.{members, Lists}
-use Rattle.nj_kernel.specs.Theorem.{assumed, shown}
+use Rattle.nj_kernel.specs.Sets.{members}
+use Rattle.nj_kernel.specs.Theorem.{assumed}
 use Rattle.proof_terms.specs.declared.fault.TermFault.TheVariants.{NotFresh}
 use Rattle.proof_checks.specs.declared.halt.Halt.{Halt}
 use Rattle.proof_checks.specs.declared.halt.Halt.TheVariants.{Wrong, Stopped, NoMemory}

@@ -4,8 +4,6 @@ use Rattle.nj_formula.specs.declared.formula.Formula.{Formula}
 use Rattle.nj_formula.specs.Meaning.{meaning}
 use Rattle.nj_formula.specs.Statement.{Statement}
 use Rattle.nj_kernel.specs.declared.thm.Thm.{Thm}
-use Rattle.nj_kernel.specs.Sets.{members}
-use Rattle.nj_kernel.specs.Theorem.{assumed}
 use Rattle.proof_terms.specs.declared.term.Term.{Term}
 use Rattle.theory_ctx.specs.Locals.{Scoped}
 use Rattle.proof_checks.specs.declared.checked.Checked.{Checked}

@@ -1,12 +1,10 @@
 -- What the calls say. Want of memory is a free answer.
 use Rattle.std.specs.Prelude.{◌≡◌, ⊤, ℕ, true, false, List, Result, Ok, Err}
 use Rattle.pide_base.specs.Faults.{CountsYes}
-use Rattle.nj_formula.specs.Meaning.{meaning}
 use Rattle.nj_formula.specs.Statement.{Statement}
 use Rattle.nj_kernel.specs.Sets.{members, Lists}
 use Rattle.nj_kernel.specs.Theorem.{assumed, shown}
 use Rattle.nj_kernel.specs.declared.thm.Thm.{Thm}
-use Rattle.proof_terms.specs.declared.fault.TermFault.{TermFault}
 use Rattle.proof_checks.specs.declared.checked.Checked.{Checked}
 use Rattle.proof_checks.specs.declared.checked.Checked.TheVariants as C
 use Rattle.proof_checks.specs.declared.halt.Halt.{Halt}

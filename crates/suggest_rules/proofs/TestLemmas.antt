@@ -1,5 +1,5 @@
 -- Tests of small statements, computed.
-use Rattle.std.proofs.Common.{◌≡◌, ◌⊎◌, ℕ, Bool, true, false, List, [], ◌∷◌, codes, bytes_eq, refl, ap, sym, inl, inr}
+use Rattle.std.proofs.Common.{◌≡◌, ◌⊎◌, ℕ, Bool, true, false, List, [], codes, bytes_eq, refl, ap, sym, inl, inr}
 use Rattle.std.proofs.lemmas.Bool.{both_ways}
 use Rattle.nj_formula.specs.declared.argument.Argument.{Argument}
 use Rattle.nj_formula.specs.Statement.{Statement, atom, conj, implies}

@@ -1,4 +1,4 @@
-use Rattle.std.proofs.Common.{◌≡◌, ◌<◌, refl, rules, arith}
+use Rattle.std.proofs.Common.{refl, rules, arith}
 use Rattle.proof_terms.specs.declared.term.Term.{out-Term}
 use Rattle.proof_checks.specs.Answers.{Plans}
 use Rattle.proof_checks.specs.Rows.{step_of}

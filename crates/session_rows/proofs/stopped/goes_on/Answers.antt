@@ -1,6 +1,5 @@
 -- The job that came back is the one that was taken.
 use Rattle.std.proofs.Common.{sym, subst}
-use Rattle.session_jobs.specs.Works.{Work}
 use Rattle.session_lists.specs.Items.{session_in}
 use Rattle.session_states.specs.Works.{IsWorkOf}
 use Rattle.session_rows.proofs.stopped.goes_on.Goals as goal
