@@ -13,6 +13,9 @@ use pide_base::Range;
 use sqlite_items::Items;
 use std::alloc::{AllocError, Global};
 
+/// Room for the tokens of a short command: with less, most commands would move theirs twice.
+const FEW: usize = 16;
+
 /// The token of the text that begins at the place, where these names are commands beside those of
 /// the language. `None` comes exactly at the text's end.
 pub fn next_token(text: &[char], names: &[Items<char>], place: usize) -> Option<Token>
@@ -41,7 +44,7 @@ pub fn lex_under(
 ) -> Result<Vec<Token>, AllocError>
     ensures { IfOk result (λ v. AreTokensUnder (λ _. is_in_force names.now) text.now v.items) }
 {
-    let mut tokens = Vec::new(alloc);
+    let mut tokens = Vec::with_capacity(alloc, FEW)?;
     let mut place = 0;
     while let Some(token) = next_token(text, names, place) {
         tokens.push(token)?;
@@ -56,7 +59,7 @@ pub fn lex_under(
 pub fn lex(alloc: Global, text: &[char], aliases: &[Items<char>]) -> Result<Vec<Token>, AllocError>
     ensures { IfOk result (λ v. AreTokens text.now aliases.now v.items) }
 {
-    let mut tokens = Vec::new(alloc);
+    let mut tokens = Vec::with_capacity(alloc, FEW)?;
     let mut stage = Stage::Start;
     let mut place = 0;
     while let Some(token) = next_token(text, given(stage, aliases), place) {

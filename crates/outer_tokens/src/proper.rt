@@ -10,7 +10,7 @@ use std::alloc::{AllocError, Global};
 pub fn proper_ones(alloc: Global, tokens: &[Token]) -> Result<Vec<Token>, AllocError>
     ensures { IfOk result (λ some. some.items ≡ proper tokens.now) }
 {
-    let mut some = Vec::new(alloc);
+    let mut some = Vec::with_capacity(alloc, tokens.len())?;
     let mut rest = tokens;
     'tokens: while let [token, more @ ..] = rest {
         if is_proper(token.kind) {
