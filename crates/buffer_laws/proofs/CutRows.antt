@@ -1,5 +1,5 @@
 -- The first row of the table that fits is the same where the text is cut behind it.
-use Rattle.std.proofs.Common.{◌≡◌, ℕ, zero, suc, ◌-◌, ◌≤◌, List, [], ◌∷◌, length, take, refl, sym, ap, subst, arith}
+use Rattle.std.proofs.Common.{◌≡◌, ℕ, zero, suc, ◌≤◌, List, [], ◌∷◌, length, take, refl, sym, ap, subst, arith}
 use Rattle.outer_tokens.specs.Rows.{HasForm, IsFirstRow}
 use Rattle.outer_tokens.specs.declared.row.Row.{Row}
 

@@ -4,7 +4,6 @@ use Rattle.std.proofs.lemmas.List.{take-append-drop}
 use Rattle.std.specs.Prelude.{slice_get}
 use Rattle.std.specs.List.{zip, range_with_len, AllByRecursion}
 use Rattle.text_words.proofs.KnownLists.{each-both, each-part}
-use Rattle.shared_map.specs.Pairs.{Each}
 use Rattle.doc_nodes.specs.Imports.{NodeList}
 use Rattle.doc_nodes.specs.Aliases.{aliases_at}
 use Rattle.doc_blobs.specs.Needs.{AliasList}

@@ -1,5 +1,5 @@
 -- What the editor's document keeps beside the core's (this project's own).
-use Rattle.std.specs.Prelude.{◌≡◌, ℕ, ◌<◌, List}
+use Rattle.std.specs.Prelude.{◌≡◌, ◌<◌}
 use Rattle.std.specs.List.{AllByRecursion}
 use Rattle.shared_map.specs.Pairs.{IsSorted}
 use Rattle.doc_nodes.specs.Names.{in_order}

@@ -1,5 +1,5 @@
 -- Which versions an update may make: what the editor's side keeps (this project's own).
-use Rattle.std.specs.Prelude.{◌≡◌, ℕ, zero, ◌<◌, ◌≤◌, ◌^◌, ◌⊎◌, false, List, [], ◌∷◌, length, slice_get, ⊤, Option, Some, None}
+use Rattle.std.specs.Prelude.{◌≡◌, ℕ, zero, ◌<◌, ◌≤◌, ◌⊎◌, false, List, [], ◌∷◌, length, slice_get, ⊤, Option, Some, None}
 use Rattle.std.specs.Option.{option_map, option_and_then}
 use Rattle.std.specs.List.{AllByRecursion}
 use Rattle.text_words.specs.Pieces.{text_between}

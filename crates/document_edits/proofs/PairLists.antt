@@ -1,6 +1,6 @@
 -- Two lists of pairs of the same keys, place by place; and sorted lists.
-use Rattle.std.proofs.Common.{◌≡◌, ℕ, zero, suc, Bool, true, false, cond, List, [], ◌∷◌, ◌++◌, length, filter, map, Option, Some, None, refl, sym, ap, subst, ◌∙◌}
-use Rattle.std.specs.Prelude.{find, slice_get}
+use Rattle.std.proofs.Common.{◌≡◌, suc, Bool, true, false, cond, List, [], ◌∷◌, ◌++◌, length, filter, Some, None, refl, sym, ap, ◌∙◌}
+use Rattle.std.specs.Prelude.{find}
 use Rattle.std.specs.Option.{option_map, option_or}
 use Rattle.std.specs.List.{AllZip}
 use Rattle.std.specs.Cmp.{IsTotalOrder}

@@ -1,10 +1,8 @@
 -- Sets of names, and what changes of blobs are told of (this project's own).
-use Rattle.std.specs.Prelude.{◌≡◌, ◌↔◌, ℕ, false, List, ◌∷◌, is_some, Result, Ok, Err}
+use Rattle.std.specs.Prelude.{◌≡◌, ◌↔◌, ℕ, false, List, is_some}
 use Rattle.shared_map.specs.Pairs.{found}
 use Rattle.doc_nodes.specs.Names.{in_order}
-use Rattle.message_values.specs.declared.item.BlobChange.{BlobChange}
-use Rattle.message_values.specs.declared.refusal.Refusal.{Refusal}
-use Rattle.buffer_rules.specs.Updates.{BlobList, is_among, blobs_after}
+use Rattle.buffer_rules.specs.Updates.{BlobList, is_among}
 
 -- a set of names, in order
 abbrev pub NameSet : Type 0

@@ -1,5 +1,5 @@
 -- A language of one length: a state is the length of the last source.
-use Rattle.std.specs.Prelude.{ℕ, false, List, [], length}
+use Rattle.std.specs.Prelude.{ℕ, false, [], length}
 use Rattle.language.specs.Lang.{Lang}
 use Rattle.language.specs.Laws.{AreTidy}
 use Rattle.language.specs.declared.made.Imports.{Imports}

@@ -1,20 +1,17 @@
 -- The new executions of a node, each with its home.
-use Rattle.std.proofs.Common.{◌≡◌, ℕ, suc, ◌+◌, ◌-◌, ◌≤◌, Bool, true, false, cond, List, [], ◌∷◌, ◌++◌, length, map, take, drop, Option, Some, refl, sym, ap, ◌∙◌, arith}
-use Rattle.std.proofs.lemmas.Bool.{ltb-true}
+use Rattle.std.proofs.Common.{◌≡◌, ℕ, suc, ◌+◌, ◌-◌, ◌≤◌, List, [], ◌∷◌, ◌++◌, length, map, take, drop, Option, Some, sym, ap, ◌∙◌, arith}
 use Rattle.std.proofs.lemmas.List.{length-append, length-map, length-take-le, length-drop}
 use Rattle.std.proofs.lemmas.List.FromFn.{length-range_with_len}
-use Rattle.std.specs.Prelude.{slice_get, nat_lt}
+use Rattle.std.specs.Prelude.{slice_get}
 use Rattle.std.specs.List.{zip, range_with_len}
-use Rattle.doc_nodes.specs.declared.node.Entry.{Entry}
 use Rattle.doc_nodes.specs.declared.node.Node.{Node}
 use Rattle.doc_nodes.specs.Wanted.{wanted_at}
 use Rattle.exec_rules.specs.declared.key.Key.{Key}
 use Rattle.exec_rules.specs.declared.row.Row.{Row}
 use Rattle.exec_rules.specs.declared.home.Home.{Home}
-use Rattle.exec_rules.specs.declared.home.Input.TheVariants.{First, Print}
-use Rattle.exec_rules.specs.Kept.{BlobList}
-use Rattle.exec_rules.specs.Rows.{evaluations, live_prints, first_print, takes_print, with_prints, behind_prints}
-use Rattle.exec_rules.specs.Homes.{home, eval_homes, print_homes}
+use Rattle.exec_rules.specs.declared.home.Input.TheVariants.{First}
+use Rattle.exec_rules.specs.Rows.{evaluations, live_prints, with_prints}
+use Rattle.exec_rules.specs.Homes.{eval_homes, print_homes}
 use Rattle.exec_rules.specs.Assigning.{Update, rows_in, kept_of, greater, head_at, given}
 use Rattle.exec_rules.proofs.KnownCounts.{greater_least, kept_of_rows, kept_of_commands}
 use Rattle.exec_rules.proofs.KnownNumbers.{print_numbers, eval_count}

@@ -1,18 +1,11 @@
 -- What a node keeps: how much at most, and that its numbers are old.
-use Rattle.std.proofs.Common.{◌≡◌, ℕ, zero, suc, ◌<◌, ◌≤◌, Bool, true, false, cond, List, [], ◌∷◌, length, map, take, Option, Some, None, refl, subst, arith}
+use Rattle.std.proofs.Common.{◌≡◌, ℕ, zero, suc, ◌<◌, Bool, true, false, cond, List, [], ◌∷◌, map, take, Option, Some, None, refl, subst}
 use Rattle.std.specs.Prelude.{slice_get}
-use Rattle.std.specs.Option.{option_map_or}
 use Rattle.import_rounds.specs.Rounds.{has}
 use Rattle.doc_nodes.specs.declared.node.Entry.{Entry}
-use Rattle.doc_nodes.specs.declared.node.Node.{Node}
-use Rattle.exec_rules.specs.declared.key.Key.{Key}
 use Rattle.exec_rules.specs.declared.row.Row.{Row}
-use Rattle.exec_rules.specs.declared.row.Assigned.{Assigned}
-use Rattle.exec_rules.specs.Keys.{same_key}
 use Rattle.exec_rules.specs.Kept.{Times, KeepsAt, kept}
 use Rattle.exec_rules.specs.Rows.{live_print, live_prints}
-use Rattle.exec_rules.specs.Assigning.{Update, assigned_in, entries_in, rows_in, times, kept_of}
-use Rattle.exec_assign.proofs.KeptLemmas.{is_kept, kept_commands, kept_rows}
 
 -- no more keep their evaluations than there are commands, or rows before
 abbrev pub AllKeep : Type 0

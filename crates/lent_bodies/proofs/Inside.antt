@@ -1,5 +1,5 @@
 -- What stands in an element, and what behind it.
-use Rattle.std.proofs.Common.{◌≡◌, ℕ, zero, suc, ◌+◌, ◌-◌, ◌<◌, List, [], ◌∷◌, ◌++◌, refl, sym, subst, ap, ◌∙◌, arith}
+use Rattle.std.proofs.Common.{◌≡◌, ℕ, zero, suc, ◌+◌, ◌-◌, ◌<◌, List, [], ◌∷◌, ◌++◌, refl, sym, subst, ap, arith}
 use Rattle.xml_tree.specs.Bodies.{ClosesOpen}
 use Rattle.xml_tree.specs.Marks.{Mark, opening, closing, words, open_after}
 use Rattle.lent_bodies.specs.Inside.{inside, behind}

@@ -1,9 +1,7 @@
 -- The text that a body is.
-use Rattle.std.proofs.Common.{◌≡◌, ◌≢◌, ℕ, List, [], ◌∷◌, ◌++◌, refl, sym, ap, ◌∙◌, append-nil}
+use Rattle.std.proofs.Common.{◌≡◌, ◌≢◌, ℕ, List, [], ◌∷◌, ◌++◌, refl, sym, ap, ◌∙◌}
 use Rattle.xml_tree.specs.declared.tree.Attribute.{Attribute}
-use Rattle.xml_tree.specs.declared.tree.Tree.{Tree}
-use Rattle.xml_tree.specs.declared.tree.Tree.TheVariants.{Text}
-use Rattle.xml_tree.specs.Marks.{Mark, opening, closing, words, marks}
+use Rattle.xml_tree.specs.Marks.{Mark, opening, words, marks}
 use Rattle.xml_tree.proofs.KnownMarks.{tree_marks-Text}
 use Rattle.xml_tree.proofs.KnownRebuilt.{same_from_marks}
 use Rattle.xml_codec.specs.Data.{string_body}

@@ -15,7 +15,7 @@ use Rattle.text_words.specs.Identifier.{is_identifier_part, is_identifier}
 use Rattle.nj_syntax.specs.declared.operator.Operator.{Operator}
 use Rattle.nj_syntax.specs.declared.operator.Quantifier.{Quantifier}
 use Rattle.nj_syntax.specs.Terms.{Deep}
-use Rattle.nj_syntax.specs.Grammar.{priority, sign, joined, word, quantified, is_word, Reads}
+use Rattle.nj_syntax.specs.Grammar.{sign, word, is_word, Reads}
 use Rattle.nj_syntax.specs.Grammar as Grammar
 use Rattle.nj_print.specs.ArgumentText.{listed, argument_text}
 use Rattle.nj_print.specs.Primed.{with_primes}

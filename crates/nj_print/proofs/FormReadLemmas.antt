@@ -11,7 +11,7 @@ use Rattle.text_words.specs.Identifier.{is_identifier}
 use Rattle.nj_syntax.specs.declared.operator.Operator.{Operator}
 use Rattle.nj_syntax.specs.declared.operator.Quantifier.{Quantifier}
 use Rattle.nj_syntax.specs.Terms.{Deep}
-use Rattle.nj_syntax.specs.Grammar.{priority, sign, joined, word, quantified, is_word, Reads}
+use Rattle.nj_syntax.specs.Grammar.{priority, sign, joined, word, quantified}
 use Rattle.nj_syntax.specs.Grammar as Grammar
 use Rattle.nj_print.specs.Prints.{operator_text}
 use Rattle.nj_print.specs.Within.{is_within}

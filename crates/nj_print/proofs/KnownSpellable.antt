@@ -16,7 +16,7 @@ use Rattle.nj_tokens.specs.declared.token.Token.TheVariants as Tokens
 use Rattle.nj_tokens.proofs.KnownNames.{IsSpelled, names_spelled}
 use Rattle.nj_syntax.specs.Terms.{Deep, place_of, named_at, named, AreArguments, name, apply, comma}
 use Rattle.nj_syntax.specs.Grammar as Grammar
-use Rattle.nj_syntax.specs.Grammar.{joined, quantified, sign, word, is_word, Reads}
+use Rattle.nj_syntax.specs.Grammar.{sign, is_word, Reads}
 use Rattle.nj_syntax.specs.Answers.{AreAt, SaysWhole, IsFormula}
 use Rattle.nj_syntax.proofs.KnownGrammar.{first_same, others_same, some_arguments}
 use Rattle.nj_print.specs.Spellable.{spellable_layer, is_spellable_argument, is_spellable, IsSpellable, formula_layer as spelling_layer}

@@ -3,7 +3,6 @@ use Rattle.std.proofs.Common.{◌≡◌, ◌≤◌, ℕ, nat_lt, Bool, true, fal
 use Rattle.std.proofs.lemmas.Bool.{both_ways}
 use Rattle.nj_formula.specs.declared.formula.Formula.{Formula, out-Formula}
 use Rattle.nj_formula.specs.declared.formula.Formula.TheVariants as Formulas
-use Rattle.nj_formula.specs.declared.formula.Formula.TheVariants.{rolls-False, rolls-Atom, rolls-Not, rolls-And, rolls-Or, rolls-Implies, rolls-All, rolls-Exists}
 use Rattle.nj_formula.specs.Meaning.{meaning}
 use Rattle.nj_syntax.specs.Grammar.{priority, word}
 use Rattle.nj_print.specs.ArgumentText.{listed, argument_text}

@@ -1,7 +1,6 @@
 -- How the reader holds an operand whose last token it has read: its operators are pending until what follows takes them in.
-use Rattle.std.proofs.Common.{◌≡◌, ◌<◌, ◌≤◌, ℕ, true, false, cond, List, [], ◌∷◌, nat_lt, refl, ap, ◌∙◌, lt_of_lt_of_le, arith}
+use Rattle.std.proofs.Common.{◌≡◌, ◌<◌, ◌≤◌, ℕ, cond, List, [], ◌∷◌, refl, ap, ◌∙◌, lt_of_lt_of_le, arith}
 use Rattle.std.proofs.lemmas.Bool.{lt-ltb, le-ltb}
-use Rattle.std.proofs.lemmas.Bool.Decides.{nat_tests}
 use Rattle.nj_formula.specs.declared.formula.Formula.{Formula}
 use Rattle.nj_formula.specs.declared.formula.Formula.TheVariants as Formulas
 use Rattle.nj_tokens.specs.declared.token.Token.{Token}

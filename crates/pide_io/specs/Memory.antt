@@ -1,5 +1,5 @@
 -- Sources and sinks over memory: which bytes, how many a call moves, and which calls fail.
-use Rattle.std.specs.Prelude.{◌≡◌, ℕ, ◌==◌, ◌-◌, ◌<◌, Bool, true, false, List, [], ◌∷◌, ◌++◌, length, take, drop, min}
+use Rattle.std.specs.Prelude.{◌≡◌, ℕ, ◌==◌, ◌-◌, ◌<◌, Bool, true, false, List, [], ◌++◌, length, take, drop, min}
 use Rattle.std.specs.List.{list_any}
 use Rattle.pide_base.specs.Faults.{risen}
 use Rattle.pide_base.specs.declared.source.Pulled.{Pulled}

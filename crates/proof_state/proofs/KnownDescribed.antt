@@ -7,10 +7,9 @@ use Rattle.nj_print.specs.Primed.{IsPrimed}
 use Rattle.nj_print.proofs.KnownPrints.{some_print, one_print, some_primed, one_primed}
 use Rattle.proof_state.specs.declared.subgoal.Subgoal.{Subgoal}
 use Rattle.proof_state.specs.declared.subgoal.Subgoal.TheVariants.{Show, AssumeShow, FixShow}
-use Rattle.proof_state.specs.declared.block.Block.{Block}
 use Rattle.proof_state.specs.declared.levels.Levels.{Levels}
 use Rattle.proof_state.specs.declared.levels.Levels.TheVariants.{Closed, Prove, State}
-use Rattle.proof_state.specs.Describes.{Then, Word, SaysFormula, SaysAssumed, SaysFixed, SaysSubgoal, SaysSubgoals, SaysBlock, Describes}
+use Rattle.proof_state.specs.Describes.{Then, Word, SaysFormula, SaysAssumed, SaysFixed, SaysSubgoal, SaysSubgoals, Describes}
 
 -- one text of which P holds, and no other
 abbrev pub One : (List ℕ → Type 0) → Type 0

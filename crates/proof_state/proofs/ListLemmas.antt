@@ -1,6 +1,6 @@
 -- Facts of each element of a list.
-use Rattle.std.proofs.Common.{◌≡◌, ℕ, suc, zero, Bool, true, false, Some, List, [], ◌∷◌, refl, subst, inl, inr}
-use Rattle.std.specs.Prelude.{slice_get, remove, ◌||◌, ◌&&◌, ◌⊎◌}
+use Rattle.std.proofs.Common.{◌≡◌, ℕ, suc, zero, Some, List, [], ◌∷◌, subst}
+use Rattle.std.specs.Prelude.{slice_get, remove}
 use Rattle.shared_map.specs.Pairs.{Each}
 
 module _ {X : Type 0} where

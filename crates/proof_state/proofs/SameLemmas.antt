@@ -1,8 +1,8 @@
 -- The test whether two formulas say the same.
-use Rattle.std.proofs.Common.{◌≡◌, ◌≢◌, ◌⊎◌, ◌↔◌, Bool, true, false, IsTrue, refl, sym, inl, inr}
+use Rattle.std.proofs.Common.{◌≡◌, ◌↔◌, Bool, true, false, IsTrue, refl, sym}
 use Rattle.nj_formula.specs.declared.formula.Formula.{Formula}
 use Rattle.nj_formula.specs.Meaning.{meaning}
-use Rattle.proof_state.specs.Same.{decide, is_first, says_same}
+use Rattle.proof_state.specs.Same.{decide, says_same}
 use Rattle.proof_state.proofs.KnownFirst.{first_is, is_first_of}
 
 pub same_is : (f g : Formula) → says_same f g ≡ true → meaning f ≡ meaning g

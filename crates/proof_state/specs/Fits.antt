@@ -1,7 +1,6 @@
 -- Which subgoal a `show` is for (this project's own).
 use Rattle.std.specs.Prelude.{ℕ, Bool, ◌&&◌, List, [], ◌∷◌, Option}
 use Rattle.std.specs.List.{list_any, list_all, position_from}
-use Rattle.std.specs.Str.{bytes_eq}
 use Rattle.nj_formula.specs.declared.argument.Argument.TheVariants.{Free}
 use Rattle.nj_formula.specs.declared.formula.Formula.{Formula}
 use Rattle.nj_formula.specs.FormulaInstance.{formula_instance}

@@ -6,7 +6,6 @@ use Rattle.pide_base.specs.declared.range.Range.{Range}
 use Rattle.nj_kernel.specs.declared.rule.Rule.{Rule}
 use Rattle.nj_syntax.specs.Answer.{formula_of, term_of}
 use Rattle.nj_syntax.specs.declared.fault.FormulaFault.{FormulaFault}
-use Rattle.proof_terms.specs.Marks.{marks}
 use Rattle.proof_terms.specs.declared.fault.TermFault.{TermFault}
 use Rattle.proof_terms.specs.declared.fault.TermFault.TheVariants.{ProofTooDeep}
 use Rattle.proof_terms.specs.declared.mark.Mark.{Mark}

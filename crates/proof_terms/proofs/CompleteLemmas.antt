@@ -1,15 +1,13 @@
 -- What the grammar says of tokens is read from them.
-use Rattle.std.proofs.Common.{◌≡◌, ℕ, zero, suc, List, [], ◌∷◌, ◌++◌, Option, Some, Ok, refl, ap, sym, ◌∙◌, append_assoc}
+use Rattle.std.proofs.Common.{◌≡◌, ℕ, zero, suc, List, [], ◌∷◌, ◌++◌, Some, Ok, refl, ap, ◌∙◌, append_assoc}
 use Rattle.nj_kernel.specs.declared.rule.Rule.{Rule}
 use Rattle.proof_terms.specs.declared.mark.Mark.{Mark}
 use Rattle.proof_terms.specs.declared.mark.Mark.TheVariants.{Opens, Closes, Name, Quoted}
-use Rattle.proof_terms.specs.declared.reader.Start.{Start}
 use Rattle.proof_terms.specs.declared.reader.Start.TheVariants as S
 use Rattle.proof_terms.specs.declared.term.Cite.{Cite}
 use Rattle.proof_terms.specs.declared.term.Term.{Term}
 use Rattle.proof_terms.specs.declared.term.Term.TheVariants.{Fact}
-use Rattle.proof_terms.specs.RuleNames.{rule_of}
-use Rattle.proof_terms.specs.Slots.{Slot, formula, object, named, proof, slots, Part, a_formula, an_object, a_name, a_proof, built}
+use Rattle.proof_terms.specs.Slots.{Slot, formula, object, named, proof, slots, Part, a_formula, an_object, a_proof, built}
 use Rattle.proof_terms.specs.Grammar.{IsCite, by_name, by_long_name, IsTerm, fact, ruled, AreParts, none, then_formula, then_object, then_name, then_proof}
 use Rattle.proof_terms.specs.Reading.{Read, and_then, of_name, read_start, read_close, unquoted, read_part, read_parts, made, read_inside, read_rule, read_on, read_term}
 use Rattle.proof_terms.proofs.StepLemmas.{then_ok}

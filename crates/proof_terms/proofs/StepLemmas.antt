@@ -1,5 +1,5 @@
 -- One reading after another.
-use Rattle.std.proofs.Common.{◌≡◌, ℕ, List, [], ◌∷◌, Result, Ok, Err, refl, ap}
+use Rattle.std.proofs.Common.{◌≡◌, List, Ok, Err, refl, ap}
 use Rattle.proof_terms.specs.declared.mark.Mark.{Mark}
 use Rattle.proof_terms.specs.Reading.{Read, and_then}
 

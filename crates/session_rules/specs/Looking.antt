@@ -1,8 +1,7 @@
 -- What the messages look at that change nothing, or why they are refused (this project's own).
-use Rattle.std.specs.Prelude.{ℕ, ◌||◌, is_some, if◌then◌else◌, List, Option, Some, None, Result, Ok, Err}
+use Rattle.std.specs.Prelude.{ℕ, ◌||◌, is_some, if◌then◌else◌, List, Result, Ok, Err}
 use Rattle.std.specs.Option.{is_none}
 use Rattle.text_edits.specs.declared.edit.Edit.{Edit}
-use Rattle.doc_nodes.specs.declared.node.Node.{Node}
 use Rattle.doc_versions.specs.Live.{version_of}
 use Rattle.exec_rules.specs.declared.version.Version.{Version}
 use Rattle.language.specs.Lang.{Lang}

@@ -1,6 +1,6 @@
 -- What is replied (this project's own).
-use Rattle.std.specs.Prelude.{ℕ, Bool, true, false, not, ◌&&◌, if◌then◌else◌, List, [], ◌∷◌, ◌++◌, map, filter, Option, Some, None, Result, Ok, Err}
-use Rattle.std.specs.Option.{option_map_or, is_none}
+use Rattle.std.specs.Prelude.{ℕ, Bool, true, false, not, ◌&&◌, if◌then◌else◌, List, [], ◌∷◌, ◌++◌, map, filter, Result, Ok, Err}
+use Rattle.std.specs.Option.{option_map_or}
 use Rattle.std.specs.List.{flat_map}
 use Rattle.import_rounds.specs.Rounds.{has}
 use Rattle.byte_message.specs.Stream.{plain_spelling}
@@ -25,7 +25,7 @@ use Rattle.core_rules.specs.Standing.{is_open}
 use Rattle.core_rules.specs.Stuck.{stuck_in}
 use Rattle.session_rules.specs.declared.service.Service.{Service}
 use Rattle.session_rules.specs.Heard.{Heard, Message, Claimed, Finished, Dropped, Ended}
-use Rattle.session_rules.specs.Session.{Session, document, answered}
+use Rattle.session_rules.specs.Session.{Session, document}
 use Rattle.session_rules.specs.Accepting.{accepted}
 use Rattle.session_rules.specs.Looking.{Looked, looked_at, settles}
 use Rattle.session_rules.specs.History.{session}

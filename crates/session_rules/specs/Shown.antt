@@ -1,5 +1,5 @@
 -- What a snapshot shows (after `Document.Snapshot` of Isabelle/Scala).
-use Rattle.std.specs.Prelude.{ℕ, List, [], ◌∷◌, map, Option, Some, None}
+use Rattle.std.specs.Prelude.{ℕ, List, [], map}
 use Rattle.std.specs.Option.{option_map_or}
 use Rattle.std.specs.List.{flat_map}
 use Rattle.text_edits.specs.declared.edit.Edit.{Edit}

@@ -8,7 +8,6 @@ use Rattle.buffer_rules.specs.Examples.{all_wanted}
 use Rattle.text_edits.specs.declared.edit.Edit.TheVariants.{Insert}
 use Rattle.reply_writing.specs.declared.told.Told.{Told}
 use Rattle.core_rules.specs.Small.{small}
-use Rattle.session_rules.specs.declared.service.Service.{Service}
 use Rattle.session_rules.specs.declared.service.Service.TheVariants.{Workers, Script}
 use Rattle.session_rules.specs.Heard.{Heard, Message}
 use Rattle.session_rules.specs.Replies.{told}

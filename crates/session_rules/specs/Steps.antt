@@ -1,5 +1,5 @@
 -- Which entry a message calls for (this project's own).
-use Rattle.std.specs.Prelude.{ℕ, List, [], ◌∷◌, Result, Ok, Err}
+use Rattle.std.specs.Prelude.{ℕ, List, ◌∷◌, Result, Ok, Err}
 use Rattle.language.specs.Lang.{Lang}
 use Rattle.message_values.specs.declared.editor_message.EditorMessage.{EditorMessage}
 use Rattle.message_values.specs.declared.editor_message.EditorMessage.TheVariants as asks

@@ -1,6 +1,6 @@
 -- What the messages that change the document make of a session, or why they are refused (this
 -- project's own; refusals stand in the order in which they are tried).
-use Rattle.std.specs.Prelude.{ℕ, Bool, nat_lt, if◌then◌else◌, List, ◌∷◌, length, Result, Ok, Err}
+use Rattle.std.specs.Prelude.{ℕ, Bool, nat_lt, if◌then◌else◌, List, length, Result, Ok, Err}
 use Rattle.pide_base.specs.Ids.{id_end}
 use Rattle.doc_versions.specs.declared.versions.Removing.{Removing}
 use Rattle.doc_versions.specs.declared.versions.Removing.TheVariants as answer

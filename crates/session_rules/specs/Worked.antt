@@ -1,6 +1,5 @@
 -- What small sessions come to, computed (this project's own).
 use Rattle.std.specs.Prelude.{◌≡◌, ℕ, true, false, List, [], ◌∷◌, codes, Ok, Err}
-use Rattle.pide_base.specs.declared.range.Range.{Range}
 use Rattle.report_markup.specs.declared.kind.ReportKind.TheVariants as report
 use Rattle.report_markup.specs.declared.report.Report.{Report}
 use Rattle.text_edits.specs.declared.edit.Edit.TheVariants.{Insert}

@@ -1,11 +1,9 @@
 -- The tasks of a queue, by execution (this project's own).
-use Rattle.std.specs.Prelude.{◌≡◌, ℕ, ◌==◌, Bool, true, false, not, ◌&&◌, List, length, Option, Some, None, AllPairs}
-use Rattle.std.specs.List.{list_any, All, Contains}
+use Rattle.std.specs.Prelude.{ℕ, ◌==◌, Bool, not, ◌&&◌, List, length, Option}
+use Rattle.std.specs.List.{list_any}
 use Rattle.std.specs.Map.{lookup}
-use Rattle.std.specs.Option.{option_map_or}
 use Rattle.pide_base.specs.declared.part.Part.{Part}
 use Rattle.task_queue.specs.declared.task.Standing.{Standing}
-use Rattle.task_queue.specs.Order.{goes_before}
 
 -- what contracts see of a queue: how the present part of each execution stands, the ready parts in
 -- order, and the room for more tasks and more inputs

@@ -1,10 +1,9 @@
 -- Which tasks wait for an execution, as the code keeps it: the waiters of each are numbered from 0.
 use Rattle.std.specs.Prelude.{◌≡◌, ℕ, ◌<◌, min, Some, IsSome}
-use Rattle.std.specs.HashMap.{get, spare}
+use Rattle.std.specs.HashMap.{spare}
 use Rattle.std.specs.Map.{lookup}
 use Rattle.std.specs.Option.{option_map_or}
 use Rattle.std.specs.Prelude.{◌==◌, ◌&&◌, Option}
-use Rattle.task_queue.specs.declared.waiters.Link.{Link}
 use Rattle.task_queue.specs.declared.waiters.Waiters.{Waiters}
 
 -- how many waiters of the execution are kept

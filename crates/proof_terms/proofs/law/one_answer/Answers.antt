@@ -1,4 +1,4 @@
-use Rattle.std.proofs.Common.{◌≡◌, List, Result, Ok, Err, refl}
+use Rattle.std.proofs.Common.{List, Result, Ok, Err, refl}
 use Rattle.proof_terms.specs.declared.fault.TermFault.{TermFault}
 use Rattle.proof_terms.specs.declared.mark.Mark.{Mark}
 use Rattle.proof_terms.specs.declared.term.Term.{Term}

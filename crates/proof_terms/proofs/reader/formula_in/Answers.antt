@@ -1,4 +1,4 @@
-use Rattle.std.proofs.Common.{◌≡◌, Ok, Err, ap, sym, subst, ◌∙◌}
+use Rattle.std.proofs.Common.{Ok, Err, ap, sym, subst, ◌∙◌}
 use Rattle.nj_syntax.specs.Answers.{Answers, IsFormula}
 use Rattle.nj_syntax.specs.Answer.{formula_of}
 use Rattle.nj_syntax.proofs.KnownAnswers.{formula_is}

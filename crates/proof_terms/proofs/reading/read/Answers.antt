@@ -1,4 +1,4 @@
-use Rattle.std.proofs.Common.{◌≡◌, length, Err, ap, sym, subst, rules, arith}
+use Rattle.std.proofs.Common.{◌≡◌, length, Err, sym, subst, rules, arith}
 use Rattle.std.proofs.lemmas.Grind.{common_steps}
 use Rattle.proof_terms.specs.Marks.{marks}
 use Rattle.proof_terms.specs.Answers.{Told}

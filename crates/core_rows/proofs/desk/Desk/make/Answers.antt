@@ -1,5 +1,4 @@
-use Rattle.std.proofs.Common.{◌≡◌, ◌<◌, false, List, ◌∷◌, refl, sym, ap, subst, ◌∙◌}
-use Rattle.core_rules.specs.declared.event.Event.{Event}
+use Rattle.std.proofs.Common.{◌≡◌, ◌<◌, false, sym, subst, ◌∙◌}
 use Rattle.core_rules.specs.Standing.{has_ended, is_open}
 use Rattle.core_rules.specs.Doc.{doc}
 use Rattle.exec_rules.specs.Kept.{BlobList}

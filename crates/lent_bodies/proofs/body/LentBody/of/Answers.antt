@@ -2,7 +2,7 @@
 use Rattle.std.proofs.Common.{sym, ap}
 use Rattle.xml_tree.specs.Bodies.{body_of}
 use Rattle.yxml.specs.Answer.{answer_by}
-use Rattle.yxml.specs.Reading.{marks_in, fault_in}
+use Rattle.yxml.specs.Reading.{marks_in}
 use Rattle.yxml.specs.Spelling.{merged}
 use Rattle.lent_bodies.proofs.Whole.{whole_closed, whole_body}
 use Rattle.lent_bodies.proofs.body.LentBody.of.Goals as goal

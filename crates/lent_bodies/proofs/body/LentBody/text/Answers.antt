@@ -1,5 +1,5 @@
 -- A text joins those before it; a start tag shows that the body is no text.
-use Rattle.std.proofs.Common.{rules, ◌∷◌, ◌++◌, sym, ap, ◌∙◌}
+use Rattle.std.proofs.Common.{rules, ◌∷◌, sym, ap, ◌∙◌}
 use Rattle.yxml.specs.Reading.{marks_in}
 use Rattle.lent_bodies.specs.Inside.{inside}
 use Rattle.lent_bodies.specs.LentMarks.{mark}
