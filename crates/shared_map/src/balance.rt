@@ -35,6 +35,40 @@ pub(crate) fn joined<T: Drop>(
     Tree::fork(alloc, left, item, right)
 }
 
+/// The tree of these parts, of which the left one may be a little too heavy.
+pub(crate) fn left_grown<T: Drop>(
+    alloc: Global,
+    left: Tree<T>,
+    item: &Arc<T>,
+    right: &Tree<T>,
+) -> Result<Tree<T>, AllocError>
+    ensures { IfOk result (λ tree. tree ≡ left ++ arc_value item.now ∷ right.now) }
+{
+    if is_heavy(&left, right) {
+        if let Some(parts) = left.parts() {
+            return left_raised(alloc, parts, item, right);
+        }
+    }
+    Tree::of(alloc, left, Arc::try_clone(item)?, right.copy()?)
+}
+
+/// The tree of these parts, of which the right one may be a little too heavy.
+pub(crate) fn right_grown<T: Drop>(
+    alloc: Global,
+    left: &Tree<T>,
+    item: &Arc<T>,
+    right: Tree<T>,
+) -> Result<Tree<T>, AllocError>
+    ensures { IfOk result (λ tree. tree ≡ left.now ++ arc_value item.now ∷ right) }
+{
+    if is_heavy(&right, left) {
+        if let Some(parts) = right.parts() {
+            return right_raised(alloc, left, item, parts);
+        }
+    }
+    Tree::of(alloc, left.copy()?, Arc::try_clone(item)?, right)
+}
+
 /// One list behind another.
 pub(crate) fn appended<T: Drop>(
     alloc: Global,

@@ -4,7 +4,7 @@ ghost use Rattle.shared_map.specs.Pairs.{IsSorted};
 ghost use Rattle.shared_map.specs.Cuts.{before, behind};
 ghost use Rattle.shared_map.specs.Changes.{put, united};
 
-use crate::balance::joined;
+use crate::balance::{joined, left_grown, right_grown};
 use crate::cut::{Cut, Exactly};
 use crate::tree::Tree;
 use std::alloc::{AllocError, Global};
@@ -27,11 +27,11 @@ pub(crate) fn with_pair<K: Ord + Drop, V: Drop>(
     match other.0.cmp(&pair.0) {
         Ordering::Less => {
             let right = with_pair(alloc, parts.right, pair)?;
-            joined(alloc, parts.left, parts.item, &right)
+            right_grown(alloc, parts.left, parts.item, right)
         }
         Ordering::Greater => {
             let left = with_pair(alloc, parts.left, pair)?;
-            joined(alloc, &left, parts.item, parts.right)
+            left_grown(alloc, left, parts.item, parts.right)
         }
         Ordering::Equal => Tree::fork(alloc, parts.left, pair, parts.right),
     }

@@ -110,7 +110,29 @@ impl<T: Drop> Tree<T> {
         }
     }
 
-    /// The tree of these parts, as they stand.
+    /// The tree of these parts, as they stand, which it takes.
+    pub(crate) fn of(
+        alloc: Global,
+        left: Tree<T>,
+        item: Arc<T>,
+        right: Tree<T>,
+    ) -> Result<Tree<T>, AllocError>
+        ensures { IfOk result (λ tree. tree ≡ left ++ arc_value item ∷ right) }
+    {
+        let sides = left.len().checked_add(right.len()).ok_or(AllocError)?;
+        let len = sides.checked_add(1).ok_or(AllocError)?;
+        let fork = Fork {
+            left,
+            item,
+            len,
+            right,
+        };
+        Ok(Tree {
+            root: Some(Arc::new(alloc, fork)?),
+        })
+    }
+
+    /// The tree of these parts, as they stand, which it shares.
     pub(crate) fn fork(
         alloc: Global,
         left: &Tree<T>,
@@ -119,16 +141,6 @@ impl<T: Drop> Tree<T> {
     ) -> Result<Tree<T>, AllocError>
         ensures { IfOk result (λ tree. tree ≡ left.now ++ arc_value item.now ∷ right.now) }
     {
-        let sides = left.len().checked_add(right.len()).ok_or(AllocError)?;
-        let len = sides.checked_add(1).ok_or(AllocError)?;
-        let fork = Fork {
-            left: left.copy()?,
-            item: Arc::try_clone(item)?,
-            len,
-            right: right.copy()?,
-        };
-        Ok(Tree {
-            root: Some(Arc::new(alloc, fork)?),
-        })
+        Tree::of(alloc, left.copy()?, Arc::try_clone(item)?, right.copy()?)
     }
 }

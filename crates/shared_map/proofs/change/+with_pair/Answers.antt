@@ -17,14 +17,14 @@ returns-in_ok-right-in-Less g t c =
     let less : g.K.Ord.cmp (arc_value c.in-Some.parts.item.now).0 (arc_value c.args.pair.now).0 ≡ Less = search rules in
     let rest = put_less g.met.K.Ord.total _ _ _ _ c.in-Some.ensures c.requires (arc_value c.args.pair.now) less in
     let made = ap (λ right. c.in-Some.parts.left.now ++ arc_value c.in-Some.parts.item.now ∷ right) c.in_ok-right-in-Less.ensures in
-    ok_along c.joined.result _ _ (made ∙ sym rest) c.joined.ensures
+    ok_along c.right_grown.result _ _ (made ∙ sym rest) c.right_grown.ensures
 
 pub returns-in_ok-left-in-Greater : goal.returns-in_ok-left-in-Greater
 returns-in_ok-left-in-Greater g t c =
     let greater : g.K.Ord.cmp (arc_value c.in-Some.parts.item.now).0 (arc_value c.args.pair.now).0 ≡ Greater = search rules in
     let rest = put_greater g.met.K.Ord.total _ _ _ _ c.in-Some.ensures c.requires (arc_value c.args.pair.now) greater in
     let made = ap (λ left. left ++ arc_value c.in-Some.parts.item.now ∷ c.in-Some.parts.right.now) c.in_ok-left-in-Greater.ensures in
-    ok_along c.joined-in-Greater.result _ _ (made ∙ sym rest) c.joined-in-Greater.ensures
+    ok_along c.left_grown.result _ _ (made ∙ sym rest) c.left_grown.ensures
 
 pub returns-in-Equal : goal.returns-in-Equal
 returns-in-Equal g t c =
