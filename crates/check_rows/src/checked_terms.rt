@@ -1,6 +1,6 @@
 //! Proof terms against goals (`proof_checks`): what each rule asks for, and the first fault.
 use crate::written::{nested, scalars, term};
-use nj_formula::Formula;
+use nj_formula::{Formula, Name};
 use nj_syntax::parse;
 use pide_base::Stop;
 use proof_checks::{Checked, check};
@@ -74,7 +74,8 @@ fn facts(alloc: Global) -> Result<Ctx, AddError> {
         ("B", "both", "A"),
         ("C", "both", "B"),
     ] {
-        ctx.add(alloc, theory, name, formula(alloc, text)?)?;
+        let (theory, name) = (Name::new(alloc, theory)?, Name::new(alloc, name)?);
+        ctx.add(alloc, &theory, &name, formula(alloc, text)?)?;
     }
     Ok(ctx)
 }

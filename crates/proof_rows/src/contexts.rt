@@ -155,7 +155,8 @@ fn add(
     name: &str,
     said: &str,
 ) -> Result<String, AllocError> {
-    match ctx.add(alloc, theory, name, atom(alloc, said)?) {
+    let (theory, name) = (Name::new(alloc, theory)?, Name::new(alloc, name)?);
+    match ctx.add(alloc, &theory, &name, atom(alloc, said)?) {
         Ok(()) => done(alloc),
         Err(AddError::Taken) => String::from_str(alloc, "taken"),
         Err(AddError::NoMemory) => Err(AllocError),
@@ -170,7 +171,8 @@ fn set(
     name: &str,
     said: &str,
 ) -> Result<String, AllocError> {
-    ctx.set(alloc, theory, name, atom(alloc, said)?)?;
+    let (theory, name) = (Name::new(alloc, theory)?, Name::new(alloc, name)?);
+    ctx.set(alloc, &theory, &name, atom(alloc, said)?)?;
     done(alloc)
 }
 

@@ -4,7 +4,7 @@ use crate::proof_commands::Command::{
     Assume, By, Dash, Fix, Goal, Have, Means, Next, Proof as Begin, Qed, Show,
 };
 use crate::proof_commands::{Command, captured, formula, told};
-use nj_formula::Formula;
+use nj_formula::{Formula, Name};
 use proof_state::Proof;
 use std::alloc::{AllocError, Global};
 use std::test::Fail;
@@ -284,7 +284,8 @@ const FRESH: &[Script] = &[Script(
 /// A context with one fact.
 fn ctx_of(alloc: Global, fact: &str) -> Result<Ctx, Fail> {
     let mut ctx = Ctx::new();
-    ctx.add(alloc, "A", "n", formula(alloc, fact)?)?;
+    let (theory, name) = (Name::new(alloc, "A")?, Name::new(alloc, "n")?);
+    ctx.add(alloc, &theory, &name, formula(alloc, fact)?)?;
     Ok(ctx)
 }
 

@@ -210,7 +210,8 @@ fn first_other_in(
 fn ctx_of(alloc: Global, name: &str) -> Result<Ctx, Fail> {
     let mut ctx = Ctx::new();
     if !name.is_empty() {
-        ctx.add(alloc, "A", name, atom(alloc, "A")?)?;
+        let (theory, name) = (Name::new(alloc, "A")?, Name::new(alloc, name)?);
+        ctx.add(alloc, &theory, &name, atom(alloc, "A")?)?;
     }
     Ok(ctx)
 }

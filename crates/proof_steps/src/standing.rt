@@ -37,9 +37,8 @@ fn proved(alloc: Global, lemma: &Lemma) -> Result<Place, AllocError>
     ensures { IfOk result (λ p. p ≡ place.Theory
         (with_fact lemma.now.name.now lemma.now.goal.now lemma.now.theory.now)) }
 {
-    let name = lemma.name.as_str();
     let goal = lemma.goal.copy(alloc)?;
-    let more = with_fact(alloc, lemma.theory, name, goal)?;
+    let more = with_fact(alloc, lemma.theory, lemma.name, goal)?;
     Ok(Place::Theory(more))
 }
 

@@ -40,7 +40,9 @@ impl<'a> Cut<FactName> for Called<'a> {
         (record { name = cut.name.now; theory = cut.theory.now }) };
 
     fn place(&self, fact: &FactName) -> Ordering {
-        let names = fact.name.as_str().cmp(self.name);
-        names.then(fact.theory.as_str().cmp(self.theory))
+        match fact.name.as_str().cmp(self.name) {
+            Ordering::Equal => fact.theory.as_str().cmp(self.theory),
+            unequal => unequal,
+        }
     }
 }

@@ -93,8 +93,8 @@ impl Ctx {
     pub fn add(
         &mut self,
         alloc: Global,
-        theory: &str,
-        name: &str,
+        theory: &Name,
+        name: &Name,
         formula: Formula,
     ) -> Result<(), AddError>
         ensures ok { OnOk result (self.new
@@ -104,7 +104,7 @@ impl Ctx {
             ↔ IsSome (fact_of theory.now name.now self.old) }
         ensures err { OnErr result (self.new ≡ self.old) }
     {
-        if self.has(theory, name) {
+        if self.has(theory.as_str(), name.as_str()) {
             return Err(AddError::Taken);
         }
         self.set(alloc, theory, name, formula)?;
@@ -116,8 +116,8 @@ impl Ctx {
     pub fn set(
         &mut self,
         alloc: Global,
-        theory: &str,
-        name: &str,
+        theory: &Name,
+        name: &Name,
         formula: Formula,
     ) -> Result<(), AllocError>
         ensures ok { OnOk result (self.new
@@ -126,8 +126,8 @@ impl Ctx {
         ensures err { OnErr result (self.new ≡ self.old) }
     {
         let fact = FactName {
-            name: Name::new(alloc, name)?,
-            theory: Name::new(alloc, theory)?,
+            name: name.copy(alloc)?,
+            theory: theory.copy(alloc)?,
         };
         let free = self.free.with_formula(alloc, &formula)?;
         let mut facts = self.facts.copy()?;

@@ -74,8 +74,10 @@ impl Ord for FactName {
     ghost matches_eq = { Prim.search (comparing, rules) };
 
     fn cmp(&self, other: &FactName) -> Ordering {
-        let names = self.name.as_str().cmp(other.name.as_str());
-        names.then(self.theory.as_str().cmp(other.theory.as_str()))
+        match self.name.as_str().cmp(other.name.as_str()) {
+            Ordering::Equal => self.theory.as_str().cmp(other.theory.as_str()),
+            unequal => unequal,
+        }
     }
 }
 

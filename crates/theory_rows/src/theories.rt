@@ -135,7 +135,7 @@ fn theory(alloc: Global) -> Result<Theory, AllocError> {
         name: Name::new(alloc, "A")?,
         facts: Ctx::new(),
     };
-    with_fact(alloc, &empty, "b", Formula::False)
+    with_fact(alloc, &empty, &Name::new(alloc, "b")?, Formula::False)
 }
 
 /// What `axiom` makes.

@@ -62,7 +62,7 @@ pub fn axiom_made(
 {
     let (own, formula) = stated(alloc, theory, name, quoted)?;
     let reports = stated_reports(alloc, theory, name, quoted, &formula)?;
-    let more = with_fact(alloc, theory, own.as_str(), formula)?;
+    let more = with_fact(alloc, theory, &own, formula)?;
     Ok(makes(Place::Theory(more), reports))
 }
 

@@ -27,12 +27,12 @@ pub(crate) fn has_fact(theory: &Theory, name: &str) -> bool
 pub fn with_fact(
     alloc: Global,
     theory: &Theory,
-    name: &str,
+    name: &Name,
     formula: Formula,
 ) -> Result<Theory, AllocError>
     ensures { IfOk result (λ more. more ≡ with_fact name.now formula theory.now) }
 {
     let mut more = theory.copy(alloc)?;
-    more.facts.set(alloc, theory.name.as_str(), name, formula)?;
+    more.facts.set(alloc, &theory.name, name, formula)?;
     Ok(more)
 }

@@ -32,9 +32,9 @@ fn with_all(alloc: Global, theory: &Theory, facts: &[ListedFact]) -> Result<Theo
     let mut more = theory.copy(alloc)?;
     let mut rest = facts;
     'facts: while let [fact, others @ ..] = rest {
-        let name = fact.0.as_str();
-        if has_fact(&more, name) {
-            return Err(taken(alloc, name));
+        let name = &fact.0;
+        if has_fact(&more, name.as_str()) {
+            return Err(taken(alloc, name.as_str()));
         }
         more = with_fact(alloc, &more, name, fact.1.copy(alloc)?)?;
         rest = others;
