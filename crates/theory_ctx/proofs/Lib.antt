@@ -1,6 +1,7 @@
 pub mod Parts
 pub mod Named
 pub mod Inner
+pub mod LeftLocals
 pub mod Merges
 pub mod NamedSo
 pub mod Adding

@@ -18,6 +18,7 @@ mod lookup;
 mod name_set;
 mod naming;
 mod scope;
+mod scope_locals;
 
 pub use ctx::{AddError, Ctx};
 pub use fact_name::FactName;
@@ -29,3 +30,4 @@ pub use lookup::{LongName, Lookup};
 pub use name_set::NameSet;
 pub use naming::{add_law, ambiguous_law};
 pub use scope::Scope;
+pub use scope_locals::ScopeLocals;

@@ -1,4 +1,4 @@
-ghost use Rattle.std.specs.Prelude.{◌≡◌, [], ◌∷◌, ◌++◌, OnOk, OnErr, slice_get};
+ghost use Rattle.std.specs.Prelude.{◌≡◌, [], ◌∷◌, ◌++◌, OnOk, OnErr};
 ghost use Rattle.std.specs.Option.{option_copied};
 ghost use Rattle.theory_ctx.specs.Answers.{told};
 ghost use Rattle.theory_ctx.specs.Looked.{parts_of};
@@ -10,6 +10,7 @@ use crate::inner_scope::InnerScope;
 use crate::local::Local;
 use crate::locals::Locals;
 use crate::lookup::Lookup;
+use crate::scope_locals::ScopeLocals;
 use nj_formula::{Formula, Name};
 use shared_map::SharedList;
 use sqlite_items::Items;
@@ -55,6 +56,22 @@ impl<'a> Scope<'a> {
         }
     }
 
+    /// The scope of a theory, with the local facts of these blocks, the innermost block first. It
+    /// takes no memory.
+    pub fn in_blocks(theory: &'a str, ctx: &'a Ctx, blocks: SharedList<Locals>) -> Scope<'a>
+        ensures { result ≡ record {
+          locals = joined blocks;
+          theory = theory.now;
+          facts = ctx.now;
+        } }
+    {
+        Scope {
+            blocks,
+            theory,
+            ctx,
+        }
+    }
+
     /// Adds a local fact, as the innermost one. For want of memory it adds nothing.
     pub fn push(&mut self, alloc: Global, name: &str, formula: Formula) -> Result<(), AllocError>
         ensures ok { OnOk result (self.new ≡ record self.old {
@@ -79,11 +96,15 @@ impl<'a> Scope<'a> {
         Ok(())
     }
 
-    /// The local fact this deep, from 0 for the innermost.
-    pub fn local_at(&self, depth: usize) -> Option<&Local>
-        ensures { option_copied result ≡ slice_get self.now.locals depth }
+    /// The local facts, the innermost first, lent.
+    pub fn locals(&self) -> ScopeLocals<'_>
+        ensures { result ≡ self.now.locals }
     {
-        local_at(&self.blocks, depth)
+        ScopeLocals {
+            blocks: &self.blocks,
+            block: 0,
+            place: 0,
+        }
     }
 
     /// A scope inside this one, which is lent. It takes no memory.
@@ -125,20 +146,6 @@ fn first_named<'a>(blocks: &'a SharedList<Locals>, name: &str) -> Option<&'a Loc
         if let Some(local) = locals.first_named(name) {
             return Some(local);
         }
-    }
-    None
-}
-
-/// The local fact at this place among those of these blocks, from 0.
-fn local_at(blocks: &SharedList<Locals>, place: usize) -> Option<&Local>
-    ensures { option_copied result ≡ slice_get (joined blocks.now) place }
-{
-    let mut left = place;
-    for locals in blocks.iter() {
-        if left < locals.len() {
-            return locals.get(left);
-        }
-        left -= locals.len();
     }
     None
 }
