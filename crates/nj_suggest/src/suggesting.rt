@@ -56,16 +56,12 @@ fn chosen(alloc: Global, scope: &Scope) -> Result<Items<Local>, AllocError>
     ensures { IfOk result (λ locals. locals ≡ take most_cited (unhidden scope.now.locals)) }
 {
     let mut chosen = Items::new(alloc);
-    let mut depth = 0;
+    let mut left = scope.locals();
     'locals: while chosen.len() < MOST_CITED {
-        let Some(local) = scope.local_at(depth) else {
+        let Some(local) = left.next() else {
             return Ok(chosen);
         };
         add_unhidden(alloc, &mut chosen, local)?;
-        let Some(deeper) = usize::checked_add(depth, 1) else {
-            return Err(AllocError);
-        };
-        depth = deeper;
     }
     Ok(chosen)
 }

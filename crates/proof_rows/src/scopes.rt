@@ -13,8 +13,8 @@ enum Call {
     PushAll(&'static [(&'static str, &'static str)]),
     /// What the name means.
     Means(&'static str),
-    /// The local fact this deep.
-    At(usize),
+    /// All local facts, the innermost first.
+    All,
     /// A scope inside it, for as long as these calls take.
     Inside(&'static [InnerRow]),
 }
@@ -38,7 +38,7 @@ struct InnerRow(InnerCall, &'static str);
 /// other.
 struct Script(&'static str, &'static str, &'static [Row]);
 
-use Call::{At, Inside, Means, Push, PushAll};
+use Call::{All, Inside, Means, Push, PushAll};
 use InnerCall::{Around, Means as InnerMeans, Pop as InnerPop, Push as InnerPush};
 
 const SCRIPTS: &[Script] = &[
@@ -65,10 +65,7 @@ const SCRIPTS: &[Script] = &[
             Row(Means("h"), "local.h: S"),
             Row(Means("g"), "local.g: R"),
             Row(Means("k"), "unknown"),
-            Row(At(0), "h: S"),
-            Row(At(1), "g: R"),
-            Row(At(3), "g: P"),
-            Row(At(4), "none"),
+            Row(All, "h: S, g: R, h: Q, g: P"),
         ],
     ),
     Script(
@@ -97,9 +94,7 @@ const SCRIPTS: &[Script] = &[
         &[
             Row(Push("g", "P"), "done"),
             Row(Push("h", "Q"), "done"),
-            Row(At(0), "h: Q"),
-            Row(At(1), "g: P"),
-            Row(At(2), "none"),
+            Row(All, "h: Q, g: P"),
         ],
     ),
 ];
@@ -119,6 +114,18 @@ fn local(alloc: Global, local: Option<&Local>) -> Result<String, AllocError> {
         }
         None => String::from_str(alloc, "none"),
     }
+}
+
+/// All local facts of the scope.
+fn locals(alloc: Global, scope: &Scope) -> Result<String, AllocError> {
+    let mut text = String::new(alloc);
+    for fact in scope.locals() {
+        if !text.is_empty() {
+            text.push_str(", ")?;
+        }
+        text.push_str(local(alloc, Some(fact))?.as_str())?;
+    }
+    Ok(text)
 }
 
 /// Adds a local fact.
@@ -186,7 +193,7 @@ fn told(alloc: Global, scope: &mut Scope, call: &Call) -> Result<String, AllocEr
         Push(name, said) => push(alloc, scope, name, said),
         PushAll(facts) => push_all(alloc, scope, facts),
         Means(name) => meaning(alloc, scope.lookup(name)),
-        At(depth) => local(alloc, scope.local_at(*depth)),
+        All => locals(alloc, scope),
         Inside(rows) => inside(alloc, scope, rows),
     }
 }
