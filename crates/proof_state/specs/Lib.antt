@@ -7,6 +7,7 @@ pub mod Steps
 pub mod Answers
 pub mod Named
 pub mod Kept
+pub mod Sights
 pub mod Locals
 pub mod Describes
 pub mod Follows

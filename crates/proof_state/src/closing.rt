@@ -4,13 +4,13 @@ ghost use Rattle.std.specs.Prelude.{◌≡◌, IfOk};
 ghost use Rattle.proof_state.specs.Blocks.{achieved};
 ghost use Rattle.proof_state.specs.Steps.{closed};
 
+use crate::around::Around;
 use crate::block::Block;
-use crate::frame::{Frame, Purpose};
+use crate::frame::Purpose;
 use crate::levels::Levels;
 use crate::local_fact::{LocalFact, Origin};
 use crate::subgoal::without;
 use nj_formula::{Formula, Name};
-use shared_map::SharedList;
 use std::alloc::{AllocError, Global};
 
 pub(crate) fn copy_name(alloc: Global, name: &Option<Name>) -> Result<Option<Name>, AllocError>
@@ -23,14 +23,10 @@ pub(crate) fn copy_name(alloc: Global, name: &Option<Name>) -> Result<Option<Nam
 }
 
 /// The levels after the goal is closed: all is done, or the block around it has the goal.
-pub(crate) fn closed(
-    alloc: Global,
-    goal: &Formula,
-    around: &SharedList<Frame>,
-) -> Result<Levels, AllocError>
+pub(crate) fn closed(alloc: Global, goal: &Formula, around: &Around) -> Result<Levels, AllocError>
     ensures { IfOk result (λ levels. levels ≡ closed goal.now around.now) }
 {
-    match around.get(0) {
+    match around.first() {
         None => Ok(Levels::Closed),
         Some(frame) => Ok(Levels::State {
             block: achieved(alloc, &frame.purpose, goal, &frame.block)?,

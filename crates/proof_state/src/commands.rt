@@ -4,6 +4,7 @@ ghost use Rattle.std.specs.Prelude.{◌≡◌, ◌∷◌, IfOk};
 ghost use Rattle.proof_state.specs.Steps.{step, proof, fix, assume, have, show, next, qed, by};
 ghost use Rattle.proof_state.specs.Answers.{Gives};
 
+use crate::around::Around;
 use crate::block::Block;
 use crate::closing::closed;
 use crate::fault::ProofFault;
@@ -13,7 +14,6 @@ use crate::fresh::is_taken;
 use crate::levels::Levels;
 use crate::local_fact::{LocalFact, Origin};
 use nj_formula::{Formula, Name};
-use shared_map::SharedList;
 use std::alloc::{AllocError, Global};
 use theory_ctx::Ctx;
 
@@ -150,8 +150,8 @@ fn inside(
     alloc: Global,
     block: &Block,
     purpose: Purpose,
-    around: &SharedList<Frame>,
-) -> Result<SharedList<Frame>, AllocError>
+    around: &Around,
+) -> Result<Around, AllocError>
     ensures { IfOk result (λ frames. frames
         ≡ record { block = block.now; purpose = purpose } ∷ around.now) }
 {

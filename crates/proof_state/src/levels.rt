@@ -1,10 +1,9 @@
 ghost use Rattle.std.specs.Prelude.{◌≡◌, IfOk};
 ghost use Rattle.proof_state.specs.Answers.{is_closed};
 
+use crate::around::Around;
 use crate::block::Block;
-use crate::frame::Frame;
 use nj_formula::Formula;
-use shared_map::SharedList;
 use std::alloc::{AllocError, Global};
 
 /// How far a proof has come. What stands around a level is given from the inside out.
@@ -13,15 +12,9 @@ pub(crate) enum Levels {
     /// The goal given at the start was closed.
     Closed,
     /// Mode prove: a goal is open.
-    Prove {
-        goal: Formula,
-        around: SharedList<Frame>,
-    },
+    Prove { goal: Formula, around: Around },
     /// Mode state: a block is worked on.
-    State {
-        block: Block,
-        around: SharedList<Frame>,
-    },
+    State { block: Block, around: Around },
 }
 
 impl Levels {

@@ -6,6 +6,7 @@
 //! before each command can be kept. It must not know text, proof terms or who checks them.
 #![tactic(auto)]
 
+mod around;
 mod block;
 mod closing;
 mod commands;

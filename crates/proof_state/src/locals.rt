@@ -1,56 +1,26 @@
-//! The local facts of a scope.
+//! The local facts that can be cited.
 
-ghost use Rattle.std.specs.Prelude.{◌≡◌, ◌++◌, OnOk};
-ghost use Rattle.proof_state.specs.Named.{named};
-ghost use Rattle.proof_state.specs.Locals.{around_locals, locals_of};
+ghost use Rattle.std.specs.Prelude.{◌≡◌, IfOk};
+ghost use Rattle.theory_ctx.specs.Locals.{joined};
+ghost use Rattle.proof_state.specs.Locals.{locals_of};
 
-use crate::facts::Facts;
-use crate::frame::Frame;
 use crate::levels::Levels;
 use shared_map::SharedList;
 use std::alloc::{AllocError, Global};
-use theory_ctx::Scope;
-
-/// Adds the named ones of these facts.
-fn push_facts(alloc: Global, scope: &mut Scope, facts: &Facts) -> Result<(), AllocError>
-    ensures { OnOk result (scope.new
-        ≡ record scope.old { locals = named facts.now ++ scope.old.locals }) }
-{
-    scope.push_all(alloc, facts.named())
-}
-
-/// Adds the named facts of these blocks, the outermost first.
-fn push_frames(
-    alloc: Global,
-    scope: &mut Scope,
-    frames: &SharedList<Frame>,
-) -> Result<(), AllocError>
-    ensures { OnOk result (scope.new
-        ≡ record scope.old { locals = around_locals frames.now ++ scope.old.locals }) }
-{
-    let mut left = frames.len();
-    'frames: while left > 0 {
-        left -= 1;
-        let Some(frame) = frames.get(left) else {
-            unreachable!()
-        };
-        push_facts(alloc, scope, &frame.block.facts)?;
-    }
-    Ok(())
-}
+use theory_ctx::Locals;
 
 impl Levels {
-    /// Adds the named facts of all blocks, the outermost first.
-    pub(crate) fn push_locals(&self, alloc: Global, scope: &mut Scope) -> Result<(), AllocError>
-        ensures { OnOk result (scope.new
-            ≡ record scope.old { locals = locals_of self.now ++ scope.old.locals }) }
+    /// The named facts of each block, the innermost first. Those of the blocks around are shared as
+    /// they stand.
+    pub(crate) fn sights(&self, alloc: Global) -> Result<SharedList<Locals>, AllocError>
+        ensures { IfOk result (λ sights. joined sights ≡ locals_of self.now) }
     {
         match self {
-            Levels::Closed => Ok(()),
-            Levels::Prove { goal: _, around } => push_frames(alloc, scope, around),
+            Levels::Closed => Ok(SharedList::new()),
+            Levels::Prove { goal: _, around } => around.sights(),
             Levels::State { block, around } => {
-                push_frames(alloc, scope, around)?;
-                push_facts(alloc, scope, &block.facts)
+                let sights = around.sights()?;
+                sights.with_first(alloc, block.facts.named().copy()?)
             }
         }
     }

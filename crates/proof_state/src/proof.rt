@@ -6,10 +6,10 @@ ghost use Rattle.proof_state.specs.Answers.{Gives, left, is_closed, is_stated, o
 ghost use Rattle.proof_state.specs.Locals.{locals_of};
 ghost use Rattle.proof_state.specs.Describes.{Describes};
 
+use crate::around::Around;
 use crate::fault::ProofFault;
 use crate::levels::Levels;
 use nj_formula::{Formula, Name};
-use shared_map::SharedList;
 use std::alloc::{AllocError, Global};
 use std::marker::Model;
 use theory_ctx::{Ctx, Scope};
@@ -42,7 +42,7 @@ impl Proof {
         Proof {
             levels: Levels::Prove {
                 goal,
-                around: SharedList::new(),
+                around: Around::new(),
             },
         }
     }
@@ -183,9 +183,8 @@ impl Proof {
         ensures { IfOk result (λ scope. scope
             ≡ record { locals = locals_of self.now; theory = theory.now; facts = ctx.now }) }
     {
-        let mut scope = Scope::new(theory, ctx);
-        self.levels.push_locals(alloc, &mut scope)?;
-        Ok(scope)
+        let blocks = self.levels.sights(alloc)?;
+        Ok(Scope::in_blocks(theory, ctx, blocks))
     }
 
     /// The print: the open goal, or the block's goal and a line for each pending subgoal. Empty
