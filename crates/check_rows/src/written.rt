@@ -1,5 +1,5 @@
 //! Proof terms as examples write them.
-use outer_tokens::{Token, is_proper, lex_under};
+use outer_tokens::{Token, lex_under, proper_ones};
 use proof_terms::{Term, TermError, read};
 use std::alloc::{AllocError, Global};
 
@@ -10,13 +10,8 @@ pub(crate) fn scalars(alloc: Global, text: &str) -> Result<Vec<char>, AllocError
 
 /// The proper tokens of a text, no alias being in force.
 fn proper_tokens(alloc: Global, source: &[char]) -> Result<Vec<Token>, AllocError> {
-    let mut tokens: Vec<Token> = Vec::new(alloc);
-    for token in &lex_under(alloc, source, &[])? {
-        if is_proper(token.kind) {
-            tokens.push(*token)?;
-        }
-    }
-    Ok(tokens)
+    let tokens = lex_under(alloc, source, &[])?;
+    proper_ones(alloc, &tokens)
 }
 
 /// The term that a text is.

@@ -4,20 +4,15 @@ use nj_kernel::Rule::{
     AllE, AllI, ConjE1, ConjE2, ConjI, DisjE, DisjI1, DisjI2, ExE, ExI, FalseE, ImpE, ImpI, NotE,
     NotI,
 };
-use outer_tokens::{Token, is_proper, lex_under};
+use outer_tokens::{Token, lex_under, proper_ones};
 use proof_terms::{Term, TermError, read, rule_named};
 use std::alloc::{AllocError, Global};
 use std::test::Fail;
 
 /// The proper tokens of a text, no alias being in force.
 fn proper_tokens(alloc: Global, source: &[char]) -> Result<Vec<Token>, AllocError> {
-    let mut tokens: Vec<Token> = Vec::new(alloc);
-    for token in &lex_under(alloc, source, &[])? {
-        if is_proper(token.kind) {
-            tokens.push(*token)?;
-        }
-    }
-    Ok(tokens)
+    let tokens = lex_under(alloc, source, &[])?;
+    proper_ones(alloc, &tokens)
 }
 
 /// What reading tells: `read`, or the text of the fault.

@@ -2,27 +2,11 @@
 use crate::cut_text::{CutText, Found};
 use crate::values::names_of;
 use crate::whole::is_as_whole;
+use row_numbers::{below, next_of};
 use sqlite_items::Items;
 use std::alloc::{AllocError, Global};
 use std::test::Fail;
 use text_edits::{Edit, Text};
-
-/// A number of a sequence that looks random (a linear congruence).
-fn next_of(seed: u64) -> u64 {
-    seed.wrapping_mul(6364136223846793005)
-        .wrapping_add(1442695040888963407)
-}
-
-/// A number below the limit, by the seed.
-fn below(seed: u64, limit: usize) -> usize {
-    let Ok(limit) = u64::try_from(limit) else {
-        return 0;
-    };
-    if limit == 0 {
-        return 0;
-    }
-    usize::try_from((seed >> 33) % limit).unwrap_or(0)
-}
 
 /// Pieces that texts are made of.
 const PIECES: [&str; 24] = [
