@@ -8,14 +8,12 @@ use Rattle.std.proofs.lemmas.Option.{slice_get_within, get_or_from_slice_get}
 use Rattle.theory_ctx.specs.declared.local.Local.{Local}
 use Rattle.theory_ctx.specs.Locals.{joined}
 
-rest_at : {X : Type 0} (xs : List X) (i : ℕ) (x : X) → slice_get xs i ≡ Some x → drop i xs ≡ x ∷ drop (i + 1) xs
-rest_at xs i x at =
-    drop_more xs i x (slice_get_within xs i x at) ∙ ap (λ y. y ∷ drop (i + 1) xs) (get_or_from_slice_get xs i x x at)
-
 -- the blocks from one on are this block and those behind it
 from_block : (blocks : List (List Local)) (i : ℕ) (block : List Local) → slice_get blocks i ≡ Some block
     → joined (drop i blocks) ≡ block ++ joined (drop (i + 1) blocks)
-from_block blocks i block at = ap joined (rest_at blocks i block at)
+from_block blocks i block at =
+    ap joined (drop_more blocks i block (slice_get_within blocks i block at)
+    ∙ ap (λ b. b ∷ drop (i + 1) blocks) (get_or_from_slice_get blocks i block block at))
 
 front_of : (block behind : List Local) (place : ℕ) (local : Local) → slice_get block place ≡ Some local
     → drop place (block ++ behind) ≡ local ∷ drop (place + 1) (block ++ behind)
