@@ -1,5 +1,5 @@
 -- The words that are written out.
-use Rattle.std.proofs.Common.{◌≡◌, ℕ, zero, suc, ◌≤◌, List, [], ◌∷◌, codes, refl, subst, arith}
+use Rattle.std.proofs.Common.{◌≡◌, ℕ, zero, suc, ◌≤◌, List, [], ◌∷◌, codes, refl, sym, subst, arith}
 use Rattle.std.specs.Prelude.{decimal, Some}
 use Rattle.clap.proofs.OnLiterals.{clap_on_literals}
 use Rattle.command_words.specs.declared.request.Request.TheVariants.{Serve, Replay, Check}

@@ -1,5 +1,5 @@
 -- Words that are taken, and others, computed (this project's own).
-use Rattle.std.specs.Prelude.{◌≡◌, ◌≤◌, ℕ, [], ◌∷◌, codes, Some, None}
+use Rattle.std.specs.Prelude.{◌≡◌, ◌≤◌, ℕ, [], ◌∷◌, codes, decimal, Some, None}
 use Rattle.command_words.specs.declared.request.Request.TheVariants.{Serve, Replay, Check}
 use Rattle.command_words.specs.Asked.{asked}
 

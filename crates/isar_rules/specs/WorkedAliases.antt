@@ -2,6 +2,7 @@
 use Rattle.std.specs.Prelude.{◌≡◌, [], ◌∷◌, codes, None}
 use Rattle.report_markup.specs.declared.kind.ReportKind.TheVariants as kind
 use Rattle.doc_nodes.specs.declared.inherited.NodeAliases.{NodeAliases}
+use Rattle.doc_nodes.specs.Aliases.{no_aliases}
 use Rattle.language.specs.declared.made.Imports.TheVariants as imports
 use Rattle.isar_rules.specs.declared.state.Place.TheVariants as place
 use Rattle.isar_rules.specs.declared.state.State.{State}

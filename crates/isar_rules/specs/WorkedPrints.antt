@@ -4,6 +4,7 @@ use Rattle.nj_formula.specs.declared.formula.Formula.{Formula}
 use Rattle.nj_formula.specs.declared.formula.Formula.TheVariants.{And, Implies}
 use Rattle.proof_state.specs.declared.levels.Levels.TheVariants.{Prove, State as Stated}
 use Rattle.proof_state.specs.declared.subgoal.Subgoal.TheVariants.{AssumeShow}
+use Rattle.suggest_rules.specs.Worked.{swap, peirce}
 use Rattle.report_markup.specs.declared.kind.ReportKind.TheVariants as kind
 use Rattle.isar_rules.specs.declared.state.State.{State}
 use Rattle.isar_rules.specs.Shown.{print}

@@ -13,7 +13,7 @@ use Rattle.report_markup.specs.declared.kind.ReportKind.TheVariants as kind
 use Rattle.isar_rules.specs.declared.state.State.{State}
 use Rattle.isar_rules.specs.Reports.{name_is, theory_is}
 use Rattle.isar_rules.specs.Steps.{step}
-use Rattle.isar_rules.specs.Small.{said, says_word, errors, reports, behind, prop, with_facts, in_block, proving}
+use Rattle.isar_rules.specs.Small.{said, says_word, errors, reports, behind, prop, in_theory, with_facts, in_block, proving}
 
 -- `~P`, and `~P --> ~P`
 abbrev pub not_p : Formula
