@@ -135,33 +135,6 @@ fn second_of(
     updated(alloc, &one, second, &Only { number: cancelled })
 }
 
-/// The same of nodes that are drawn.
-fn made_by_two(
-    alloc: Global,
-    first: &[Drawn],
-    cancelled: u64,
-    second: &[Drawn],
-) -> Result<Made, Fail> {
-    let first = nodes_of(alloc, first)?;
-    let second = nodes_of(alloc, second)?;
-    Ok(
-        second_of(alloc, first, cancelled, second)
-            .ok()
-            .ok_or("limit")?,
-    )
-}
-
-/// What it assigns.
-fn after_two(
-    alloc: Global,
-    first: &[Drawn],
-    cancelled: u64,
-    second: &[Drawn],
-) -> Result<String, Fail> {
-    let made = made_by_two(alloc, first, cancelled, second)?;
-    Ok(told(alloc, &made.version)?)
-}
-
 fn push_command(alloc: Global, text: &mut String, one: &ToldCommand) -> Result<(), AllocError> {
     let command = format!(in alloc; "{} ", one.command.number())?;
     text.push_str(command.as_str())?;
@@ -172,14 +145,32 @@ fn push_command(alloc: Global, text: &mut String, one: &ToldCommand) -> Result<(
     Ok(())
 }
 
+/// Two updates: the nodes behind the first, the number of an execution that is cancelled then, and
+/// the nodes behind the second.
+#[derive(Clone, Copy)]
+struct Two<'a>(&'a [Drawn], u64, &'a [Drawn]);
+
+/// What the second makes.
+fn made_by_two(alloc: Global, two: Two<'_>) -> Result<Made, Fail> {
+    let Two(first, cancelled, second) = two;
+    let first = nodes_of(alloc, first)?;
+    let second = nodes_of(alloc, second)?;
+    Ok(
+        second_of(alloc, first, cancelled, second)
+            .ok()
+            .ok_or("limit")?,
+    )
+}
+
+/// What it assigns.
+fn after_two(alloc: Global, two: Two<'_>) -> Result<String, Fail> {
+    let made = made_by_two(alloc, two)?;
+    Ok(told(alloc, &made.version)?)
+}
+
 /// What it tells: each node with its commands.
-fn told_by_two(
-    alloc: Global,
-    first: &[Drawn],
-    cancelled: u64,
-    second: &[Drawn],
-) -> Result<String, Fail> {
-    let made = made_by_two(alloc, first, cancelled, second)?;
+fn told_by_two(alloc: Global, two: Two<'_>) -> Result<String, Fail> {
+    let made = made_by_two(alloc, two)?;
     let mut text = String::new(alloc);
     for node in made.told.as_slice() {
         text.push_str(node.node.as_str())?;
@@ -227,17 +218,20 @@ fn an_update_keeps_what_stands_and_gives_the_next_numbers(rt: HostRuntime) -> Re
     let alloc = rt.alloc();
     let five = required("A", &[1, 2, 3, 4, 5]);
     let changed = required("A", &[1, 2, 6, 4, 5]);
-    assert_eq!(rt; after_two(alloc, &[], 0, &[five])?.as_str(), "1 2 3 4 5 |");
     assert_eq!(rt;
-        after_two(alloc, &[five], 0, &[five])?.as_str(),
+        after_two(alloc, Two(&[], 0, &[five]))?.as_str(),
         "1 2 3 4 5 |"
     );
     assert_eq!(rt;
-        after_two(alloc, &[five], 0, &[changed])?.as_str(),
+        after_two(alloc, Two(&[five], 0, &[five]))?.as_str(),
+        "1 2 3 4 5 |"
+    );
+    assert_eq!(rt;
+        after_two(alloc, Two(&[five], 0, &[changed]))?.as_str(),
         "1 2 6 7 8 |"
     );
     assert_eq!(rt;
-        after_two(alloc, &[five], 2, &[five])?.as_str(),
+        after_two(alloc, Two(&[five], 2, &[five]))?.as_str(),
         "1 6 7 8 9 |"
     );
     Ok(())
@@ -247,19 +241,19 @@ fn an_update_keeps_what_stands_and_gives_the_next_numbers(rt: HostRuntime) -> Re
 fn a_perspective_brings_evaluations_and_prints(rt: HostRuntime) -> Result<(), Fail> {
     let alloc = rt.alloc();
     assert_eq!(rt;
-        after_two(alloc, &[], 0, &[watched(2)])?.as_str(),
+        after_two(alloc, Two(&[], 0, &[watched(2)]))?.as_str(),
         "1/3 2/4 |"
     );
     assert_eq!(rt;
-        after_two(alloc, &[watched(2)], 0, &[watched(5)])?.as_str(),
+        after_two(alloc, Two(&[watched(2)], 0, &[watched(5)]))?.as_str(),
         "1/3 2/4 5/8 6/9 7/10 |"
     );
     assert_eq!(rt;
-        after_two(alloc, &[watched(2)], 0, &[watched(1)])?.as_str(),
+        after_two(alloc, Two(&[watched(2)], 0, &[watched(1)]))?.as_str(),
         "1/3 2 |"
     );
     assert_eq!(rt;
-        after_two(alloc, &[watched(2)], 3, &[watched(2)])?.as_str(),
+        after_two(alloc, Two(&[watched(2)], 3, &[watched(2)]))?.as_str(),
         "1/5 2/4 |"
     );
     Ok(())
@@ -273,15 +267,15 @@ fn an_importer_has_new_executions_where_its_import_ends_otherwise(
     let import = required("A", &[1, 2, 3]);
     let changed = required("A", &[1, 2, 6]);
     assert_eq!(rt;
-        after_two(alloc, &[import, IMPORTER], 0, &[import, IMPORTER])?.as_str(),
+        after_two(alloc, Two(&[import, IMPORTER], 0, &[import, IMPORTER]))?.as_str(),
         "1 2 3 |4 5 |"
     );
     assert_eq!(rt;
-        after_two(alloc, &[import, IMPORTER], 0, &[changed, IMPORTER])?.as_str(),
+        after_two(alloc, Two(&[import, IMPORTER], 0, &[changed, IMPORTER]))?.as_str(),
         "1 2 6 |7 8 |"
     );
     assert_eq!(rt;
-        after_two(alloc, &[import, IMPORTER], 0, &[IMPORTER])?.as_str(),
+        after_two(alloc, Two(&[import, IMPORTER], 0, &[IMPORTER]))?.as_str(),
         "6 7 |"
     );
     Ok(())
@@ -297,19 +291,19 @@ fn an_update_tells_the_nodes_whose_rows_are_others(rt: HostRuntime) -> Result<()
         ..IMPORTER
     };
     assert_eq!(rt;
-        told_by_two(alloc, &[], 0, &[import, IMPORTER])?.as_str(),
+        told_by_two(alloc, Two(&[], 0, &[import, IMPORTER]))?.as_str(),
         "A 1 :1 2 :2 3 :3 |B 4 :4 5 :5 |"
     );
     assert_eq!(rt;
-        told_by_two(alloc, &[import, IMPORTER], 0, &[import, IMPORTER])?.as_str(),
+        told_by_two(alloc, Two(&[import, IMPORTER], 0, &[import, IMPORTER]))?.as_str(),
         ""
     );
     assert_eq!(rt;
-        told_by_two(alloc, &[import, IMPORTER], 0, &[import, longer])?.as_str(),
+        told_by_two(alloc, Two(&[import, IMPORTER], 0, &[import, longer]))?.as_str(),
         "B 4 :4 7 :6 |"
     );
     assert_eq!(rt;
-        told_by_two(alloc, &[import, IMPORTER], 0, &[changed, IMPORTER])?.as_str(),
+        told_by_two(alloc, Two(&[import, IMPORTER], 0, &[changed, IMPORTER]))?.as_str(),
         "A 1 :1 2 :2 6 :6 |B 4 :7 5 :8 |"
     );
     Ok(())
@@ -320,18 +314,18 @@ fn a_node_is_told_with_the_commands_that_have_no_executions(rt: HostRuntime) -> 
     let alloc = rt.alloc();
     let empty = required("A", &[]);
     assert_eq!(rt;
-        told_by_two(alloc, &[], 0, &[watched(2)])?.as_str(),
+        told_by_two(alloc, Two(&[], 0, &[watched(2)]))?.as_str(),
         "A 1 :1/3 2 :2/4 3 4 5 |"
     );
     assert_eq!(rt;
-        told_by_two(alloc, &[watched(2)], 0, &[watched(1)])?.as_str(),
+        told_by_two(alloc, Two(&[watched(2)], 0, &[watched(1)]))?.as_str(),
         "A 1 :1/3 2 :2 3 4 5 |"
     );
     assert_eq!(rt;
-        told_by_two(alloc, &[watched(2)], 0, &[empty])?.as_str(),
+        told_by_two(alloc, Two(&[watched(2)], 0, &[empty]))?.as_str(),
         "A |"
     );
-    assert_eq!(rt; told_by_two(alloc, &[], 0, &[empty])?.as_str(), "");
+    assert_eq!(rt; told_by_two(alloc, Two(&[], 0, &[empty]))?.as_str(), "");
     Ok(())
 }
 
