@@ -4,7 +4,8 @@ use crate::shown::{Part, message_of};
 use byte_message::Frames;
 use message_values::Mode::{Build, Replay, Serve};
 use message_values::Refusal::{ArgumentCount, BadData, BadUtf8, BadYxml, UnknownFunction};
-use message_values::{Change, EditorMessage, Mode, Protocol, Refusal};
+use message_values::{Change, EditorMessage, Item, Mode, Perspective, Protocol, Refusal};
+use pide_base::NodeName;
 use pide_messages::{ReadError, read};
 use std::alloc::Global;
 use std::test::Fail;
@@ -342,6 +343,20 @@ fn asked(alloc: Global, mode: Mode, parts: &[Part]) -> Result<EditorMessage, Fai
     }
 }
 
+/// The node of the only item, its edits, and what is shown of it.
+fn only_item(items: &[Item]) -> Result<(&NodeName, &[Edit], &Perspective), Fail> {
+    let [item] = items else {
+        return Err(Fail::new("not one item"));
+    };
+    match &item.change {
+        Change::Edit {
+            edits,
+            perspective: Some(shown),
+        } => Ok((&item.node, edits.as_slice(), shown)),
+        _ => Err(Fail::new("no edits")),
+    }
+}
+
 #[test]
 fn an_update_is_read_item_by_item(rt: HostRuntime) -> Result<(), Fail> {
     let read = asked(rt.alloc(), Serve, &[UPDATE, Text("7"), OPEN_A])?;
@@ -355,19 +370,10 @@ fn an_update_is_read_item_by_item(rt: HostRuntime) -> Result<(), Fail> {
     };
     assert_eq!(rt; version.number(), 7);
     assert!(rt; blobs.is_empty());
-    let [item] = items.as_slice() else {
-        panic!(rt; "not one item");
-    };
-    assert_eq!(rt; item.node.as_str(), "A");
-    let Change::Edit {
-        edits,
-        perspective: Some(shown),
-    } = &item.change
-    else {
-        panic!(rt; "no edits");
-    };
+    let (node, edits, shown) = only_item(items.as_slice())?;
+    assert_eq!(rt; node.as_str(), "A");
     assert!(rt; shown.required && shown.ranges.is_empty());
-    let [Edit::Insert { start, text }] = edits.as_slice() else {
+    let [Edit::Insert { start, text }] = edits else {
         panic!(rt; "no insert");
     };
     assert_eq!(rt; *start, 0);
@@ -383,17 +389,8 @@ fn ranges_and_removed_texts_are_read(rt: HostRuntime) -> Result<(), Fail> {
     let EditorMessage::Update { items, .. } = read else {
         panic!(rt; "no update");
     };
-    let [item] = items.as_slice() else {
-        panic!(rt; "not one item");
-    };
-    let Change::Edit {
-        edits,
-        perspective: Some(shown),
-    } = &item.change
-    else {
-        panic!(rt; "no edits");
-    };
-    let [Edit::Remove { start, text }] = edits.as_slice() else {
+    let (_, edits, shown) = only_item(items.as_slice())?;
+    let [Edit::Remove { start, text }] = edits else {
         panic!(rt; "no remove");
     };
     assert_eq!(rt; *start, 4);
