@@ -147,16 +147,33 @@ fn word(alloc: Global, holds: bool) -> Result<String, AllocError> {
     String::from_str(alloc, if holds { "yes" } else { "no" })
 }
 
+/// A fact that a script names: its theory, its name, and its formula.
+#[derive(Drop)]
+struct NewFact {
+    theory: Name,
+    name: Name,
+    formula: Formula,
+}
+
+impl NewFact {
+    /// The fact of these, which says an atom.
+    fn of(alloc: Global, theory: &str, name: &str, said: &str) -> Result<NewFact, AllocError> {
+        Ok(NewFact {
+            theory: Name::new(alloc, theory)?,
+            name: Name::new(alloc, name)?,
+            formula: atom(alloc, said)?,
+        })
+    }
+}
+
 /// Adds a fact.
-fn add(
-    alloc: Global,
-    ctx: &mut Ctx,
-    theory: &str,
-    name: &str,
-    said: &str,
-) -> Result<String, AllocError> {
-    let (theory, name) = (Name::new(alloc, theory)?, Name::new(alloc, name)?);
-    match ctx.add(alloc, &theory, &name, atom(alloc, said)?) {
+fn add(alloc: Global, ctx: &mut Ctx, fact: NewFact) -> Result<String, AllocError> {
+    let NewFact {
+        theory,
+        name,
+        formula,
+    } = fact;
+    match ctx.add(alloc, &theory, &name, formula) {
         Ok(()) => done(alloc),
         Err(AddError::Taken) => String::from_str(alloc, "taken"),
         Err(AddError::NoMemory) => Err(AllocError),
@@ -164,15 +181,13 @@ fn add(
 }
 
 /// Puts a fact in the place of another.
-fn set(
-    alloc: Global,
-    ctx: &mut Ctx,
-    theory: &str,
-    name: &str,
-    said: &str,
-) -> Result<String, AllocError> {
-    let (theory, name) = (Name::new(alloc, theory)?, Name::new(alloc, name)?);
-    ctx.set(alloc, &theory, &name, atom(alloc, said)?)?;
+fn set(alloc: Global, ctx: &mut Ctx, fact: NewFact) -> Result<String, AllocError> {
+    let NewFact {
+        theory,
+        name,
+        formula,
+    } = fact;
+    ctx.set(alloc, &theory, &name, formula)?;
     done(alloc)
 }
 
@@ -230,8 +245,8 @@ fn merged(alloc: Global, ctx: &Ctx, kept: &Ctx) -> Result<Ctx, AllocError> {
 /// What the call tells.
 fn told(alloc: Global, ctx: &mut Ctx, kept: &mut Ctx, call: &Call) -> Result<String, AllocError> {
     match call {
-        Add(theory, name, said) => add(alloc, ctx, theory, name, said),
-        Set(theory, name, said) => set(alloc, ctx, theory, name, said),
+        Add(theory, name, said) => add(alloc, ctx, NewFact::of(alloc, theory, name, said)?),
+        Set(theory, name, said) => set(alloc, ctx, NewFact::of(alloc, theory, name, said)?),
         Has(theory, name) => word(alloc, ctx.has(theory, name)),
         Free(name) => word(alloc, ctx.has_free(name)),
         Means(theory, name) => meaning(alloc, ctx.lookup(theory, name)),
