@@ -1,10 +1,11 @@
 //! Proof terms against goals (`proof_checks`): what each rule asks for, and the first fault.
-use crate::written::{nested, scalars, term};
+use crate::written::{scalars, term};
 use nj_formula::{Formula, Name};
 use nj_syntax::parse;
 use pide_base::Stop;
 use proof_checks::{Checked, check};
 use proof_terms::{Term, TermError};
+use row_inputs::nested;
 use std::alloc::{AllocError, Global};
 use std::test::Fail;
 use theory_ctx::{AddError, Ctx, Scope};
@@ -360,7 +361,7 @@ fn quantifiers_and_fresh_names(rt: HostRuntime) -> Result<(), Fail> {
 #[test]
 fn as_deep_as_a_term_is_read(rt: HostRuntime) -> Result<(), Fail> {
     let alloc = rt.alloc();
-    let text = nested(alloc, 200)?;
+    let text = nested(alloc, "(falseE ", 200, "m")?;
     assert!(rt; is_answered(alloc, "A", text.as_str(), "m proves another formula")?);
     Ok(())
 }

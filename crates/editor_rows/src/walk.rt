@@ -5,7 +5,7 @@ use crate::scripts::outcome;
 use editor_buffer::Buffer;
 use message_values::{Change, Item, Perspective};
 use pide_base::Range;
-use row_numbers::{below, next_of};
+use row_inputs::{below, next_of};
 use sqlite_items::Items;
 use std::alloc::Global;
 use std::test::Fail;

@@ -4,16 +4,10 @@ use nj_kernel::Rule::{
     AllE, AllI, ConjE1, ConjE2, ConjI, DisjE, DisjI1, DisjI2, ExE, ExI, FalseE, ImpE, ImpI, NotE,
     NotI,
 };
-use outer_tokens::{Token, lex_under, proper_ones};
 use proof_terms::{Term, TermError, read, rule_named};
+use row_inputs::{nested, proper_tokens};
 use std::alloc::{AllocError, Global};
 use std::test::Fail;
-
-/// The proper tokens of a text, no alias being in force.
-fn proper_tokens(alloc: Global, source: &[char]) -> Result<Vec<Token>, AllocError> {
-    let tokens = lex_under(alloc, source, &[])?;
-    proper_ones(alloc, &tokens)
-}
 
 /// What reading tells: `read`, or the text of the fault.
 fn answer(alloc: Global, answer: &Result<Term, TermError>) -> Result<String, AllocError> {
@@ -143,19 +137,6 @@ fn texts_are_read_as_their_rows_say(rt: HostRuntime) -> Result<(), Fail> {
     Ok(())
 }
 
-/// A text of so many times `(falseE ` around `m`.
-fn nested(alloc: Global, count: usize) -> Result<String, AllocError> {
-    let mut text = String::new(alloc);
-    for _ in 0..count {
-        text.push_str("(falseE ")?;
-    }
-    text.push_str("m")?;
-    for _ in 0..count {
-        text.push_str(")")?;
-    }
-    Ok(text)
-}
-
 /// How many rules are nested, and what reading them tells.
 struct Depth(usize, &'static str);
 
@@ -168,7 +149,7 @@ const DEPTHS: &[Depth] = &[
 #[test]
 fn rules_are_nested_as_deep_as_their_rows_say(rt: HostRuntime) -> Result<(), Fail> {
     for Depth(count, want) in DEPTHS {
-        let text = nested(rt.alloc(), *count)?;
+        let text = nested(rt.alloc(), "(falseE ", *count, "m")?;
         let told = told(rt.alloc(), text.as_str())?;
         assert_eq!(rt; told.as_str(), *want, "{count}");
     }

@@ -2,7 +2,7 @@
 use crate::cut_text::{CutText, Found};
 use crate::values::names_of;
 use crate::whole::is_as_whole;
-use row_numbers::{below, next_of};
+use row_inputs::{below, next_of};
 use sqlite_items::Items;
 use std::alloc::{AllocError, Global};
 use std::test::Fail;

@@ -1,8 +1,6 @@
 //! Numbers that look random, for rows that walk through many cases, the same ones each time.
 //!
-//! A linear congruence after Knuth (The Art of Computer Programming, 2, 3.3.4, his MMIX). It must
-//! not know what is walked through.
-#![tactic(auto)]
+//! A linear congruence after Knuth (The Art of Computer Programming, 2, 3.3.4, his MMIX).
 
 /// The number behind this one.
 pub fn next_of(seed: u64) -> u64 {

@@ -1,0 +1,22 @@
+//! Texts, and the tokens of texts.
+use outer_tokens::{Token, lex_under, proper_ones};
+use std::alloc::{AllocError, Global};
+
+/// The proper tokens of a text, no alias being in force.
+pub fn proper_tokens(alloc: Global, source: &[char]) -> Result<Vec<Token>, AllocError> {
+    let tokens = lex_under(alloc, source, &[])?;
+    proper_ones(alloc, &tokens)
+}
+
+/// A text with so many of these openings before the inner text, and as many `)` behind it.
+pub fn nested(alloc: Global, open: &str, count: usize, inner: &str) -> Result<String, AllocError> {
+    let mut text = String::new(alloc);
+    for _ in 0..count {
+        text.push_str(open)?;
+    }
+    text.push_str(inner)?;
+    for _ in 0..count {
+        text.push_str(")")?;
+    }
+    Ok(text)
+}
