@@ -1,7 +1,8 @@
 //! Which error of a command is told where there are several, and what an error leaves (`toplevel`).
+use crate::transcripts::Transcript;
 
 /// Commands of which several errors could be told.
-pub(crate) const ERRORS: &[&str] = &[HEADERS, FACTS, PROOFS, FORKS, LEFT];
+pub(crate) const ERRORS: &[Transcript] = &[&[HEADERS], &[FACTS], &[PROOFS], &[FORKS], &[LEFT]];
 
 /// Headers.
 const HEADERS: &str = "\

@@ -1,14 +1,47 @@
 //! Each command at each place of a proof (`toplevel`).
+use crate::transcripts::Transcript;
 
 /// The places.
-pub(crate) const PROOF_PLACES: &[&str] = &[GOAL, BLOCK, SHOWN, SOLVED, HAD];
+pub(crate) const PROOF_PLACES: &[Transcript] = &[GOAL, BLOCK, SHOWN, SOLVED, HAD];
 
 /// The open goal of a lemma.
-const GOAL: &str = "\
+const GOAL: Transcript = &[LEMMA, AT_GOAL];
+
+/// A block with a subgoal.
+const BLOCK: Transcript = &[LEMMA, PROOF, IN_BLOCK];
+
+/// The open goal of a subgoal.
+const SHOWN: Transcript = &[LEMMA, PROOF, SHOW, AT_SUBGOAL];
+
+/// A block without a subgoal.
+const SOLVED: Transcript = &[LEMMA, PROOF, SHOW, BEHIND_SUBGOAL];
+
+/// The open goal of a fact of a block.
+const HAD: Transcript = &[LEMMA, PROOF, AT_FACT];
+
+/// A lemma.
+const LEMMA: &str = "\
 * a node
 +theory A begin| command theory => state theory A
 +lemma l: \"P --> P\"| command def formula P --> P => state prove: P --> P \
     suggest by (impI h1 h1)
+";
+
+/// Its block is opened.
+const PROOF: &str = "\
++proof| command => state state: P --> P
+subgoal: assume P show P
+";
+
+/// Its subgoal is shown, in two commands.
+const SHOW: &str = "\
++assume h: \"P\"| command def formula P => state state: P --> P
+subgoal: assume P show P
++show \"P\"| command formula P => state prove: P suggest by h
+";
+
+/// All commands at the goal of the lemma.
+const AT_GOAL: &str = "\
 theory A begin| error not allowed here command => state prove: P --> P suggest by (impI h1 h1)
 end| command error not allowed here => state prove: P --> P suggest by (impI h1 h1)
 axiom a: \"P\"| error not allowed here command => state prove: P --> P suggest by (impI h1 h1)
@@ -40,14 +73,8 @@ qed x| error malformed command command => state prove: P --> P suggest by (impI 
 x| error malformed command => state prove: P --> P suggest by (impI h1 h1)
 ";
 
-/// A block with a subgoal.
-const BLOCK: &str = "\
-* a node
-+theory A begin| command theory => state theory A
-+lemma l: \"P --> P\"| command def formula P --> P => state prove: P --> P \
-    suggest by (impI h1 h1)
-+proof| command => state state: P --> P
-subgoal: assume P show P
+/// All commands in its block.
+const IN_BLOCK: &str = "\
 theory A begin| error not allowed here command => state state: P --> P
 subgoal: assume P show P
 end| command error not allowed here => state state: P --> P
@@ -102,17 +129,8 @@ x| error malformed command => state state: P --> P
 subgoal: assume P show P
 ";
 
-/// The open goal of a subgoal.
-const SHOWN: &str = "\
-* a node
-+theory A begin| command theory => state theory A
-+lemma l: \"P --> P\"| command def formula P --> P => state prove: P --> P \
-    suggest by (impI h1 h1)
-+proof| command => state state: P --> P
-subgoal: assume P show P
-+assume h: \"P\"| command def formula P => state state: P --> P
-subgoal: assume P show P
-+show \"P\"| command formula P => state prove: P suggest by h
+/// All commands at the goal of its subgoal.
+const AT_SUBGOAL: &str = "\
 theory A begin| error not allowed here command => state prove: P suggest by h
 end| command error not allowed here => state prove: P suggest by h
 axiom a: \"P\"| error not allowed here command => state prove: P suggest by h
@@ -144,17 +162,8 @@ qed x| error malformed command command => state prove: P suggest by h
 x| error malformed command => state prove: P suggest by h
 ";
 
-/// A block without a subgoal.
-const SOLVED: &str = "\
-* a node
-+theory A begin| command theory => state theory A
-+lemma l: \"P --> P\"| command def formula P --> P => state prove: P --> P \
-    suggest by (impI h1 h1)
-+proof| command => state state: P --> P
-subgoal: assume P show P
-+assume h: \"P\"| command def formula P => state state: P --> P
-subgoal: assume P show P
-+show \"P\"| command formula P => state prove: P suggest by h
+/// The subgoal is proved, and then all commands.
+const BEHIND_SUBGOAL: &str = "\
 +by h| command / proved ref => state state: P --> P
 theory A begin| error not allowed here command => state state: P --> P
 end| command error not allowed here => state state: P --> P
@@ -185,14 +194,8 @@ qed x| error malformed command command => state state: P --> P
 x| error malformed command => state state: P --> P
 ";
 
-/// The open goal of a fact of a block.
-const HAD: &str = "\
-* a node
-+theory A begin| command theory => state theory A
-+lemma l: \"P --> P\"| command def formula P --> P => state prove: P --> P \
-    suggest by (impI h1 h1)
-+proof| command => state state: P --> P
-subgoal: assume P show P
+/// A fact is stated, and then all commands at its goal.
+const AT_FACT: &str = "\
 +have k: \"Q\"| command def formula Q => state prove: Q
 theory A begin| error not allowed here command => state prove: Q
 end| command error not allowed here => state prove: Q

@@ -1,45 +1,36 @@
 //! Each command at each place outside of proofs (`toplevel`).
+use crate::transcripts::Transcript;
 
 /// The places.
-pub(crate) const THEORY_PLACES: &[&str] = &[BEGINNING, OUTSIDE, THEORY, ENDED];
+pub(crate) const THEORY_PLACES: &[Transcript] = &[BEGINNING, OUTSIDE, THEORY, ENDED];
 
 /// The beginning of a node.
-const BEGINNING: &str = "\
-* a node
-theory A begin| command theory => state theory A
-end| command error not allowed here => state no theory
-axiom a: \"P\"| error not allowed here command => state no theory
-lemma m: \"P\"| error not allowed here command => state no theory
-load \"x\"@b: Q| error not allowed here command => state no theory
-proof| command error not allowed here => state no theory
-proof -| error not allowed here command => state no theory
-fix x| error not allowed here command => state no theory
-assume \"P\"| error not allowed here command => state no theory
-have \"P\"| error not allowed here command => state no theory
-show \"P\"| error not allowed here command => state no theory
-next| command error not allowed here => state no theory
-qed| command error not allowed here => state no theory
-by h| error not allowed here command => state no theory
-theory begin| error malformed command command => state no theory
-end x| error malformed command command => state no theory
-axiom a \"P\"| error malformed command command => state no theory
-lemma \"P\"| error malformed command command => state no theory
-load x| error malformed command command => state no theory
-proof x| error malformed command command => state no theory
-fix \"x\"| error malformed command command => state no theory
-assume h \"P\"| error malformed command command => state no theory
-have : \"P\"| error malformed command command => state no theory
-show h: \"P\"| error malformed command command => state no theory
-next x| error malformed command command => state no theory
-qed x| error malformed command command => state no theory
-x| error malformed command => state no theory
-";
+const BEGINNING: Transcript = &[HEADER_FIRST, NO_THEORY];
 
 /// Outside of a theory.
-const OUTSIDE: &str = "\
+const OUTSIDE: Transcript = &[END_FIRST, NO_THEORY];
+
+/// A theory.
+const THEORY: Transcript = &[IN_THEORY];
+
+/// The end of a theory.
+const ENDED: Transcript = &[BEHIND_END];
+
+/// A header where a node begins.
+const HEADER_FIRST: &str = "\
+* a node
+theory A begin| command theory => state theory A
+";
+
+/// A header behind an `end` that is not allowed.
+const END_FIRST: &str = "\
 * a node
 +end| command error not allowed here => state no theory
 theory A begin| error not allowed here command => state no theory
+";
+
+/// The other commands where there is no theory.
+const NO_THEORY: &str = "\
 end| command error not allowed here => state no theory
 axiom a: \"P\"| error not allowed here command => state no theory
 lemma m: \"P\"| error not allowed here command => state no theory
@@ -68,8 +59,8 @@ qed x| error malformed command command => state no theory
 x| error malformed command => state no theory
 ";
 
-/// A theory.
-const THEORY: &str = "\
+/// All commands in a theory.
+const IN_THEORY: &str = "\
 * a node
 +theory A begin| command theory => state theory A
 theory A begin| error not allowed here command => state theory A
@@ -101,8 +92,8 @@ qed x| error malformed command command => state theory A
 x| error malformed command => state theory A
 ";
 
-/// The end of a theory.
-const ENDED: &str = "\
+/// All commands behind the end of a theory.
+const BEHIND_END: &str = "\
 * a node
 +theory A begin| command theory => state theory A
 +end| command => state theory A ended
