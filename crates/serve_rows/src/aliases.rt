@@ -19,7 +19,7 @@ const ROWS: &[Row] = &[Row {
         "Session.settle|2",
         "Session.snapshot|2|B|",
     ],
-    replied: &[
+    replied: &[&[
         "assign|1|<:><:>A</><:><:><:>1</><:><:>1</></></><:><:>2</><:><:>2</></></></></>\
             <:><:>B</><:><:><:>3</><:><:>3</></></><:><:>4</><:><:>4</></></><:><:>5</><:><:>5\
             </></></><:><:>6</><:><:>6</></></></></>",
@@ -60,7 +60,7 @@ const ROWS: &[Row] = &[Row {
             not allowed here</><command offset=44 end_offset=46 name=by></>\
             <command offset=58 end_offset=61 name=end></><error offset=58 end_offset=61>\
             not allowed here</>||0",
-    ],
+    ]],
 }];
 
 #[test]

@@ -18,7 +18,7 @@ const ROWS: &[Row] = &[
             "Session.settle|4",
             "Session.snapshot|4|A|",
         ],
-        replied: &[
+        replied: &[&[
             THREE_ASSIGNED,
             THEORY_BEGUN,
             "report|2|eval|<command offset=0 end_offset=4 name=load></>\
@@ -42,7 +42,7 @@ const ROWS: &[Row] = &[
                 <theory offset=7 end_offset=8 name=A></><error offset=15 end_offset=23>\
                 unknown blob x</><command offset=15 end_offset=19 name=load></>\
                 <command offset=24 end_offset=27 name=end></>||0",
-        ],
+        ]],
     },
     Row {
         shows: "blobs that are refused, and one with a bad line",
@@ -58,7 +58,7 @@ const ROWS: &[Row] = &[
             "Session.settle|1",
             "Session.snapshot|1|A|",
         ],
-        replied: &[
+        replied: &[&[
             "refused|19",
             "refused|20",
             THREE_ASSIGNED,
@@ -71,7 +71,7 @@ const ROWS: &[Row] = &[
                 <theory offset=7 end_offset=8 name=A></><error offset=15 end_offset=23>\
                 bad blob line 1</><command offset=15 end_offset=19 name=load></>\
                 <command offset=24 end_offset=27 name=end></>||0",
-        ],
+        ]],
     },
 ];
 

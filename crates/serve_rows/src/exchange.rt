@@ -14,8 +14,9 @@ const PIECE: usize = 100;
 /// How many bytes the sink has room for.
 const ROOM: usize = 16_384;
 
-/// Messages, and all that is replied. A message is a line; a `|` stands between its chunks, and
-/// YXML is shown as XML, in which `</>` closes an element.
+/// Messages, and all that is replied. A message is a line, and goes on in the next ones that begin
+/// with `<`; a `|` stands between its chunks, and YXML is shown as XML, in which `</>` closes an
+/// element.
 #[derive(Clone, Copy)]
 pub(crate) struct Row {
     /// What the row shows.
@@ -23,7 +24,8 @@ pub(crate) struct Row {
     /// The word of the command line.
     pub(crate) word: &'static str,
     pub(crate) sent: &'static [&'static str],
-    pub(crate) replied: &'static [&'static str],
+    /// Runs of replies, one after the other.
+    pub(crate) replied: &'static [&'static [&'static str]],
 }
 
 impl Row {
@@ -31,7 +33,11 @@ impl Row {
     pub(crate) fn holds(&self, alloc: Global) -> Result<bool, Fail> {
         let sent = stream_of(alloc, self.sent)?;
         let replied = replied_to(alloc, &[self.word], sent)?;
-        Ok(replied.contents() == stream_of(alloc, self.replied)?.as_slice())
+        let mut lines = Vec::new(alloc);
+        for run in self.replied {
+            lines.extend_from_slice(run)?;
+        }
+        Ok(replied.contents() == stream_of(alloc, &lines)?.as_slice())
     }
 }
 
@@ -49,10 +55,18 @@ pub(crate) fn replied_to(alloc: Global, words: &[&str], sent: Vec<u8>) -> Result
 }
 
 /// The messages that are shown so, one after the other.
-pub(crate) fn stream_of(alloc: Global, messages: &[&str]) -> Result<Vec<u8>, AllocError> {
+pub(crate) fn stream_of(alloc: Global, lines: &[&str]) -> Result<Vec<u8>, AllocError> {
     let mut bytes = Vec::new(alloc);
-    for message in messages {
-        add_message(alloc, &mut bytes, message)?;
+    let mut message = String::new(alloc);
+    for line in lines {
+        if !line.starts_with('<') && !message.is_empty() {
+            add_message(alloc, &mut bytes, message.as_str())?;
+            message = String::new(alloc);
+        }
+        message.push_str(line)?;
+    }
+    if !message.is_empty() {
+        add_message(alloc, &mut bytes, message.as_str())?;
     }
     Ok(bytes)
 }

@@ -1,25 +1,21 @@
 //! What commands report, and what stands behind a wrong one.
 use crate::exchange::Row;
-use crate::messages::{
-    FOUR_ASSIGNED, LEMMA_PROVED, LEMMA_SHOWN, LEMMA_STATED, ONE_LEMMA, THEORY_BEGUN,
-};
+use crate::messages::{FOUR_ASSIGNED, LEMMA_CHECKED, ONE_LEMMA, THEORY_BEGUN};
 use std::test::Fail;
+
+/// What is shown of a lemma with a wrong proof, and of what stands before it.
+const WRONG_SHOWN: &str = "markup|1|A|<command offset=0 end_offset=6 name=theory></>\
+        <theory offset=7 end_offset=8 name=A></><command offset=15 end_offset=20 name=lemma></>\
+        <def offset=21 end_offset=22 theory=A name=l></><formula offset=24 end_offset=27>P</>\
+        <error offset=28 end_offset=32>unknown name x</>\
+        <command offset=28 end_offset=30 name=by></>";
 
 const ROWS: &[Row] = &[
     Row {
         shows: "a text is checked while a settle waits, and a snapshot then shows all",
         word: "serve",
         sent: &[ONE_LEMMA, "Session.settle|1", "Session.snapshot|1|A|"],
-        replied: &[
-            FOUR_ASSIGNED,
-            THEORY_BEGUN,
-            LEMMA_STATED,
-            "report|3|eval|<command offset=0 end_offset=2 name=by></>",
-            "report|4|eval|<command offset=0 end_offset=3 name=end></>",
-            LEMMA_PROVED,
-            "settled|1|",
-            LEMMA_SHOWN,
-        ],
+        replied: &[LEMMA_CHECKED],
     },
     Row {
         shows: "nodes in a circle, and one behind a node that is not there, have a bad import",
@@ -33,7 +29,7 @@ const ROWS: &[Row] = &[
             "Session.settle|1",
             "Session.snapshot|1|C|",
         ],
-        replied: &[
+        replied: &[&[
             "assign|1|<:><:>A</><:><:><:>1</><:><:>1</></></><:><:>2</><:><:>2</></></></></>\
                 <:><:>B</><:><:><:>3</><:><:>3</></></><:><:>4</><:><:>4</></></></></><:><:>C</>\
                 <:><:><:>5</><:><:>5</></></><:><:>6</><:><:>6</></></></></>",
@@ -54,7 +50,7 @@ const ROWS: &[Row] = &[
                 <command offset=0 end_offset=6 name=theory></>\
                 <command offset=25 end_offset=28 name=end></><error offset=25 end_offset=28>\
                 not allowed here</>||0",
-        ],
+        ]],
     },
     Row {
         shows: "a wrong proof is an error, and the lemma is stated all the same",
@@ -65,7 +61,7 @@ const ROWS: &[Row] = &[
             "Session.settle|1",
             "Session.snapshot|1|A|",
         ],
-        replied: &[
+        replied: &[&[
             FOUR_ASSIGNED,
             THEORY_BEGUN,
             "report|2|eval|<command offset=0 end_offset=5 name=lemma></>\
@@ -74,14 +70,9 @@ const ROWS: &[Row] = &[
             "report|4|eval|<command offset=0 end_offset=3 name=end></>",
             "report|3|fork|<error offset=0 end_offset=4>unknown name x</>",
             "settled|1|",
-            "markup|1|A|<command offset=0 end_offset=6 name=theory></>\
-                <theory offset=7 end_offset=8 name=A></>\
-                <command offset=15 end_offset=20 name=lemma></>\
-                <def offset=21 end_offset=22 theory=A name=l></><formula offset=24 end_offset=27>P\
-                </><error offset=28 end_offset=32>unknown name x</>\
-                <command offset=28 end_offset=30 name=by></>\
-                <command offset=33 end_offset=36 name=end></>||0",
-        ],
+            WRONG_SHOWN,
+            "<command offset=33 end_offset=36 name=end></>||0",
+        ]],
     },
     Row {
         shows: "a wrong proof is an error where it stands, and its lemma can be cited",
@@ -94,7 +85,7 @@ const ROWS: &[Row] = &[
             "Session.settle|1",
             "Session.snapshot|1|A|",
         ],
-        replied: &[
+        replied: &[&[
             "assign|1|<:><:>A</><:><:><:>1</><:><:>1</></></><:><:>2</><:><:>2</></></><:><:>3\
                 </><:><:>3</></></><:><:>4</><:><:>4</></></><:><:>5</><:><:>5</></></><:><:>6</>\
                 <:><:>6</></></></></>",
@@ -111,18 +102,13 @@ const ROWS: &[Row] = &[
             "report|5|fork|<proved offset=0 end_offset=4></>\
                 <ref offset=3 end_offset=4 theory=A name=l></>",
             "settled|1|",
-            "markup|1|A|<command offset=0 end_offset=6 name=theory></>\
-                <theory offset=7 end_offset=8 name=A></>\
-                <command offset=15 end_offset=20 name=lemma></>\
-                <def offset=21 end_offset=22 theory=A name=l></><formula offset=24 end_offset=27>P\
-                </><error offset=28 end_offset=32>unknown name x</>\
-                <command offset=28 end_offset=30 name=by></>\
-                <command offset=33 end_offset=38 name=lemma></>\
+            WRONG_SHOWN,
+            "<command offset=33 end_offset=38 name=lemma></>\
                 <def offset=39 end_offset=40 theory=A name=m></><formula offset=42 end_offset=45>P\
                 </><proved offset=46 end_offset=50></><command offset=46 end_offset=48 name=by></>\
                 <ref offset=49 end_offset=50 theory=A name=l></>\
                 <command offset=51 end_offset=54 name=end></>||0",
-        ],
+        ]],
     },
 ];
 

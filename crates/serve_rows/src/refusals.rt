@@ -9,7 +9,7 @@ const ROWS: &[Row] = &[
         shows: "an argument at fault is refused, and the session goes on",
         word: "serve",
         sent: &["Session.update|1|<:>", "Session.settle|1"],
-        replied: &["refused|4", "refused|7"],
+        replied: &[&["refused|4", "refused|7"]],
     },
     Row {
         shows: "each refusal has its number",
@@ -35,7 +35,7 @@ const ROWS: &[Row] = &[
             "Step.claim|1",
             "Session.settle|1",
         ],
-        replied: &[
+        replied: &[&[
             FOUR_ASSIGNED,
             "refused|1",
             "refused|2",
@@ -53,13 +53,13 @@ const ROWS: &[Row] = &[
             "refused|16",
             "claimed|1|1|eval",
             "refused|17",
-        ],
+        ]],
     },
     Row {
         shows: "steps are told in a script alone",
         word: "serve",
         sent: &[ONE_LEMMA, "Step.claim|1"],
-        replied: &[FOUR_ASSIGNED, "refused|1"],
+        replied: &[&[FOUR_ASSIGNED, "refused|1"]],
     },
 ];
 

@@ -1,10 +1,15 @@
 //! Snapshots: over edits that are pending, with prints, by symbols.
 use crate::exchange::Row;
 use crate::messages::{
-    FOUR_ASSIGNED, LEMMA_PROVED, LEMMA_SHOWN, LEMMA_STATED, ONE_LEMMA, PARTLY_ASSIGNED,
-    PARTLY_VISIBLE, THEORY_BEGUN, THREE_ASSIGNED,
+    LEMMA_CHECKED, ONE_LEMMA, PARTLY_ASSIGNED, PARTLY_VISIBLE, THEORY_BEGUN, THREE_ASSIGNED,
 };
 use std::test::Fail;
+
+/// What is shown of the lemma, and of what follows it, two places further on.
+const LEMMA_MOVED: &str = "<command offset=17 end_offset=22 name=lemma></>\
+        <def offset=23 end_offset=24 theory=A name=l></><formula offset=26 end_offset=35>P --> P\
+        </><proved offset=36 end_offset=49></><command offset=36 end_offset=38 name=by></>\
+        <ref offset=47 end_offset=48 name=h></><command offset=50 end_offset=53 name=end></>||1";
 
 const ROWS: &[Row] = &[
     Row {
@@ -19,34 +24,22 @@ const ROWS: &[Row] = &[
             "Session.snapshot|1|A|<:><1 0=6> A </></>",
         ],
         replied: &[
-            FOUR_ASSIGNED,
-            THEORY_BEGUN,
-            LEMMA_STATED,
-            "report|3|eval|<command offset=0 end_offset=2 name=by></>",
-            "report|4|eval|<command offset=0 end_offset=3 name=end></>",
-            LEMMA_PROVED,
-            "settled|1|",
-            LEMMA_SHOWN,
-            "markup|1|A|<command offset=0 end_offset=6 name=theory></>\
-                <theory offset=7 end_offset=8 name=A></>\
-                <command offset=17 end_offset=22 name=lemma></>\
-                <def offset=23 end_offset=24 theory=A name=l></><formula offset=26 end_offset=35>\
-                P --> P</><proved offset=36 end_offset=49></>\
-                <command offset=36 end_offset=38 name=by></><ref offset=47 end_offset=48 name=h>\
-                </><command offset=50 end_offset=53 name=end></>||1",
-            "markup|1|A|<command offset=0 end_offset=6 name=theory></>\
-                <theory offset=7 end_offset=10 name=A></>\
-                <command offset=17 end_offset=22 name=lemma></>\
-                <def offset=23 end_offset=24 theory=A name=l></><formula offset=26 end_offset=35>\
-                P --> P</><proved offset=36 end_offset=49></>\
-                <command offset=36 end_offset=38 name=by></><ref offset=47 end_offset=48 name=h>\
-                </><command offset=50 end_offset=53 name=end></>||1",
-            "markup|1|A|<command offset=0 end_offset=6 name=theory></>\
-                <command offset=12 end_offset=17 name=lemma></>\
-                <def offset=18 end_offset=19 theory=A name=l></><formula offset=21 end_offset=30>\
-                P --> P</><proved offset=31 end_offset=44></>\
-                <command offset=31 end_offset=33 name=by></><ref offset=42 end_offset=43 name=h>\
-                </><command offset=45 end_offset=48 name=end></>||1",
+            LEMMA_CHECKED,
+            &[
+                "markup|1|A|<command offset=0 end_offset=6 name=theory></>\
+                    <theory offset=7 end_offset=8 name=A></>",
+                LEMMA_MOVED,
+                "markup|1|A|<command offset=0 end_offset=6 name=theory></>\
+                    <theory offset=7 end_offset=10 name=A></>",
+                LEMMA_MOVED,
+                "markup|1|A|<command offset=0 end_offset=6 name=theory></>\
+                    <command offset=12 end_offset=17 name=lemma></>\
+                    <def offset=18 end_offset=19 theory=A name=l></>\
+                    <formula offset=21 end_offset=30>P --> P</><proved offset=31 end_offset=44></>\
+                    <command offset=31 end_offset=33 name=by></>\
+                    <ref offset=42 end_offset=43 name=h></>\
+                    <command offset=45 end_offset=48 name=end></>||1",
+            ],
         ],
     },
     Row {
@@ -58,7 +51,7 @@ const ROWS: &[Row] = &[
             "Session.snapshot|1|A|",
             "Session.update|2|<:><:>A</><:><0><:><:><0 0=0>  </></></><:></></></></>",
         ],
-        replied: &[
+        replied: &[&[
             PARTLY_ASSIGNED,
             THEORY_BEGUN,
             "report|2|eval|<command offset=0 end_offset=5 name=axiom></>\
@@ -73,7 +66,7 @@ const ROWS: &[Row] = &[
                 <def offset=21 end_offset=22 theory=A name=a></><formula offset=24 end_offset=27>P\
                 </>||0",
             "assign|2|",
-        ],
+        ]],
     },
     Row {
         shows: "the places of symbols are told where the first message asks for them",
@@ -86,7 +79,7 @@ const ROWS: &[Row] = &[
             "Session.settle|1",
             "Session.snapshot|1|A|",
         ],
-        replied: &[
+        replied: &[&[
             "protocol|2",
             "refused|18",
             THREE_ASSIGNED,
@@ -102,7 +95,7 @@ const ROWS: &[Row] = &[
                 <command offset=16 end_offset=21 name=axiom></>\
                 <def offset=22 end_offset=23 theory=A name=a></><formula offset=25 end_offset=28>P\
                 </><command offset=29 end_offset=32 name=end></>||0",
-        ],
+        ]],
     },
 ];
 

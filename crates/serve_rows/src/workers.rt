@@ -15,7 +15,7 @@ const ROWS: &[Row] = &[
             "Session.settle|1",
             "Session.update|2|",
         ],
-        replied: &[
+        replied: &[&[
             FOUR_ASSIGNED,
             "claimed|1|1|eval",
             "cancelled|1",
@@ -23,7 +23,7 @@ const ROWS: &[Row] = &[
             "settled|1|<:>1</><:>2</><:>3</><:>4</>",
             "assign|2|<:><:>A</><:><:><:>1</><:><:>5</></></><:><:>2</><:><:>6</></></><:><:>3\
                 </><:><:>7</></></><:><:>4</><:><:>8</></></></></>",
-        ],
+        ]],
     },
     Row {
         shows: "a part that is held outlives the version for which it was taken",
@@ -39,7 +39,7 @@ const ROWS: &[Row] = &[
             "Session.remove_versions|<:>2</>",
             "Session.update|1|",
         ],
-        replied: &[
+        replied: &[&[
             FOUR_ASSIGNED,
             "claimed|1|1|eval",
             "assign|2|",
@@ -50,7 +50,7 @@ const ROWS: &[Row] = &[
             "refused|7",
             "refused|8",
             "refused|6",
-        ],
+        ]],
     },
     Row {
         shows: "parts are taken in order, and a cancelled check of a proof leaves the others",
@@ -72,7 +72,7 @@ const ROWS: &[Row] = &[
             "Session.snapshot|1|A|",
             "Session.update|2|",
         ],
-        replied: &[
+        replied: &[&[
             FOUR_ASSIGNED,
             "claimed|1|1|eval",
             THEORY_BEGUN,
@@ -94,7 +94,7 @@ const ROWS: &[Row] = &[
                 <command offset=48 end_offset=51 name=end></>|<:>3</>|0",
             "assign|2|<:><:>A</><:><:><:>1</><:><:>1</></></><:><:>2</><:><:>2</></></><:><:>3\
                 </><:><:>5</></></><:><:>4</><:><:>6</></></></></>",
-        ],
+        ]],
     },
 ];
 
