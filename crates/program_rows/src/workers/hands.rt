@@ -1,5 +1,5 @@
 //! The workers and the writer of the board.
-ghost use Rattle.std.specs.Prelude.{◌≡◌, ◌++◌, ◌∷◌, []};
+ghost use Rattle.std.specs.Prelude.{◌≡◌, ◌++◌, ◌∷◌, [], None};
 ghost use mathlib.Core.List.{IsPrefix};
 ghost use Rattle.hist_lock.specs.Known.{IsSameCaller};
 ghost use Rattle.hist_lock.specs.Passes.{view, IsPassOf};
@@ -29,6 +29,30 @@ pub(super) fn add<R: Wait>(rt: &R, lock: &Shared<Board>, pass: &mut Pass<Board>,
         }
     }
     unreachable!()
+}
+
+/// Adds an entry of the caller's by which no byte is sent, as soon as there is memory.
+pub(super) fn say<R: Wait>(
+    rt: &R,
+    lock: &Shared<Board>,
+    pass: &mut Pass<Board>,
+    by: u32,
+    what: Said,
+)
+    requires own { IsPassOf lock.now pass.old }
+    requires by { (view pass.old).caller ≡ by }
+    ensures own { IsPassOf lock.now pass.new }
+    ensures same { IsSameCaller (view pass.old) (view pass.new) }
+    ensures made { (view pass.new).mine
+        ≡ (view pass.old).mine ++ record { by = by; what = what; byte = None } ∷ [] }
+    ensures knows { KnowsOwn (λ m. m.by) (view pass.new) }
+{
+    let mark = Mark {
+        by,
+        what,
+        byte: None,
+    };
+    add(rt, lock, pass, mark)
 }
 
 /// What a worker of the board does: it asks once whether to stop.
@@ -86,16 +110,7 @@ impl Work<Board> for Hands {
         who: u32,
         done: Job,
     ) -> Finish {
-        add(
-            rt,
-            lock,
-            pass,
-            Mark {
-                by: who,
-                what: Said::Finished(done.part),
-                byte: None,
-            },
-        );
+        say(rt, lock, pass, who, Said::Finished(done.part));
         Finish::Finished
     }
 
@@ -107,16 +122,7 @@ impl Work<Board> for Hands {
         who: u32,
         job: Job,
     ) -> GiveUp<Job> {
-        add(
-            rt,
-            lock,
-            pass,
-            Mark {
-                by: who,
-                what: Said::Dropped(job.part),
-                byte: None,
-            },
-        );
+        say(rt, lock, pass, who, Said::Dropped(job.part));
         GiveUp::Dropped
     }
 

@@ -3,7 +3,7 @@ ghost use Rattle.std.specs.Option.{option_map};
 ghost use Rattle.program_rows.specs.Bytes.{RestsSo};
 
 use super::board::{Board, Look, Mark, Send};
-use super::hands::add;
+use super::hands::say;
 use hist_lock::{Pass, Shared};
 use std::alloc::Global;
 use std::sync::Wait;
@@ -62,15 +62,6 @@ impl Outbox<Board> for Pen {
     }
 
     fn lose<R: Wait>(&self, rt: &R, lock: &Shared<Board>, pass: &mut Pass<Board>, who: u32) {
-        add(
-            rt,
-            lock,
-            pass,
-            Mark {
-                by: who,
-                what: Said::Lost,
-                byte: None,
-            },
-        );
+        say(rt, lock, pass, who, Said::Lost);
     }
 }

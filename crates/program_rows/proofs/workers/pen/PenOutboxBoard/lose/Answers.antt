@@ -5,4 +5,4 @@ use Rattle.program_rows.proofs.workers.pen.PenOutboxBoard.lose.Goals as goal
 
 pub returns-clause-lost : goal.returns-clause-lost
 returns-clause-lost g c =
-    ((_, refl, c.add.ensures.made), no_more (λ m. m.by) (λ m. m.byte) (view c.args.pass.now) (view c.add.new.pass) c.args.who _ refl c.requires.who (search rules) c.requires.knows c.add.ensures.knows c.add.ensures.made)
+    ((_, refl, c.say.ensures.made), no_more (λ m. m.by) (λ m. m.byte) (view c.args.pass.now) (view c.say.new.pass) c.args.who _ refl c.requires.who (search rules) c.requires.knows c.say.ensures.knows c.say.ensures.made)
