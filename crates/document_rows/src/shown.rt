@@ -120,73 +120,82 @@ const PROVED: [Row; 5] = [
     (4, (48, 51), Some(&[named!(0, 3, Command, "end")])),
 ];
 
+/// What is shown of its lemma, and of what follows, two places further on.
+const MOVED: &[Sketch] = &[
+    named!(17, 22, Command, "lemma"),
+    of_fact!(23, 24, Def, "l"),
+    told!(26, 35, Formula, "P --> P"),
+    bare!(36, 49, Proved),
+    named!(36, 38, Command, "by"),
+    named!(47, 48, Ref, "h"),
+    named!(50, 53, Command, "end"),
+];
+
+/// Edits of it, what is then shown, one list after the other, and whether it is outdated.
+const EDITED: &[(&[Change], &[&[Sketch]], &str)] = &[
+    (
+        &[],
+        &[&[
+            named!(0, 6, Command, "theory"),
+            named!(7, 8, Theory, "A"),
+            named!(15, 20, Command, "lemma"),
+            of_fact!(21, 22, Def, "l"),
+            told!(24, 33, Formula, "P --> P"),
+            bare!(34, 47, Proved),
+            named!(34, 36, Command, "by"),
+            named!(45, 46, Ref, "h"),
+            named!(48, 51, Command, "end"),
+        ]],
+        "",
+    ),
+    (
+        &[Change::Insert(15, "zz")],
+        &[
+            &[named!(0, 6, Command, "theory"), named!(7, 8, Theory, "A")],
+            MOVED,
+        ],
+        "outdated",
+    ),
+    (
+        &[Change::Insert(8, "zz")],
+        &[
+            &[named!(0, 6, Command, "theory"), named!(7, 10, Theory, "A")],
+            MOVED,
+        ],
+        "outdated",
+    ),
+    (
+        &[Change::Remove(6, " A ")],
+        &[&[
+            named!(0, 6, Command, "theory"),
+            named!(12, 17, Command, "lemma"),
+            of_fact!(18, 19, Def, "l"),
+            told!(21, 30, Formula, "P --> P"),
+            bare!(31, 44, Proved),
+            named!(31, 33, Command, "by"),
+            named!(42, 43, Ref, "h"),
+            named!(45, 48, Command, "end"),
+        ]],
+        "outdated",
+    ),
+];
+
+/// All of these, one list after the other.
+fn joined(alloc: Global, lists: &[&'static [Sketch]]) -> Result<Vec<Sketch>, AllocError> {
+    let mut all = Vec::new(alloc);
+    for list in lists {
+        all.extend_from_slice(list)?;
+    }
+    Ok(all)
+}
+
 #[test]
 fn a_theory_and_edits_of_it(rt: HostRuntime) -> Result<(), Fail> {
-    let rows: [(&[Change], &[Sketch], &str); 4] = [
-        (
-            &[],
-            &[
-                named!(0, 6, Command, "theory"),
-                named!(7, 8, Theory, "A"),
-                named!(15, 20, Command, "lemma"),
-                of_fact!(21, 22, Def, "l"),
-                told!(24, 33, Formula, "P --> P"),
-                bare!(34, 47, Proved),
-                named!(34, 36, Command, "by"),
-                named!(45, 46, Ref, "h"),
-                named!(48, 51, Command, "end"),
-            ],
-            "",
-        ),
-        (
-            &[Change::Insert(15, "zz")],
-            &[
-                named!(0, 6, Command, "theory"),
-                named!(7, 8, Theory, "A"),
-                named!(17, 22, Command, "lemma"),
-                of_fact!(23, 24, Def, "l"),
-                told!(26, 35, Formula, "P --> P"),
-                bare!(36, 49, Proved),
-                named!(36, 38, Command, "by"),
-                named!(47, 48, Ref, "h"),
-                named!(50, 53, Command, "end"),
-            ],
-            "outdated",
-        ),
-        (
-            &[Change::Insert(8, "zz")],
-            &[
-                named!(0, 6, Command, "theory"),
-                named!(7, 10, Theory, "A"),
-                named!(17, 22, Command, "lemma"),
-                of_fact!(23, 24, Def, "l"),
-                told!(26, 35, Formula, "P --> P"),
-                bare!(36, 49, Proved),
-                named!(36, 38, Command, "by"),
-                named!(47, 48, Ref, "h"),
-                named!(50, 53, Command, "end"),
-            ],
-            "outdated",
-        ),
-        (
-            &[Change::Remove(6, " A ")],
-            &[
-                named!(0, 6, Command, "theory"),
-                named!(12, 17, Command, "lemma"),
-                of_fact!(18, 19, Def, "l"),
-                told!(21, 30, Formula, "P --> P"),
-                bare!(31, 44, Proved),
-                named!(31, 33, Command, "by"),
-                named!(42, 43, Ref, "h"),
-                named!(45, 48, Command, "end"),
-            ],
-            "outdated",
-        ),
-    ];
-    for (changes, shown, rest) in rows {
+    for (changes, shown, rest) in EDITED {
         let taken = taken(rt.alloc(), &PROVED, changes)?;
-        assert_eq!(rt; taken.0.as_str(), yxml(rt.alloc(), shown)?.as_str());
-        assert_eq!(rt; taken.1.as_str(), rest);
+        let shown = joined(rt.alloc(), shown)?;
+        assert_eq!(rt; taken.0.as_str(), yxml(rt.alloc(), &shown)?.as_str());
+        assert_eq!(rt; taken.1.as_str(), *rest);
     }
     Ok(())
 }
