@@ -1,8 +1,7 @@
 -- A language of numbers: a state is a number that tells of all that was run.
 use Rattle.std.specs.Prelude.{ℕ, ◌+◌, ◌*◌, ◌%◌, ◌==◌, Bool, false, List, [], ◌∷◌, length, decimal, Option, Some, None}
-use Rattle.report_markup.specs.declared.kind.ReportKind.{ReportKind}
 use Rattle.report_markup.specs.declared.kind.ReportKind.TheVariants as report
-use Rattle.report_markup.specs.declared.report.Report.{Report}
+use Rattle.row_language.specs.About.{about}
 use Rattle.language.specs.Lang.{Lang}
 use Rattle.language.specs.declared.made.Imported.{Imported}
 use Rattle.language.specs.declared.made.Imports.{Imports}
@@ -38,19 +37,6 @@ abbrev pub is_forking : List ℕ → Bool
 is_forking [] = false
 is_forking (c ∷ cs) = c == 98
 
--- a report of the whole source, which tells a number
-abbrev pub whole : ReportKind → List ℕ → ℕ → Report
-whole kind source n = record {
-  range = record { start = 0; stop = length source };
-  kind = kind;
-  properties = [];
-  text = decimal n;
-}
-
--- it alone
-abbrev pub about : ReportKind → List ℕ → ℕ → List Report
-about kind source n = whole kind source n ∷ []
-
 -- each report tells the state: an evaluation and a print the one behind the command, a fork the one
 -- before it
 abbrev pub counting : Lang ℕ
@@ -58,9 +44,9 @@ counting = record {
   start = λ node imports aliases. begun imports (length aliases.pairs);
   step = λ source blob state. record {
     state = run source blob state;
-    reports = about report.Command source (run source blob state);
+    reports = about report.Command source (decimal (run source blob state));
     forks = is_forking source;
   };
-  fork = λ source state. about report.Proved source state;
-  print = λ source state. about report.State source state;
+  fork = λ source state. about report.Proved source (decimal state);
+  print = λ source state. about report.State source (decimal state);
 }

@@ -7,7 +7,7 @@ ghost use Rattle.core_rows.specs.Tally.{counting};
 ghost use Rattle.core_rows.specs.Desk.{IsPreparedBy};
 
 use crate::table::{Table, put, take_out};
-use crate::tally::{Never, Tally};
+use crate::tally::Tally;
 use buffer_laws::fits_law;
 use core_jobs::{Job, Ran, job_law};
 use core_rules::core_law;
@@ -18,6 +18,7 @@ use exec_table::Cancelling;
 use message_values::{BlobChange, Item, Refusal};
 use pide_base::{ExecId, Part, VersionId};
 use prover_core::{Claim, Core, Finish, GiveUp};
+use row_language::Never;
 use sheet_edits::PrepareError;
 use sqlite_items::Items;
 use std::alloc::{AllocError, Global};

@@ -1,11 +1,12 @@
 //! A version checked from nothing: its nodes in the order of imports, in each one command after the
 //! other. No execution, worker or version before is in it.
-use crate::tally::{Never, Tally};
+use crate::tally::Tally;
 use doc_nodes::{Entry, ImportGraph, Node, NodeAliases, Nodes, Shared, aliases_of};
 use exec_rules::Blobs;
 use language::{Answer, Imported, Imports, Language, Made};
 use outer_tokens::scalars;
 use report_markup::Report;
+use row_language::Never;
 use sqlite_items::Items;
 use std::alloc::Global;
 use std::test::Fail;

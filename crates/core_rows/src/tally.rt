@@ -1,31 +1,21 @@
 //! A language of numbers (`language`): a state is a number that tells of all that was run.
 ghost use Rattle.std.specs.Prelude.{◌≡◌, IfOk, decimal, string_bytes};
 ghost use Rattle.std.specs.Option.{option_copied};
-ghost use Rattle.core_rows.specs.Tally.{counted, summed, imported, begun, run, is_forking, about};
+ghost use Rattle.core_rows.specs.Tally.{counted, summed, imported, begun, run, is_forking};
+ghost use Rattle.row_language.specs.About.{about};
 
 use doc_nodes::NodeAliases;
 use itoa::Buffer;
 use language::{Answer, Imported, Imports, Language, Made};
-use pide_base::{NodeName, Range, Stop};
+use pide_base::{NodeName, Stop};
 use report_markup::{PlainText, Report, ReportKind};
+use row_language::about;
 use sqlite_items::Items;
 use std::alloc::{AllocError, Global};
 
 /// Two texts that differ are almost never told by the same number. A command that begins with a `b`
 /// forks.
 pub(crate) struct Tally;
-
-/// Never asks to stop.
-#[derive(Drop)]
-pub(crate) struct Never;
-
-impl Stop for Never {
-    ghost yeses = { λ never. 0 };
-
-    fn asked(&mut self) -> bool {
-        false
-    }
-}
 
 /// A number with another one behind it.
 fn counted(number: u64, more: u64) -> u64
@@ -89,27 +79,17 @@ fn told(alloc: Global, number: u64) -> Result<PlainText, AllocError>
     PlainText::from_str(alloc, buffer.format(number))
 }
 
-/// One report, of the whole source.
-fn about(
+/// One report, of the whole source, which tells the number.
+fn telling(
     alloc: Global,
     kind: ReportKind,
     source: &[char],
     number: u64,
 ) -> Result<Items<Report>, AllocError>
-    ensures { IfOk result (λ reports. reports ≡ about kind source.now number) }
+    ensures { IfOk result (λ reports. reports ≡ about kind source.now (decimal number)) }
 {
     let text = told(alloc, number)?;
-    let mut reports = Items::new(alloc);
-    reports.push(Report {
-        range: Range {
-            start: 0,
-            stop: source.len(),
-        },
-        kind,
-        properties: Items::new(alloc),
-        text,
-    })?;
-    Ok(reports)
+    about(alloc, kind, source, text)
 }
 
 impl Language for Tally {
@@ -150,7 +130,7 @@ impl Language for Tally {
             return Answer::Stopped;
         }
         let state = run(source, blob, *state);
-        match about(alloc, ReportKind::Command, source, state) {
+        match telling(alloc, ReportKind::Command, source, state) {
             Err(_) => Answer::NoMemory,
             Ok(reports) => Answer::Given(Made {
                 state,
@@ -170,7 +150,7 @@ impl Language for Tally {
         if stop.asked() {
             return Answer::Stopped;
         }
-        match about(alloc, ReportKind::Proved, source, *state) {
+        match telling(alloc, ReportKind::Proved, source, *state) {
             Ok(reports) => Answer::Given(reports),
             Err(_) => Answer::NoMemory,
         }
@@ -182,6 +162,6 @@ impl Language for Tally {
         source: &[char],
         state: &u64,
     ) -> Result<Items<Report>, AllocError> {
-        about(alloc, ReportKind::State, source, *state)
+        telling(alloc, ReportKind::State, source, *state)
     }
 }

@@ -1,8 +1,9 @@
 //! A language whose states are lengths (`language`).
-use doc_nodes::{Aliases, NodeAliases, Shared};
+use doc_nodes::NodeAliases;
 use language::{Answer, Imports, Language, Made};
 use pide_base::{NodeName, Stop};
 use report_markup::Report;
+use row_language::{Never, begun};
 use sqlite_items::Items;
 use std::alloc::{AllocError, Global};
 use std::test::Fail;
@@ -67,31 +68,10 @@ impl Language for Lengths {
     }
 }
 
-/// Never asks.
-#[derive(Drop)]
-struct Never;
-
-impl Stop for Never {
-    ghost yeses = { λ _. 0 };
-
-    fn asked(&mut self) -> bool {
-        false
-    }
-}
-
 /// The state behind a command of this source, in a node without imports.
 fn left<L: Language>(lang: &L, alloc: Global, source: &[char]) -> Result<Option<L::State>, Fail> {
-    let node = NodeName::new(String::from_str(alloc, "A")?)
-        .ok()
-        .ok_or("name")?;
-    let aliases = NodeAliases {
-        pairs: Shared::new(alloc, Aliases::new(alloc))
-            .ok()
-            .ok_or("memory")?,
-        bad: None,
-    };
     let imports = Imports::Ordered(Items::new(alloc));
-    let state = lang.start(alloc, &node, &imports, &aliases)?;
+    let state = begun(lang, alloc, &imports, None)?;
     match lang.step(alloc, source, None, &state, &mut Never) {
         Answer::Given(made) => Ok(Some(made.state)),
         Answer::Stopped | Answer::NoMemory => Ok(None),

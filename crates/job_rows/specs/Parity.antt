@@ -1,11 +1,10 @@
 -- A language of two states: whether an odd number of commands was run.
-use Rattle.std.specs.Prelude.{ℕ, Bool, true, false, not, nat_lt, is_some, List, [], ◌∷◌, length, Option, Some, None}
+use Rattle.std.specs.Prelude.{ℕ, Bool, true, false, not, nat_lt, is_some, List, [], length, Option, Some, None}
 use Rattle.std.specs.List.{AllByRecursion}
-use Rattle.std.proofs.Common.{arith, inr, inl}
-use Rattle.report_markup.specs.Ranges.{AreTreelike, IsTreelike}
+use Rattle.report_markup.specs.Ranges.{IsTreelike}
 use Rattle.report_markup.specs.declared.kind.ReportKind.{ReportKind}
 use Rattle.report_markup.specs.declared.kind.ReportKind.TheVariants as report
-use Rattle.report_markup.specs.declared.report.Report.{Report}
+use Rattle.row_language.specs.About.{about, lies, to_two, to_three}
 use Rattle.language.specs.Lang.{Lang}
 use Rattle.language.specs.Laws.{AreTidy, LiesIn, reports_of}
 use Rattle.language.specs.declared.made.Imports.{Imports}
@@ -15,19 +14,6 @@ use Rattle.language.specs.declared.made.Imports.TheVariants.{Ordered, Bad}
 abbrev pub begun : Imports Bool → Bool
 begun (Ordered imports) = nat_lt 0 (length imports)
 begun (Bad name) = false
-
--- a report of the whole source
-abbrev pub whole : ReportKind → List ℕ → Report
-whole kind source = record {
-  range = record { start = 0; stop = length source };
-  kind = kind;
-  properties = [];
-  text = [];
-}
-
--- it alone
-abbrev pub about : ReportKind → List ℕ → List Report
-about kind source = whole kind source ∷ []
 
 -- what is reported of a fork in a state
 abbrev pub forked : Bool → ReportKind
@@ -45,53 +31,37 @@ parity = record {
   start = λ node imports aliases. begun imports;
   step = λ source blob state. record {
     state = not state;
-    reports = about report.Command source;
+    reports = about report.Command source [];
     forks = is_some blob;
   };
-  fork = λ source state. about (forked state) source;
-  print = λ source state. about (printed state) source;
+  fork = λ source state. about (forked state) source [];
+  print = λ source state. about (printed state) source [];
 }
-
--- it lies in the source
-lies : (kind : ReportKind) (source : List ℕ) → LiesIn source (whole kind source)
-lies kind source = (omega arith, (omega arith, omega arith))
-
--- two of them are equal in range
-alike : (j k : ReportKind) (source : List ℕ)
-    → AreTreelike (whole j source).range (whole k source).range
-alike j k source = inr (inr (inl (omega arith, omega arith)))
 
 lie : (source : List ℕ) (blob : Option (List ℕ)) (state : Bool)
     → AllByRecursion (LiesIn source) (reports_of parity source blob state)
-lie source None state = (lies report.Command source, (lies (printed (not state)) source, tt))
+lie source None state = (lies report.Command source [], (lies (printed (not state)) source [], tt))
 lie source (Some text) state = (
-  lies report.Command source,
+  lies report.Command source [],
   (
-    lies (forked state) source,
-    (lies (printed (not state)) source, tt),
+    lies (forked state) source [],
+    (lies (printed (not state)) source [], tt),
   ),
 )
-
--- so is one of these kinds to each of two
-to_two : (i j k : ReportKind) (source : List ℕ)
-    → AllByRecursion (λ b. AreTreelike (whole i source).range b.range)
-    (whole j source ∷ whole k source ∷ [])
-to_two i j k source = (alike i j source, (alike i k source, tt))
-
--- and to each of three
-to_three : (h i j k : ReportKind) (source : List ℕ)
-    → AllByRecursion (λ b. AreTreelike (whole h source).range b.range)
-    (whole i source ∷ whole j source ∷ whole k source ∷ [])
-to_three h i j k source = (alike h i source, to_two h j k source)
 
 treelike : (source : List ℕ) (blob : Option (List ℕ)) (state : Bool)
     → IsTreelike (reports_of parity source blob state)
 treelike source None state =
     let i = report.Command in let j = printed (not state) in
-    (to_two i i j source, (to_two j i j source, tt))
+    (to_two i i j source [] [] [], (to_two j i j source [] [] [], tt))
 treelike source (Some text) state =
-    let i = report.Command in let j = forked state in let k = printed (not state) in
-    (to_three i i j k source, (to_three j i j k source, (to_three k i j k source, tt)))
+    let i = report.Command in let j = forked state in let k = printed (not state) in (
+      to_three i i j k source [] [] [] [],
+      (
+        to_three j i j k source [] [] [] [],
+        (to_three k i j k source [] [] [] [], tt),
+      ),
+    )
 
 -- each report is of the whole source
 pub tidy : AreTidy parity

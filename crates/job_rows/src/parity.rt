@@ -1,11 +1,9 @@
 //! A language whose states tell whether an odd number of commands was run (`language`).
-ghost use Rattle.std.specs.Prelude.{◌≡◌, IfOk};
-ghost use Rattle.job_rows.specs.Parity.{about};
-
 use doc_nodes::NodeAliases;
 use language::{Answer, Imports, Language, Made};
-use pide_base::{NodeName, Range, Stop};
+use pide_base::{NodeName, Stop};
 use report_markup::{PlainText, Report, ReportKind};
+use row_language::about;
 use sqlite_items::Items;
 use std::alloc::{AllocError, Global};
 
@@ -13,23 +11,6 @@ use std::alloc::{AllocError, Global};
 /// even one odd, and forks where it has a blob. Its evaluation asks to stop before and behind its
 /// work, its fork before.
 pub(crate) struct Parity;
-
-/// One report, of the whole source.
-fn about(alloc: Global, kind: ReportKind, source: &[char]) -> Result<Items<Report>, AllocError>
-    ensures { IfOk result (λ reports. reports ≡ about kind source.now) }
-{
-    let mut reports = Items::new(alloc);
-    reports.push(Report {
-        range: Range {
-            start: 0,
-            stop: source.len(),
-        },
-        kind,
-        properties: Items::new(alloc),
-        text: PlainText::empty(),
-    })?;
-    Ok(reports)
-}
 
 impl Language for Parity {
     ghost use Rattle.job_rows.specs.Parity.{parity, tidy};
@@ -65,7 +46,7 @@ impl Language for Parity {
             return Answer::Stopped;
         }
         let forks = blob.is_some();
-        let Ok(reports) = about(alloc, ReportKind::Command, source) else {
+        let Ok(reports) = about(alloc, ReportKind::Command, source, PlainText::empty()) else {
             return Answer::NoMemory;
         };
         if stop.asked() {
@@ -93,7 +74,7 @@ impl Language for Parity {
         } else {
             ReportKind::Ref
         };
-        match about(alloc, kind, source) {
+        match about(alloc, kind, source, PlainText::empty()) {
             Ok(reports) => Answer::Given(reports),
             Err(_) => Answer::NoMemory,
         }
@@ -110,6 +91,6 @@ impl Language for Parity {
         } else {
             ReportKind::Error
         };
-        about(alloc, kind, source)
+        about(alloc, kind, source, PlainText::empty())
     }
 }

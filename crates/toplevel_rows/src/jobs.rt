@@ -1,10 +1,11 @@
 //! Commands of the language as jobs (`core_jobs`), which know a language by its trait alone.
-use crate::running::{Never, started, tell};
+use crate::running::{started, tell};
 use crate::scripts::{BLOB, ROWS, Row};
 use core_jobs::{Done, Input, Job, Ran};
 use doc_nodes::Shared;
 use isar_rules::State;
 use pide_base::{ExecId, Flag, Part, PartKind};
+use row_language::Never;
 use std::alloc::Global;
 use std::test::Fail;
 use text_edits::Text;

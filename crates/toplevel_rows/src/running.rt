@@ -1,25 +1,12 @@
 //! Commands of the language (`toplevel`), by its implementation of `language`.
-use doc_nodes::{Aliases, NodeAliases, Shared};
 use isar_rules::State;
 use language::{Answer, Imports, Language, Made};
-use pide_base::{NodeName, Stop};
 use report_markup::Report;
+use row_language::{Never, begun};
 use sqlite_items::Items;
 use std::alloc::{AllocError, Global};
 use std::test::Fail;
 use toplevel::Isar;
-
-/// Never asks to stop.
-#[derive(Drop)]
-pub(crate) struct Never;
-
-impl Stop for Never {
-    ghost yeses = { λ _. 0 };
-
-    fn asked(&mut self) -> bool {
-        false
-    }
-}
 
 /// What is given by a job that was not stopped.
 fn given<T: Drop>(answer: Answer<T>) -> Result<T, Fail> {
@@ -43,27 +30,9 @@ pub(crate) fn tell(text: &mut String, reports: &[Report]) -> Result<(), AllocErr
     Ok(())
 }
 
-/// The beginning of the node `A`, which has these imports, no aliases, and perhaps a bad one.
-pub(crate) fn begun(
-    alloc: Global,
-    imports: &Imports<State>,
-    bad: Option<Items<char>>,
-) -> Result<State, Fail> {
-    let node = NodeName::new(String::from_str(alloc, "A")?)
-        .ok()
-        .ok_or("name")?;
-    let aliases = NodeAliases {
-        pairs: Shared::new(alloc, Aliases::new(alloc))
-            .ok()
-            .ok_or("memory")?,
-        bad,
-    };
-    Ok(Isar.start(alloc, &node, imports, &aliases)?)
-}
-
 /// The beginning of the node `A`, which has no imports and no aliases.
 pub(crate) fn started(alloc: Global) -> Result<State, Fail> {
-    begun(alloc, &Imports::Ordered(Items::new(alloc)), None)
+    begun(&Isar, alloc, &Imports::Ordered(Items::new(alloc)), None)
 }
 
 /// What a command makes; a blob that it asks for has this text, or isn't there.
