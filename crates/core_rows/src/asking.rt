@@ -1,7 +1,6 @@
 //! Updates that rows ask for.
-use doc_nodes::BlobName;
-use message_values::{BlobChange, Change, Item, Perspective};
-use pide_base::{NodeName, Range};
+use message_values::{Change, Item, Perspective};
+use row_updates::{named, ranges_of};
 use sqlite_items::Items;
 use std::alloc::Global;
 use std::test::Fail;
@@ -32,17 +31,6 @@ pub(crate) enum Asked {
 #[derive(Clone, Copy, Debug)]
 pub(crate) struct Of(pub(crate) &'static str, pub(crate) Asked);
 
-/// A blob's name, and its text.
-#[derive(Clone, Copy, Debug)]
-pub(crate) struct Blob(pub(crate) &'static str, pub(crate) Option<&'static str>);
-
-pub(crate) fn named(alloc: Global, text: &str) -> Result<NodeName, Fail> {
-    match NodeName::new(String::from_str(alloc, text)?) {
-        Ok(name) => Ok(name),
-        Err(_) => Err(Fail::new("no name")),
-    }
-}
-
 fn insert(alloc: Global, edits: &mut Items<Edit>, start: usize, text: &str) -> Result<(), Fail> {
     let text = Text::from_str(alloc, text)?;
     edits.push(Edit::Insert { start, text })?;
@@ -71,13 +59,7 @@ fn edits_of(alloc: Global, asked: &Asked) -> Result<Items<Edit>, Fail> {
 }
 
 fn perspective(alloc: Global, required: bool, shown: Ranges) -> Result<Option<Perspective>, Fail> {
-    let mut ranges = Items::new(alloc);
-    for (start, stop) in shown {
-        ranges.push(Range {
-            start: *start,
-            stop: *stop,
-        })?;
-    }
+    let ranges = ranges_of(alloc, shown)?;
     Ok(Some(Perspective { required, ranges }))
 }
 
@@ -109,24 +91,4 @@ pub(crate) fn items_of(alloc: Global, asked: &[Of]) -> Result<Vec<Item>, Fail> {
         })?;
     }
     Ok(items)
-}
-
-fn blob_of(alloc: Global, name: &str, text: Option<&'static str>) -> Result<BlobChange, Fail> {
-    let text = match text {
-        Some(text) => Some(Text::from_str(alloc, text)?),
-        None => None,
-    };
-    match BlobName::new(String::from_str(alloc, name)?) {
-        Ok(name) => Ok(BlobChange { name, text }),
-        Err(_) => Err(Fail::new("no name")),
-    }
-}
-
-/// The changes of blobs of an update.
-pub(crate) fn blobs_of(alloc: Global, asked: &[Blob]) -> Result<Vec<BlobChange>, Fail> {
-    let mut blobs = Vec::new(alloc);
-    for Blob(name, text) in asked {
-        blobs.push(blob_of(alloc, name, *text)?)?;
-    }
-    Ok(blobs)
 }

@@ -1,8 +1,9 @@
 //! What updates of small documents assign, what is worked on then, and what is shown.
 use crate::asking::Asked::{Change, Insert, Opens, OpensSeen, Remove, Shows};
-use crate::asking::{Blob, Of};
+use crate::asking::Of;
 use crate::running::Step::{Blobs, Settled, Shown, Update, Work};
 use crate::running::{Script, first_other};
+use row_updates::Blob;
 use std::test::Fail;
 
 /// A theory of three axioms: five commands.

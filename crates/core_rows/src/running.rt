@@ -1,5 +1,5 @@
 //! A document under steps, with what each comes to.
-use crate::asking::{Blob, Of, blobs_of, items_of, named};
+use crate::asking::{Of, items_of};
 use crate::desk::{Desk, Left, Updated};
 use crate::plain::{Checked, check};
 use crate::telling::{
@@ -7,6 +7,7 @@ use crate::telling::{
 };
 use pide_base::{ExecId, VersionId};
 use prover_core::Settled;
+use row_updates::{Blob, blobs_of, named};
 use sqlite_items::Items;
 use std::alloc::Global;
 use std::test::Fail;

@@ -1,7 +1,6 @@
 //! Updates that rows ask for.
-use doc_nodes::BlobName;
-use message_values::{BlobChange, Change, Item, Perspective};
-use pide_base::{NodeName, Range};
+use message_values::{Change, Item, Perspective};
+use row_updates::{named, ranges_of};
 use sqlite_items::Items;
 use std::alloc::Global;
 use std::test::Fail;
@@ -28,16 +27,6 @@ pub(crate) enum Asked {
 /// A node's name, and what is asked of it.
 pub(crate) struct AskedOf(pub(crate) &'static str, pub(crate) Asked);
 
-/// A blob's name, and its text.
-pub(crate) struct Blob(pub(crate) &'static str, pub(crate) Option<&'static str>);
-
-pub(crate) fn named(alloc: Global, text: &str) -> Result<NodeName, Fail> {
-    match NodeName::new(String::from_str(alloc, text)?) {
-        Ok(name) => Ok(name),
-        Err(_) => Err(Fail::new("no name")),
-    }
-}
-
 fn edit_of(alloc: Global, typed: &Typed) -> Result<Edit, Fail> {
     match typed {
         Typed::Insert(start, text) => Ok(Edit::Insert {
@@ -61,16 +50,9 @@ fn edits_of(alloc: Global, typed: &[Typed]) -> Result<Items<Edit>, Fail> {
 
 /// A perspective of these ranges.
 fn seen(alloc: Global, ranges: &[(usize, usize)]) -> Result<Perspective, Fail> {
-    let mut all = Items::new(alloc);
-    for (start, stop) in ranges {
-        all.push(Range {
-            start: *start,
-            stop: *stop,
-        })?;
-    }
     Ok(Perspective {
         required: false,
-        ranges: all,
+        ranges: ranges_of(alloc, ranges)?,
     })
 }
 
@@ -102,28 +84,4 @@ pub(crate) fn items_of(alloc: Global, asked: &[AskedOf]) -> Result<Vec<Item>, Fa
         })?;
     }
     Ok(items)
-}
-
-fn text_of(alloc: Global, text: &Option<&str>) -> Result<Option<Text>, Fail> {
-    match text {
-        Some(text) => Ok(Some(Text::from_str(alloc, text)?)),
-        None => Ok(None),
-    }
-}
-
-/// A change of a blob.
-pub(crate) fn blob_of(alloc: Global, name: &str, text: Option<Text>) -> Result<BlobChange, Fail> {
-    match BlobName::new(String::from_str(alloc, name)?) {
-        Ok(name) => Ok(BlobChange { name, text }),
-        Err(_) => Err(Fail::new("no name")),
-    }
-}
-
-/// The changes of blobs of an update.
-pub(crate) fn blobs_of(alloc: Global, asked: &[Blob]) -> Result<Vec<BlobChange>, Fail> {
-    let mut blobs = Vec::new(alloc);
-    for Blob(name, text) in asked {
-        blobs.push(blob_of(alloc, name, text_of(alloc, text)?)?)?;
-    }
-    Ok(blobs)
 }

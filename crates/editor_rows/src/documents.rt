@@ -1,9 +1,10 @@
 //! Small documents under updates: the ids of their commands, node by node (`editor_buffer`).
 use crate::asking::Asked::Edits;
+use crate::asking::AskedOf;
 use crate::asking::Typed::{Insert, Remove};
-use crate::asking::{AskedOf, Blob};
 use crate::scripts::Update::{Blobs, Nodes};
 use crate::scripts::{Script, first_other};
+use row_updates::Blob;
 use std::test::Fail;
 
 /// A theory of one lemma, of 52 scalars.

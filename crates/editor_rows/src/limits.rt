@@ -1,8 +1,8 @@
 //! Texts at their limit.
-use crate::asking::{blob_of, named};
 use crate::scripts::outcome;
 use editor_buffer::Buffer;
 use message_values::{BlobChange, Change, Item};
+use row_updates::{blob_of, named};
 use sqlite_items::Items;
 use std::alloc::Global;
 use std::test::Fail;

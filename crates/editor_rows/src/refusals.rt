@@ -1,9 +1,10 @@
 //! Why an update of the editor's buffer is refused, and which reason comes first.
 use crate::asking::Asked::{Both, Close, Edits};
+use crate::asking::AskedOf;
 use crate::asking::Typed::{Insert, Remove};
-use crate::asking::{AskedOf, Blob};
 use crate::scripts::Update::{Nodes, Whole};
 use crate::scripts::{Script, Update, first_other};
+use row_updates::Blob;
 use std::test::Fail;
 
 /// A node A of 18 scalars.

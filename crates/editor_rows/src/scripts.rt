@@ -1,8 +1,9 @@
 //! Scripts of updates, and what each comes to.
-use crate::asking::{AskedOf, Blob, blobs_of, items_of};
+use crate::asking::{AskedOf, items_of};
 use doc_nodes::{Node, Nodes};
 use editor_buffer::{Buffer, Prepared};
 use message_values::{BlobChange, Item};
+use row_updates::{Blob, blobs_of};
 use sheet_edits::PrepareError;
 use std::alloc::{AllocError, Global};
 use std::test::Fail;

@@ -1,9 +1,10 @@
 //! Which ids commands keep, what is seen, and what is left alone (`editor_buffer`).
 use crate::asking::Asked::{Close, Edits, Shows};
+use crate::asking::AskedOf;
 use crate::asking::Typed::{Insert, Remove};
-use crate::asking::{AskedOf, Blob};
 use crate::scripts::Update::{Blobs, Nodes};
 use crate::scripts::{Script, Update, first_other};
+use row_updates::Blob;
 use std::test::Fail;
 
 /// A theory of three axioms; the second one's formula stands at 38.

@@ -1,11 +1,11 @@
 //! A walk of random updates, beside a buffer that reads everything again.
-use crate::asking::named;
 use crate::plain::Plain;
 use crate::scripts::outcome;
 use editor_buffer::Buffer;
 use message_values::{Change, Item, Perspective};
 use pide_base::Range;
 use row_inputs::{below, next_of};
+use row_updates::named;
 use sqlite_items::Items;
 use std::alloc::Global;
 use std::test::Fail;
