@@ -42,17 +42,49 @@ fn proved(alloc: Global, lemma: &Lemma) -> Result<Place, AllocError>
     Ok(Place::Theory(more))
 }
 
+/// The lemma by itself, which lends nothing.
+#[derive(Drop)]
+struct OwnLemma {
+    theory: Theory,
+    name: Name,
+    goal: Formula,
+}
+
+/// The same lemma, which shares what it has.
+fn held(alloc: Global, lemma: &Lemma) -> Result<OwnLemma, AllocError>
+    ensures { IfOk result (λ held. held ≡ record {
+      theory = lemma.now.theory.now;
+      name = lemma.now.name.now;
+      goal = lemma.now.goal.now;
+    }) }
+{
+    Ok(OwnLemma {
+        theory: lemma.theory.copy(alloc)?,
+        name: lemma.name.copy(alloc)?,
+        goal: lemma.goal.copy(alloc)?,
+    })
+}
+
+/// The lemma, with its proof so far.
+fn with_proof(lemma: OwnLemma, proof: Proof) -> Place
+    ensures { result ≡ place.Proof lemma.theory lemma.name lemma.goal proof }
+{
+    let OwnLemma { theory, name, goal } = lemma;
+    Place::Proof {
+        theory,
+        name,
+        goal,
+        proof,
+    }
+}
+
 /// The proof goes on.
 fn open(alloc: Global, lemma: &Lemma, proof: Proof) -> Result<Place, AllocError>
     ensures { IfOk result (λ p. p ≡ place.Proof
         lemma.now.theory.now lemma.now.name.now lemma.now.goal.now proof) }
 {
-    Ok(Place::Proof {
-        theory: lemma.theory.copy(alloc)?,
-        name: lemma.name.copy(alloc)?,
-        goal: lemma.goal.copy(alloc)?,
-        proof,
-    })
+    let held = held(alloc, lemma)?;
+    Ok(with_proof(held, proof))
 }
 
 /// Where the proof stands: once it is closed, the theory has the lemma.
