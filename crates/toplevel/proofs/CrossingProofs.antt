@@ -2,7 +2,6 @@
 use denote.Param.Send.{IsSend, IsSync, sendable}
 use Rattle.std.proofs.Crossing as kit
 use Rattle.shared_map.proofs.tree.Tree.TheLaws.TheKnot as trees
-use Rattle.shared_map.specs.contracts.list.SharedList as shared_list
 use Rattle.proof_state.specs.contracts.local_fact.LocalFact as local_fact
 use Rattle.proof_state.specs.contracts.facts.Facts as facts
 use Rattle.proof_state.specs.contracts.variables.Variables as variables
@@ -10,6 +9,7 @@ use Rattle.proof_state.specs.contracts.subgoal.Subgoal as subgoal
 use Rattle.proof_state.specs.contracts.block.Block as block
 use Rattle.proof_state.specs.contracts.frame.Frame as frame
 use Rattle.proof_state.specs.contracts.frame.Purpose as purpose
+use Rattle.proof_state.specs.contracts.around.Around as around
 use Rattle.proof_state.specs.contracts.levels.Levels as levels
 use Rattle.proof_state.specs.contracts.proof.Proof as proof
 use Rattle.toplevel.proofs.CrossingParts.{name_send, name_sync, formula_field_send, formula_field_sync, name_set_send, name_set_sync, locals_send, locals_sync}
@@ -74,11 +74,11 @@ frame_send = search (frame_field_send, sendable) depth 60 fits 20000
 pub frame_sync : IsSync frame.the_row
 frame_sync = search (frame_field_sync, sendable) depth 60 fits 20000
 
-pub around_send : IsSend (shared_list.the_row frame.the_row)
-around_send = search (frame_send, frame_sync, kit.crosses, trees.crosses, sendable) depth 60 fits 20000
+pub around_send : IsSend around.the_row
+around_send = search (frame_send, frame_sync, locals_send, locals_sync, kit.crosses, trees.crosses, sendable) depth 60 fits 20000
 
-pub around_sync : IsSync (shared_list.the_row frame.the_row)
-around_sync = search (frame_send, frame_sync, kit.crosses, trees.crosses, sendable) depth 60 fits 20000
+pub around_sync : IsSync around.the_row
+around_sync = search (frame_send, frame_sync, locals_send, locals_sync, kit.crosses, trees.crosses, sendable) depth 60 fits 20000
 
 pub levels_field_send : IsSend levels.the_field.row
 levels_field_send = search (formula_field_send, block_field_send, around_send, sendable) depth 60 fits 20000
