@@ -2,7 +2,7 @@
 use isar_rules::State;
 use language::{Answer, Imports, Language, Made};
 use report_markup::Report;
-use row_language::{Never, begun};
+use row_language::Never;
 use sqlite_items::Items;
 use std::alloc::{AllocError, Global};
 use std::test::Fail;
@@ -30,9 +30,18 @@ pub(crate) fn tell(text: &mut String, reports: &[Report]) -> Result<(), AllocErr
     Ok(())
 }
 
+/// The beginning of the node `A`, which has these imports, no aliases, and perhaps a bad one.
+pub(crate) fn begun(
+    alloc: Global,
+    imports: &Imports<State>,
+    bad: Option<Items<char>>,
+) -> Result<State, Fail> {
+    row_language::begun(&Isar, alloc, imports, bad)
+}
+
 /// The beginning of the node `A`, which has no imports and no aliases.
 pub(crate) fn started(alloc: Global) -> Result<State, Fail> {
-    begun(&Isar, alloc, &Imports::Ordered(Items::new(alloc)), None)
+    begun(alloc, &Imports::Ordered(Items::new(alloc)), None)
 }
 
 /// What a command makes; a blob that it asks for has this text, or isn't there.

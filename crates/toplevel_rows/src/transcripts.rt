@@ -6,15 +6,13 @@
 //! is only tried.
 use crate::errors::ERRORS;
 use crate::proof_places::PROOF_PLACES;
-use crate::running::{made, started, told};
+use crate::running::{begun, made, started, told};
 use crate::theory_places::THEORY_PLACES;
 use isar_rules::State;
 use language::{Imports, Made};
-use row_language::begun;
 use sqlite_items::Items;
 use std::alloc::{AllocError, Global};
 use std::test::Fail;
-use toplevel::Isar;
 
 /// A transcript in parts: how a place is reached, and what commands come to there.
 pub(crate) type Transcript = &'static [&'static str];
@@ -98,7 +96,7 @@ fn beginning(alloc: Global, line: &str) -> Result<State, Fail> {
         Some(_) => Some(Items::from_vec(scalars(alloc, "k")?)),
         None => None,
     };
-    begun(&Isar, alloc, &imports, bad)
+    begun(alloc, &imports, bad)
 }
 
 /// The transcript, with what is told of its commands.
