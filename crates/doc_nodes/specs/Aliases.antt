@@ -1,9 +1,10 @@
 -- The aliases of commands: names that a header gives to commands (after the keywords of theory
 -- headers; the fold is this project's own). An alias is a pair of a name and its target.
-use Rattle.std.specs.Prelude.{ℕ, ◌==◌, Bool, if◌then◌else◌, List, [], ◌∷◌, ◌++◌, map, find, slice_get, codes, Option, Some, None}
+use Rattle.std.specs.Prelude.{ℕ, ◌==◌, Bool, if◌then◌else◌, List, [], ◌∷◌, ◌++◌, map, find, slice_get, Option, Some, None}
 use Rattle.std.specs.Option.{option_or, option_map_or}
-use Rattle.std.specs.List.{list_any, flat_map}
+use Rattle.std.specs.List.{flat_map}
 use Rattle.shared_map.specs.Pairs.{found}
+use Rattle.outer_tokens.specs.Words.{is_inner_command}
 use Rattle.import_rounds.specs.Looks.{aims_at}
 use Rattle.doc_nodes.specs.declared.node.Node.{Node}
 use Rattle.doc_nodes.specs.declared.inherited.NodeAliases.{NodeAliases}
@@ -12,9 +13,7 @@ use Rattle.doc_nodes.specs.Imports.{NodeList, aims, is_ordered, order}
 
 -- what an alias may stand for
 abbrev pub is_target : List ℕ → Bool
-is_target word = list_any (λ name. equal name word) (codes "axiom" ∷ codes "lemma" ∷ codes "load"
-    ∷ codes "proof" ∷ codes "fix" ∷ codes "assume" ∷ codes "have" ∷ codes "show" ∷ codes "next"
-    ∷ codes "qed" ∷ codes "by" ∷ [])
+is_target word = is_inner_command word
 
 -- no aliases
 abbrev pub no_aliases : NodeAliases

@@ -6,7 +6,7 @@ ghost use Rattle.doc_nodes.specs.Names.{in_order, equal};
 ghost use Rattle.doc_nodes.specs.Aliases.{is_target};
 ghost use Rattle.doc_nodes.specs.Lent.{lent};
 
-use crate::compared::spells;
+use outer_tokens::is_inner_command;
 use sqlite_items::Items;
 use std::alloc::{AllocError, Global};
 use std::cmp::Ordering;
@@ -16,17 +16,7 @@ use std::marker::Model;
 pub fn is_target(word: &[char]) -> bool
     ensures { result ≡ is_target word.now }
 {
-    spells(word, "axiom")
-        || spells(word, "lemma")
-        || spells(word, "load")
-        || spells(word, "proof")
-        || spells(word, "fix")
-        || spells(word, "assume")
-        || spells(word, "have")
-        || spells(word, "show")
-        || spells(word, "next")
-        || spells(word, "qed")
-        || spells(word, "by")
+    is_inner_command(word)
 }
 
 /// Whether both are the same name.

@@ -1,6 +1,6 @@
 //! Names compared, as lists of numbers.
 ghost use Rattle.std.specs.Prelude.{◌≡◌};
-ghost use Rattle.doc_nodes.specs.Names.{in_order, equal};
+ghost use Rattle.doc_nodes.specs.Names.{in_order};
 
 use std::cmp::Ordering;
 
@@ -26,15 +26,5 @@ pub(crate) fn compared(bytes: &[u8], scalars: &[char]) -> Ordering
         Ordering::Equal
     } else {
         Ordering::Less
-    }
-}
-
-/// Whether the word is this name, in ASCII.
-pub(crate) fn spells(word: &[char], name: &str) -> bool
-    ensures { result ≡ equal name.now word.now }
-{
-    match compared(name.as_bytes(), word) {
-        Ordering::Equal => true,
-        Ordering::Less | Ordering::Greater => false,
     }
 }

@@ -27,9 +27,13 @@ functions_of Serve = of_session
 functions_of Replay = of_session ++ Claim ∷ Finish ∷ []
 functions_of Build = Theory ∷ []
 
+-- the one of these functions that has this name
+abbrev pub named_in : List Function → List ℕ → Option Function
+named_in functions name = find (λ f. bytes_eq (word f) name) functions
+
 -- the function of the mode that has this name
 abbrev pub function_named : Mode → List ℕ → Option Function
-function_named mode name = find (λ f. bytes_eq (word f) name) (functions_of mode)
+function_named mode name = named_in (functions_of mode) name
 
 -- the function takes so many arguments
 abbrev pub takes : Function → ℕ → Bool

@@ -1,6 +1,6 @@
 //! The editor's functions.
 ghost use Rattle.std.specs.Prelude.{◌≡◌};
-ghost use Rattle.message_values.specs.Functions.{word, functions_of, function_named, takes};
+ghost use Rattle.message_values.specs.Functions.{word, named_in, function_named, takes};
 
 use crate::mode::Mode;
 
@@ -18,40 +18,32 @@ pub enum Function {
     Theory,
 }
 
-/// The functions of a session in which the messages say who works on what.
-const REPLAYED: [Function; 8] = [
+/// The functions of a session.
+const SESSION: [Function; 6] = [
     Function::Update,
     Function::Snapshot,
     Function::Cancel,
     Function::RemoveVersions,
     Function::Settle,
     Function::Protocol,
-    Function::Claim,
-    Function::Finish,
 ];
 
-/// The functions of a session.
-const SERVED: [Function; 6] = [
-    Function::Update,
-    Function::Snapshot,
-    Function::Cancel,
-    Function::RemoveVersions,
-    Function::Settle,
-    Function::Protocol,
-];
+/// The functions with which the messages say who works on what.
+const WORK: [Function; 2] = [Function::Claim, Function::Finish];
 
 /// The functions of a build.
-const BUILT: [Function; 1] = [Function::Theory];
+const BUILD: [Function; 1] = [Function::Theory];
 
-/// The functions of the mode.
-fn functions_of(mode: Mode) -> &'static [Function]
-    ensures { result.now ≡ functions_of mode }
+/// The one of these functions that has this name.
+fn named_in(functions: &[Function], name: &[u8]) -> Option<Function>
+    ensures { result ≡ named_in functions.now name.now }
 {
-    match mode {
-        Mode::Serve => &SERVED,
-        Mode::Replay => &REPLAYED,
-        Mode::Build => &BUILT,
+    'functions: for function in functions {
+        if function.word().as_bytes() == name {
+            return Some(*function);
+        }
     }
+    None
 }
 
 impl Function {
@@ -59,13 +51,11 @@ impl Function {
     pub fn named(mode: Mode, name: &[u8]) -> Option<Function>
         ensures { result ≡ function_named mode name.now }
     {
-        let functions = functions_of(mode);
-        'functions: for function in functions {
-            if function.word().as_bytes() == name {
-                return Some(*function);
-            }
+        match mode {
+            Mode::Serve => named_in(&SESSION, name),
+            Mode::Replay => named_in(&SESSION, name).or(named_in(&WORK, name)),
+            Mode::Build => named_in(&BUILD, name),
         }
-        None
     }
 
     /// The name with which its messages begin.

@@ -1,6 +1,7 @@
 -- What is pending, and how an operand takes it in (the code's own way; what is promised stands in
 -- Answers). The newest stands first.
 use Rattle.std.specs.Prelude.{ℕ, if◌then◌else◌, nat_lt, List, [], ◌∷◌, Option, Some, None}
+use Rattle.std.specs.Option.{option_map_or}
 use Rattle.nj_formula.specs.declared.formula.Formula.{Formula}
 use Rattle.nj_formula.specs.declared.formula.Formula.TheVariants as Formulas
 use Rattle.nj_syntax.specs.declared.operator.Operator.{Operator}
@@ -32,19 +33,20 @@ reduced op (Pending.Right left_op left ∷ below) a =
     else (Pending.Right left_op left ∷ below, a)
 reduced op (p ∷ below) a = (p ∷ below, a)
 
+-- what takes the operand in, where it lacks nothing else
+abbrev pub taken_in : Pending → Formula → Option Formula
+taken_in Pending.Not a = Some (Formulas.Not a)
+taken_in (Pending.Right op left) a = Some (joined op left a)
+taken_in (Pending.Body q x) a = Some (quantified q x a)
+taken_in p a = None
+
 -- the operand with all that is pending within the parentheses, and what is pending outside of them
 abbrev pub closed : List Pending → Formula → Option Held
 closed [] a = None
-closed (Pending.Not ∷ below) a = closed below (Formulas.Not a)
-closed (Pending.Right op left ∷ below) a = closed below (joined op left a)
-closed (Pending.Body q x ∷ below) a = closed below (quantified q x a)
 closed (Pending.Parenthesis ∷ below) a = Some (below, a)
-closed (p ∷ below) a = None
+closed (p ∷ below) a = option_map_or (closed below) (taken_in p a) None
 
 -- the operand with all that is pending, where no parenthesis is open
 abbrev pub finished : List Pending → Formula → Option Formula
 finished [] a = Some a
-finished (Pending.Not ∷ below) a = finished below (Formulas.Not a)
-finished (Pending.Right op left ∷ below) a = finished below (joined op left a)
-finished (Pending.Body q x ∷ below) a = finished below (quantified q x a)
-finished (p ∷ below) a = None
+finished (p ∷ below) a = option_map_or (finished below) (taken_in p a) None

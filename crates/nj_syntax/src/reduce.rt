@@ -1,5 +1,5 @@
 ghost use Rattle.std.specs.Prelude.{◌≡◌, reverse, IfOk, option_map};
-ghost use Rattle.nj_syntax.specs.Reduced.{reduced, closed, finished};
+ghost use Rattle.nj_syntax.specs.Reduced.{reduced, taken_in, closed, finished};
 
 use crate::operator::Operator;
 use crate::state::Pending;
@@ -41,6 +41,22 @@ pub fn reduced(
     Ok(Held { pending, operand })
 }
 
+/// What takes the operand in, where it lacks nothing else.
+fn taken_in(
+    alloc: Global,
+    pending: Pending,
+    operand: Formula,
+) -> Result<Option<Formula>, AllocError>
+    ensures { IfOk result (λ more. more ≡ taken_in pending operand) }
+{
+    match pending {
+        Pending::Not => Ok(Some(Formula::not(alloc, operand)?)),
+        Pending::Right(op, left) => Ok(Some(op.joined(alloc, left, operand)?)),
+        Pending::Body(q, name) => Ok(Some(q.over(alloc, name, operand)?)),
+        _ => Ok(None),
+    }
+}
+
 /// The operand with all that is pending within the parentheses, and what is pending outside of
 /// them.
 pub fn closed(
@@ -54,12 +70,12 @@ pub fn closed(
     let mut pending = pending;
     let mut operand = operand;
     'up: while let Some(top) = pending.pop() {
-        match top {
-            Pending::Not => operand = Formula::not(alloc, operand)?,
-            Pending::Right(op, left) => operand = op.joined(alloc, left, operand)?,
-            Pending::Body(q, name) => operand = q.over(alloc, name, operand)?,
-            Pending::Parenthesis => return Ok(Some(Held { pending, operand })),
-            _ => return Ok(None),
+        if let Pending::Parenthesis = top {
+            return Ok(Some(Held { pending, operand }));
+        }
+        match taken_in(alloc, top, operand)? {
+            Some(more) => operand = more,
+            None => return Ok(None),
         }
     }
     Ok(None)
@@ -76,11 +92,9 @@ pub fn finished(
     let mut pending = pending;
     let mut operand = operand;
     'up: while let Some(top) = pending.pop() {
-        match top {
-            Pending::Not => operand = Formula::not(alloc, operand)?,
-            Pending::Right(op, left) => operand = op.joined(alloc, left, operand)?,
-            Pending::Body(q, name) => operand = q.over(alloc, name, operand)?,
-            _ => return Ok(None),
+        match taken_in(alloc, top, operand)? {
+            Some(more) => operand = more,
+            None => return Ok(None),
         }
     }
     Ok(Some(operand))

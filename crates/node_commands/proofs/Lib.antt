@@ -3,3 +3,4 @@ mod Joined
 mod KeptSources
 mod Spreading
 mod LastReached
+mod EqualRuns

@@ -1,6 +1,8 @@
 //! How many commands keep their ids at the front of a node, and how many at its back.
-ghost use Rattle.std.specs.Prelude.{◌≡◌, ◌+◌, ◌-◌, ◌≤◌, length};
-ghost use Rattle.buffer_rules.specs.Numbers.{equal_front, equal_back, kept};
+ghost use Rattle.std.specs.Prelude.{◌≡◌, ◌+◌, ◌-◌, ◌≤◌, length, zip, reverse};
+ghost use Rattle.std.specs.List.{take_while};
+ghost use Rattle.doc_nodes.specs.Names.{equal};
+ghost use Rattle.buffer_rules.specs.Numbers.{kept};
 
 use crate::source::Source;
 use std::marker::Model;
@@ -37,50 +39,33 @@ impl KeptRuns {
     }
 }
 
-/// How many sources at the front of both lists are equal.
+/// How many sources at the front of both lists are equal: pairs before the first that differs.
 fn equal_front(before: &[Source], now: &[Source]) -> usize
-    ensures value { result ≡ equal_front before.now now.now }
+    ensures value { result ≡ length (take_while (λ pair. equal pair.0 pair.1)
+        (zip before.now now.now)) }
     ensures before { result ≤ length before.now }
     ensures now { result ≤ length now.now }
 {
-    let mut olds = before;
-    let mut news = now;
-    let mut count = 0;
-    'equal: while let [old, more @ ..] = olds {
-        let [new, rest @ ..] = news else {
-            return count;
-        };
-        if !old.equals(new) {
-            return count;
-        }
-        count += 1;
-        olds = more;
-        news = rest;
-    }
-    count
+    before
+        .iter()
+        .zip(now)
+        .take_while(|(old, new)| old.equals(new))
+        .count()
 }
 
-/// How many at the back are.
+/// How many at the back are: the same of the lists turned round.
 fn equal_back(before: &[Source], now: &[Source]) -> usize
-    ensures value { result ≡ equal_back before.now now.now }
+    ensures value { result ≡ length (take_while (λ pair. equal pair.0 pair.1)
+        (zip (reverse before.now) (reverse now.now))) }
     ensures before { result ≤ length before.now }
     ensures now { result ≤ length now.now }
 {
-    let mut olds = before;
-    let mut news = now;
-    let mut count = 0;
-    'equal: while let [more @ .., old] = olds {
-        let [rest @ .., new] = news else {
-            return count;
-        };
-        if !old.equals(new) {
-            return count;
-        }
-        count += 1;
-        olds = more;
-        news = rest;
-    }
-    count
+    before
+        .iter()
+        .rev()
+        .zip(now.iter().rev())
+        .take_while(|(old, new)| old.equals(new))
+        .count()
 }
 
 /// Which of the commands with these sources, before and now, are the same: the longest front of

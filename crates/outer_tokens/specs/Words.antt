@@ -14,11 +14,15 @@ same [] (d ∷ ds) = false
 same (c ∷ cs) [] = false
 same (c ∷ cs) (d ∷ ds) = c == d && same cs ds
 
--- a command name of the language
+-- a command of the language that stands within a theory
+abbrev pub is_inner_command : List ℕ → Bool
+is_inner_command s = list_any (same s) (codes "axiom" ∷ codes "lemma" ∷ codes "load"
+    ∷ codes "proof" ∷ codes "fix" ∷ codes "assume" ∷ codes "have" ∷ codes "show" ∷ codes "next"
+    ∷ codes "qed" ∷ codes "by" ∷ [])
+
+-- a command name of the language: one of these, or what begins or ends a theory
 abbrev pub is_base_command : List ℕ → Bool
-is_base_command s = list_any (same s) (codes "theory" ∷ codes "end" ∷ codes "axiom"
-    ∷ codes "lemma" ∷ codes "load" ∷ codes "proof" ∷ codes "fix" ∷ codes "assume" ∷ codes "have"
-    ∷ codes "show" ∷ codes "next" ∷ codes "qed" ∷ codes "by" ∷ [])
+is_base_command s = same s (codes "theory") || same s (codes "end") || is_inner_command s
 
 -- a minor keyword
 abbrev pub is_minor_keyword : List ℕ → Bool

@@ -28,3 +28,4 @@ pub use renaming::renamed;
 pub use row::Row;
 pub use stage::{Stage, after_token, given};
 pub use token::{Token, scalars};
+pub use word::{is_inner_command, spells};

@@ -2,7 +2,7 @@
 
 ghost use Rattle.std.specs.Prelude.{◌≡◌};
 ghost use Rattle.std.specs.List.{list_any};
-ghost use Rattle.outer_tokens.specs.Words.{same, is_base_command, is_minor_keyword, is_in_force, kind_of};
+ghost use Rattle.outer_tokens.specs.Words.{same, is_inner_command, is_base_command, is_minor_keyword, is_in_force, kind_of};
 
 use crate::bracket::Bracket;
 use crate::kind::Kind;
@@ -40,13 +40,12 @@ pub fn spells(word: &[char], name: &str) -> bool
     true
 }
 
-/// Whether the word is a command name of the language.
-fn is_base_command(word: &[char]) -> bool
-    ensures { result ≡ is_base_command word.now }
+/// Whether the word is a command of the language that stands within a theory: any but `theory` and
+/// `end`.
+pub fn is_inner_command(word: &[char]) -> bool
+    ensures { result ≡ is_inner_command word.now }
 {
-    spells(word, "theory")
-        || spells(word, "end")
-        || spells(word, "axiom")
+    spells(word, "axiom")
         || spells(word, "lemma")
         || spells(word, "load")
         || spells(word, "proof")
@@ -57,6 +56,13 @@ fn is_base_command(word: &[char]) -> bool
         || spells(word, "next")
         || spells(word, "qed")
         || spells(word, "by")
+}
+
+/// Whether the word is a command name of the language.
+fn is_base_command(word: &[char]) -> bool
+    ensures { result ≡ is_base_command word.now }
+{
+    spells(word, "theory") || spells(word, "end") || is_inner_command(word)
 }
 
 /// Whether the word is a minor keyword.

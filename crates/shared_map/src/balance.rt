@@ -110,16 +110,10 @@ fn balanced<T: Drop>(
     ensures { IfOk result (λ tree. tree ≡ left.now ++ arc_value item.now ∷ right.now) }
 {
     if is_heavy(left, right) {
-        if let Some(parts) = left.parts() {
-            return left_raised(alloc, parts, item, right);
-        }
+        left_grown(alloc, left.copy()?, item, right)
+    } else {
+        right_grown(alloc, left, item, right.copy()?)
     }
-    if is_heavy(right, left) {
-        if let Some(parts) = right.parts() {
-            return right_raised(alloc, left, item, parts);
-        }
-    }
-    Tree::fork(alloc, left, item, right)
 }
 
 /// A rotation that brings up the left part, or what is inside it.
