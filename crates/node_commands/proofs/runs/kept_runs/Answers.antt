@@ -10,5 +10,5 @@ returns-clause-value c =
     let front = c.equal_front-front.result in
     let longest : front ≡ equal_front before now = c.equal_front-front.ensures.value ∙ counted_front before now in
     let left : c.equal_back-back.result ≡ equal_back (drop front before) (drop front now) =
-        c.equal_back-back.ensures.value ∙ counted_back before now front in
+    c.equal_back-back.ensures.value ∙ counted_back before now front in
     cc (longest, left)
