@@ -1,4 +1,5 @@
-ghost use Rattle.std.specs.Prelude.{◌≡◌, ◌↔◌, IsTrue, IfOk};
+ghost use Rattle.std.specs.Prelude.{◌≡◌, ◌↔◌, IsTrue, IfOk, string_bytes};
+ghost use Rattle.std.specs.Arc.{arc_str_bytes};
 
 use std::alloc::{AllocError, Global};
 use std::marker::Model;
@@ -25,6 +26,21 @@ impl Name {
     {
         let text = ArcStr::from_str(alloc, text)?;
         Ok(Name { text })
+    }
+
+    /// The name that the text is, in the memory that it has.
+    pub fn from_string(text: String) -> Result<Name, AllocError>
+        ensures { IfOk result (λ n. n ≡ string_bytes text) }
+    {
+        let text = ArcStr::from_string(text)?;
+        Ok(Name { text })
+    }
+
+    /// The name's text, in the same memory.
+    pub fn text(&self) -> Result<ArcStr, AllocError>
+        ensures { IfOk result (λ text. arc_str_bytes text ≡ self.now) }
+    {
+        self.text.clone()
     }
 
     pub fn as_str(&self) -> &str
