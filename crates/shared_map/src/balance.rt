@@ -5,13 +5,10 @@ use crate::tree::{Parts, Tree};
 use std::alloc::{AllocError, Global};
 use std::sync::Arc;
 
-/// One side of a fork is at most this many times as heavy as the other.
-const DELTA: usize = 3;
+/// One side of a fork is at most by so many forks higher than the other.
+const SLACK: usize = 1;
 
-/// One rotation serves where the inner part is less than this many times as heavy as the outer one.
-const RATIO: usize = 2;
-
-/// The tree of these parts, of whatever weights. It shares what it can of them.
+/// The tree of these parts, of whatever heights. It shares what it can of them.
 pub(crate) fn joined<T: Drop>(
     alloc: Global,
     left: &Tree<T>,
@@ -20,13 +17,13 @@ pub(crate) fn joined<T: Drop>(
 ) -> Result<Tree<T>, AllocError>
     ensures { IfOk result (λ tree. tree ≡ left.now ++ arc_value item.now ∷ right.now) }
 {
-    if is_heavy(left, right) {
+    if is_high(left, right) {
         if let Some(parts) = left.parts() {
             let right = joined(alloc, parts.right, item, right)?;
             return balanced(alloc, parts.left, parts.item, &right);
         }
     }
-    if is_heavy(right, left) {
+    if is_high(right, left) {
         if let Some(parts) = right.parts() {
             let left = joined(alloc, left, item, parts.left)?;
             return balanced(alloc, &left, parts.item, parts.right);
@@ -35,7 +32,7 @@ pub(crate) fn joined<T: Drop>(
     Tree::fork(alloc, left, item, right)
 }
 
-/// The tree of these parts, of which the left one may be a little too heavy.
+/// The tree of these parts, of which the left one may be a little too high.
 pub(crate) fn left_grown<T: Drop>(
     alloc: Global,
     left: Tree<T>,
@@ -44,7 +41,7 @@ pub(crate) fn left_grown<T: Drop>(
 ) -> Result<Tree<T>, AllocError>
     ensures { IfOk result (λ tree. tree ≡ left ++ arc_value item.now ∷ right.now) }
 {
-    if is_heavy(&left, right) {
+    if is_high(&left, right) {
         if let Some(parts) = left.parts() {
             return left_raised(alloc, parts, item, right);
         }
@@ -52,7 +49,7 @@ pub(crate) fn left_grown<T: Drop>(
     Tree::of(alloc, left, Arc::try_clone(item)?, right.copy()?)
 }
 
-/// The tree of these parts, of which the right one may be a little too heavy.
+/// The tree of these parts, of which the right one may be a little too high.
 pub(crate) fn right_grown<T: Drop>(
     alloc: Global,
     left: &Tree<T>,
@@ -61,7 +58,7 @@ pub(crate) fn right_grown<T: Drop>(
 ) -> Result<Tree<T>, AllocError>
     ensures { IfOk result (λ tree. tree ≡ left.now ++ arc_value item.now ∷ right) }
 {
-    if is_heavy(&right, left) {
+    if is_high(&right, left) {
         if let Some(parts) = right.parts() {
             return right_raised(alloc, left, item, parts);
         }
@@ -86,21 +83,17 @@ pub(crate) fn appended<T: Drop>(
     }
 }
 
-fn weight<T: Drop>(tree: &Tree<T>) -> usize {
-    tree.len().saturating_add(1)
+/// Whether one part is too high beside the other.
+fn is_high<T: Drop>(one: &Tree<T>, other: &Tree<T>) -> bool {
+    one.height() > other.height().saturating_add(SLACK)
 }
 
-/// Whether one part is too heavy beside the other.
-fn is_heavy<T: Drop>(one: &Tree<T>, other: &Tree<T>) -> bool {
-    weight(one) > weight(other).saturating_mul(DELTA)
+/// Whether two rotations are wanted: the inner part is higher than the outer one.
+fn is_inner_high<T: Drop>(inner: &Tree<T>, outer: &Tree<T>) -> bool {
+    inner.height() > outer.height()
 }
 
-/// Whether two rotations are wanted: the inner part is heavy beside the outer one.
-fn is_inner_heavy<T: Drop>(inner: &Tree<T>, outer: &Tree<T>) -> bool {
-    weight(inner) >= weight(outer).saturating_mul(RATIO)
-}
-
-/// The tree of parts of which one may be a little too heavy.
+/// The tree of parts of which one may be a little too high.
 fn balanced<T: Drop>(
     alloc: Global,
     left: &Tree<T>,
@@ -109,7 +102,7 @@ fn balanced<T: Drop>(
 ) -> Result<Tree<T>, AllocError>
     ensures { IfOk result (λ tree. tree ≡ left.now ++ arc_value item.now ∷ right.now) }
 {
-    if is_heavy(left, right) {
+    if is_high(left, right) {
         left_grown(alloc, left.copy()?, item, right)
     } else {
         right_grown(alloc, left, item, right.copy()?)
@@ -127,7 +120,7 @@ fn left_raised<T: Drop>(
         ∷ left.entry.right.now ++ arc_value item.now ∷ right.now) }
 {
     match left.right.parts() {
-        Some(inner) if is_inner_heavy(left.right, left.left) => {
+        Some(inner) if is_inner_high(left.right, left.left) => {
             let left = Tree::fork(alloc, left.left, left.item, inner.left)?;
             let right = Tree::fork(alloc, inner.right, item, right)?;
             Tree::fork(alloc, &left, inner.item, &right)
@@ -150,7 +143,7 @@ fn right_raised<T: Drop>(
         ∷ right.entry.left.now) ++ arc_value right.entry.item.now ∷ right.entry.right.now) }
 {
     match right.left.parts() {
-        Some(inner) if is_inner_heavy(right.left, right.right) => {
+        Some(inner) if is_inner_high(right.left, right.right) => {
             let left = Tree::fork(alloc, left, item, inner.left)?;
             let right = Tree::fork(alloc, inner.right, right.item, right.right)?;
             Tree::fork(alloc, &left, inner.item, &right)

@@ -3,9 +3,9 @@
 //! before it, so old versions stay.
 //!
 //! Contracts see a map as the list of its pairs, sorted by key. Beneath it lies a list without
-//! order in a weight-balanced tree (Adams 1993; its two numbers after Hirai and Yamamoto 2011),
-//! joined as in Blelloch, Ferizovic and Sun 2016. No contract speaks of balance. It must not know
-//! what its keys and values are, nor threads.
+//! order in a tree that is balanced by height (Adelson-Velsky and Landis 1962), joined as in
+//! Blelloch, Ferizovic and Sun 2016. No contract speaks of balance. It must not know what its keys
+//! and values are, nor threads.
 #![tactic(auto)]
 
 mod balance;

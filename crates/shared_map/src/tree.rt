@@ -21,6 +21,8 @@ struct Fork<T> {
     item: Arc<T>,
     /// How many items the fork has.
     len: usize,
+    /// How many forks the longest way down from here has, this one with them.
+    height: usize,
     right: Tree<T>,
 }
 
@@ -63,6 +65,14 @@ impl<T: Drop> Tree<T> {
         match &self.root {
             None => 0,
             Some(fork) => fork.len,
+        }
+    }
+
+    /// How many forks the longest way down has. Balance looks at it alone.
+    pub(crate) fn height(&self) -> usize {
+        match &self.root {
+            None => 0,
+            Some(fork) => fork.height,
         }
     }
 
@@ -121,10 +131,12 @@ impl<T: Drop> Tree<T> {
     {
         let sides = left.len().checked_add(right.len()).ok_or(AllocError)?;
         let len = sides.checked_add(1).ok_or(AllocError)?;
+        let height = left.height().max(right.height()).saturating_add(1);
         let fork = Fork {
             left,
             item,
             len,
+            height,
             right,
         };
         Ok(Tree {
