@@ -33,6 +33,7 @@ IsBare node = node.entries ≡ [] → (node.imports ≡ []) × (node.keywords �
 abbrev pub imports_told : List ℕ → List (List ℕ)
 imports_told source = option_map_or (λ header. header.imports) (header_in source) []
 
+-- the keyword pairs that the header of a source tells
 abbrev pub keywords_told : List ℕ → List KeywordPair
 keywords_told source = option_map_or (λ header. header.keywords) (header_in source) []
 

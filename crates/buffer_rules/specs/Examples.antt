@@ -10,26 +10,31 @@ use Rattle.message_values.specs.declared.refusal.Refusal.{Refusal}
 use Rattle.buffer_rules.specs.Updates.{Asked}
 use Rattle.buffer_rules.specs.Preparing.{Buffer, prepared}
 
--- a perspective under which all is wanted, and one of a range
+-- a perspective under which all is wanted
 abbrev pub all_wanted : Option Perspective
 all_wanted = Some (record { required = true; ranges = [] })
 
+-- the range between two places
 abbrev pub range : ℕ → ℕ → Range
 range start stop = record { start = start; stop = stop }
 
+-- a perspective of this range alone
 abbrev pub sees : ℕ → ℕ → Option Perspective
 sees start stop = Some (record { required = false; ranges = range start stop ∷ [] })
 
--- items: a new text with a perspective, edits, and a close
+-- an item that opens a node with a text, all of which is wanted
 abbrev pub opens : List ℕ → List ℕ → Item
 opens name text = record { node = name; change = change.Edit (Insert 0 text ∷ []) all_wanted }
 
+-- an item that edits a node
 abbrev pub edits : List ℕ → List Edit → Item
 edits name list = record { node = name; change = change.Edit list None }
 
+-- an item that changes what is seen of a node
 abbrev pub shows : List ℕ → Option Perspective → Item
 shows name told = record { node = name; change = change.Edit [] told }
 
+-- an item that closes a node
 abbrev pub closes : List ℕ → Item
 closes name = record { node = name; change = change.Close }
 
@@ -42,6 +47,7 @@ abbrev pub accepted : Buffer → Result Buffer Refusal → Buffer
 accepted before (Ok after) = after
 accepted before (Err refusal) = before
 
+-- the documents after these items, or as they were where the items are refused
 abbrev pub then : Buffer → List Item → Buffer
 then buffer items = accepted buffer (prepared buffer 0 (of items))
 
@@ -50,6 +56,7 @@ abbrev pub refusal_of : Result Buffer Refusal → Option Refusal
 refusal_of (Ok after) = None
 refusal_of (Err refusal) = Some refusal
 
+-- why these items are refused
 abbrev pub refused : Buffer → List Item → Option Refusal
 refused buffer items = refusal_of (prepared buffer 0 (of items))
 

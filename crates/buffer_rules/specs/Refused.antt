@@ -11,14 +11,15 @@ use Rattle.buffer_rules.specs.Preparing.{Buffer, prepared, empty}
 use Rattle.buffer_rules.specs.Examples.{opens, edits, shows, closes, sees, range, then, accepted, refusal_of, refused}
 use Rattle.buffer_rules.specs.Worked.{three_axioms, one_lemma}
 
--- an edit that is out of range in a text of 51 scalars, one that removes another text, and a
--- perspective that ends past the text
+-- an edit that is out of range in a text of 51 scalars
 abbrev pub far : Item
 far = edits (codes "A") (Insert 52 (codes "x") ∷ [])
 
+-- an edit that removes another text
 abbrev pub other : Item
 other = edits (codes "A") (Remove 0 (codes "x") ∷ [])
 
+-- a perspective that ends past the text
 abbrev pub wide : Item
 wide = shows (codes "A") (sees 0 52)
 
@@ -39,13 +40,15 @@ pub record ItemsRefused : Type 0 where
   pub first : refused one_lemma (far ∷ closes (codes "Z") ∷ []) ≡ Some EditOutOfRange
   pub other_first : refused one_lemma (closes (codes "Z") ∷ far ∷ []) ≡ Some UnknownNode
 
--- an update that sets or removes blobs
+-- a blob that is set
 abbrev pub set : List ℕ → BlobChange
 set name = record { name = name; text = Some (codes "a: P") }
 
+-- a blob that is removed
 abbrev pub removed : List ℕ → BlobChange
 removed name = record { name = name; text = None }
 
+-- why these items and blobs are refused
 abbrev pub of_blobs : Buffer → List Item → List BlobChange → Option Refusal
 of_blobs buffer items blobs =
     refusal_of (prepared buffer 0 (record { items = items; blobs = blobs }))

@@ -13,6 +13,7 @@ abbrev pub hidden : ℕ → Entry
 hidden c =
     record { command = c; range = record { start = 0; stop = 0 }; visible = false; needs = None }
 
+-- a command that is seen
 abbrev pub seen : ℕ → Entry
 seen c =
     record { command = c; range = record { start = 0; stop = 0 }; visible = true; needs = None }
@@ -31,6 +32,7 @@ abbrev pub required : List (List ℕ) → List Entry → Node
 required imports entries =
     record { text = []; entries = entries; required = true; imports = imports; keywords = [] }
 
+-- a node that is not required
 abbrev pub watched : List Entry → Node
 watched entries =
     record { text = []; entries = entries; required = false; imports = []; keywords = [] }

@@ -57,6 +57,7 @@ same_last Open Open = true
 same_last (Made e) (Made f) = e == f
 same_last a b = false
 
+-- and so have all
 abbrev pub same_lasts : List Last → List Last → Bool
 same_lasts [] [] = true
 same_lasts (x ∷ xs) (y ∷ ys) = same_last x y && same_lasts xs ys

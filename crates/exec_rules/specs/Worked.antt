@@ -5,10 +5,11 @@ use Rattle.doc_nodes.specs.Imports.{NodeList}
 use Rattle.exec_rules.specs.declared.version.Version.{Version}
 use Rattle.exec_rules.specs.Examples.{hidden, seen, loads, required, watched, start, after, tells}
 
--- a node of five commands; then its third is another
+-- a node of five commands
 abbrev pub five : NodeList
 five = (codes "A", required [] (hidden 1 ∷ hidden 2 ∷ hidden 3 ∷ hidden 4 ∷ hidden 5 ∷ [])) ∷ []
 
+-- the third of them is another
 abbrev pub third_changed : NodeList
 third_changed =
     (codes "A", required [] (hidden 1 ∷ hidden 2 ∷ hidden 6 ∷ hidden 4 ∷ hidden 5 ∷ [])) ∷ []
@@ -18,19 +19,23 @@ abbrev pub AChangedCommand : Type 0
 AChangedCommand = tells (after start five [] [] 1) third_changed [] [] 6
     ≡ (codes "A", (1, 1 ∷ []) ∷ (2, 2 ∷ []) ∷ (6, 6 ∷ []) ∷ (4, 7 ∷ []) ∷ (5, 8 ∷ []) ∷ []) ∷ []
 
--- a node whose first two commands are seen; then all of them; then the first alone
+-- a node of five commands, of which the first two are seen
 abbrev pub two_seen : NodeList
 two_seen = (codes "A", watched (seen 1 ∷ seen 2 ∷ hidden 3 ∷ hidden 4 ∷ hidden 5 ∷ [])) ∷ []
 
+-- all five are seen
 abbrev pub all_seen : NodeList
 all_seen = (codes "A", watched (seen 1 ∷ seen 2 ∷ seen 3 ∷ seen 4 ∷ seen 5 ∷ [])) ∷ []
 
+-- the first alone is seen
 abbrev pub one_seen : NodeList
 one_seen = (codes "A", watched (seen 1 ∷ hidden 2 ∷ hidden 3 ∷ hidden 4 ∷ hidden 5 ∷ [])) ∷ []
 
+-- the version where two are seen
 abbrev pub after_two : Version
 after_two = after start two_seen [] [] 1
 
+-- the version behind it, where all are
 abbrev pub after_all : Version
 after_all = after after_two all_seen [] [] 5
 
@@ -50,23 +55,26 @@ pub record APerspective : Type 0 where
         (1, 1 ∷ 3 ∷ []) ∷ (2, 2 ∷ []) ∷ (3, 5 ∷ []) ∷ (4, 6 ∷ []) ∷ (5, 7 ∷ []) ∷ [],
       ) ∷ []
 
--- a node and one that imports it; then the last command of the first is another; then that of the
--- second
+-- a node of four commands that imports another
 abbrev pub importer : List ℕ → NodeList
 importer = λ name.
     (name, required (codes "A" ∷ []) (hidden 4 ∷ hidden 5 ∷ hidden 6 ∷ hidden 7 ∷ [])) ∷ []
 
+-- the other, of three commands, and the one that imports it
 abbrev pub importing : NodeList
 importing = (codes "A", required [] (hidden 1 ∷ hidden 2 ∷ hidden 3 ∷ [])) ∷ importer (codes "B")
 
+-- the last command of the import is another
 abbrev pub import_changed : NodeList
 import_changed =
     (codes "A", required [] (hidden 1 ∷ hidden 2 ∷ hidden 8 ∷ [])) ∷ importer (codes "B")
 
+-- the last command of the importer is another besides
 abbrev pub importer_changed : NodeList
 importer_changed = (codes "A", required [] (hidden 1 ∷ hidden 2 ∷ hidden 8 ∷ []))
     ∷ (codes "B", required (codes "A" ∷ []) (hidden 4 ∷ hidden 5 ∷ hidden 6 ∷ hidden 9 ∷ [])) ∷ []
 
+-- the version where the import has changed
 abbrev pub after_import : Version
 after_import = after (after start importing [] [] 1) import_changed [] [] 8
 
@@ -105,6 +113,7 @@ pub record ACancellation : Type 0 where
 abbrev pub loading : NodeList
 loading = (codes "A", required [] (hidden 1 ∷ loads 2 ∷ hidden 3 ∷ [])) ∷ []
 
+-- the version of the node that loads
 abbrev pub after_loading : Version
 after_loading = after start loading ((codes "x", codes "a: P") ∷ []) [] 1
 
@@ -117,13 +126,15 @@ pub record ABlob : Type 0 where
   pub gone : tells after_loading loading [] [] 4
       ≡ (codes "A", (1, 1 ∷ []) ∷ (2, 4 ∷ []) ∷ (3, 5 ∷ []) ∷ []) ∷ []
 
--- a node without commands, and one that imports it; then the first has a command
+-- a node of one command that imports another
 abbrev pub one_command : List ℕ → NodeList
 one_command = λ name. (name, required (codes "A" ∷ []) (hidden 1 ∷ [])) ∷ []
 
+-- the other has no commands
 abbrev pub empty_import : NodeList
 empty_import = (codes "A", watched []) ∷ one_command (codes "B")
 
+-- then it has one
 abbrev pub filled_import : NodeList
 filled_import = (codes "A", watched (hidden 2 ∷ [])) ∷ one_command (codes "B")
 

@@ -19,6 +19,7 @@ longest_layer names (Argument-F.Free x) = length x
 longest_layer names (Argument-F.Bound place) = sum (map length names)
 longest_layer names (Argument-F.Apply f parts) = sum parts
 
+-- no name in an argument is longer, under these names
 abbrev pub longest_in : List (List ℕ) → Argument → ℕ
 longest_in names = fold-Argument ℕ (longest_layer names)
 
@@ -68,6 +69,7 @@ abbrev pub binding : Quantifier → List ℕ → Spoken → ℕ → List (List �
 binding q y body place names = enclosed 10 place
     (word q ++ (codes " " ++ (y ++ (codes ". " ++ body.text 10 (y ∷ names)))))
 
+-- the same, the name primed until it is none of those that it would catch
 abbrev pub quantifier_text : Quantifier → List ℕ → Spoken → ℕ → List (List ℕ) → List ℕ
 quantifier_text q x body place names = binding q (primed names x body.says) body place names
 

@@ -15,20 +15,23 @@ abbrev pub and_then : {A B : Type 0} → Tried A → (A → Tried B) → Tried B
 and_then (Err text) next = Err text
 and_then (Ok a) next = next a
 
--- errors of any command
+-- a command that has no shape
 abbrev pub malformed : List ℕ
 malformed = codes "malformed command"
 
+-- a command where it may not stand
 abbrev pub not_allowed : List ℕ
 not_allowed = codes "not allowed here"
 
--- errors of `theory`
+-- a theory of another name than its node
 abbrev pub name_differs : List ℕ
 name_differs = codes "theory name differs"
 
+-- an import without a theory
 abbrev pub bad_import : List ℕ → List ℕ
 bad_import name = codes "bad import " ++ name
 
+-- an alias that can be none
 abbrev pub bad_keyword : List ℕ → List ℕ
 bad_keyword name = codes "bad keyword " ++ name
 
@@ -36,10 +39,11 @@ bad_keyword name = codes "bad keyword " ++ name
 abbrev pub name_taken : List ℕ → List ℕ
 name_taken name = codes "name taken " ++ name
 
--- errors of `load`
+-- a blob that is not there
 abbrev pub unknown_blob : List ℕ → List ℕ
 unknown_blob name = codes "unknown blob " ++ name
 
+-- a line of a blob that is no fact, by its number from 1
 abbrev pub bad_blob_line : ℕ → List ℕ
 bad_blob_line line = codes "bad blob line " ++ decimal line
 
@@ -54,6 +58,7 @@ abbrev pub formula_or : Result Formula FormulaFault → Tried Formula
 formula_or (Ok f) = Ok f
 formula_or (Err f) = Err (formula_error f)
 
+-- the formula that a quoted text is, or its error
 abbrev pub formula_in : List ℕ → Tried Formula
 formula_in content = formula_or (formula_of content)
 

@@ -14,17 +14,19 @@ commands = codes "theory A begin" ∷ codes "end" ∷ codes "axiom a: \"P\"" ∷
 abbrev pub all_errors : State → List (List (List ℕ))
 all_errors state = map (λ source. errors source state) commands
 
--- so many commands that are not allowed, and so many without an error
+-- so many commands that are not allowed
 abbrev pub refused : ℕ → List (List (List ℕ))
 refused n = replicate n (not_allowed ∷ [])
 
+-- so many commands without an error
 abbrev pub accepted : ℕ → List (List (List ℕ))
 accepted n = replicate n []
 
--- a blob that is not there, and a formula that is no subgoal
+-- a blob that is not there
 abbrev pub no_blob : List (List (List ℕ))
 no_blob = (codes "unknown blob x" ∷ []) ∷ []
 
+-- a formula that is no subgoal
 abbrev pub no_subgoal : List (List (List ℕ))
 no_subgoal = (codes "no such subgoal" ∷ []) ∷ []
 

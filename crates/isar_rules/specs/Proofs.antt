@@ -28,6 +28,7 @@ abbrev pub with_formula : (Formula → Command) → Option Spot → Spot → Tri
 with_formula command name quoted = and_then (formula_in quoted.text)
     (λ f. Ok (command f, formula_report quoted f ∷ local_report name))
 
+-- the name by itself, where there is one
 abbrev pub text_of_name : Option Spot → Option (List ℕ)
 text_of_name name = option_map (λ n. n.text) name
 

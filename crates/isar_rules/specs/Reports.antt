@@ -18,10 +18,11 @@ abbrev pub report : ReportKind → Range → List Property → List ℕ → Repo
 report kind range properties text =
     record { range = range; kind = kind; properties = properties; text = text }
 
--- properties of a report
+-- the theory of what is reported
 abbrev pub theory_is : List ℕ → Property
 theory_is name = record { key = key.Theory; value = name }
 
+-- its name
 abbrev pub name_is : List ℕ → Property
 name_is name = record { key = key.Name; value = name }
 
@@ -39,10 +40,11 @@ announced source (t ∷ ts) = if is_command t.kind
 abbrev pub error_report : List ℕ → List ℕ → Report
 error_report source text = report kind.Error (whole source) [] text
 
--- a theory's name, and that of an import
+-- a theory's name
 abbrev pub theory_report : Spot → Report
 theory_report name = report kind.Theory name.range (name_is name.text ∷ []) []
 
+-- the name of an import
 abbrev pub import_report : Spot → Report
 import_report name = report kind.Import name.range (name_is name.text ∷ []) []
 

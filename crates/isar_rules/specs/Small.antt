@@ -51,6 +51,7 @@ state_at place = record { place = place; aliases = [] }
 abbrev pub at_start : State
 at_start = state_at (place.Start (codes "A") (Facts []) None)
 
+-- behind a first command that began no theory
 abbrev pub outside : State
 outside = state_at place.Outside
 
@@ -58,6 +59,7 @@ outside = state_at place.Outside
 abbrev pub with_facts : List Fact → State
 with_facts facts = state_at (place.Theory (record { name = codes "A"; facts = facts }))
 
+-- in a theory without facts
 abbrev pub in_theory : State
 in_theory = with_facts []
 

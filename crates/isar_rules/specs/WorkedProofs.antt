@@ -15,10 +15,11 @@ use Rattle.isar_rules.specs.Reports.{name_is, theory_is}
 use Rattle.isar_rules.specs.Steps.{step}
 use Rattle.isar_rules.specs.Small.{said, says_word, errors, reports, behind, prop, in_theory, with_facts, in_block, proving}
 
--- `~P`, and `~P --> ~P`
+-- `~P`
 abbrev pub not_p : Formula
 not_p = Not (prop (codes "P"))
 
+-- the lemma: `~P --> ~P`
 abbrev pub itself : Formula
 itself = Implies not_p not_p
 
@@ -30,23 +31,28 @@ block pending facts = record { goal = itself; pending = pending; variables = [];
 abbrev pub h : LocalFact
 h = record { origin = Assumed; name = Some (codes "h"); formula = not_p }
 
+-- the subgoal that `proof` makes of it
 abbrev pub subgoal : Subgoal
 subgoal = AssumeShow not_p not_p
 
--- the states of the proof, one after the other
+-- the state behind the lemma
 abbrev pub stated : State
 stated = proving itself (Prove itself [])
 
+-- behind `proof`
 abbrev pub opened : State
 opened = proving itself (Stated (block (subgoal ∷ []) []) [])
 
+-- behind `assume`
 abbrev pub assumed : State
 assumed = proving itself (Stated (block (subgoal ∷ []) (h ∷ [])) [])
 
+-- behind `show`
 abbrev pub shown : State
 shown = proving itself (Prove not_p
     (record { block = block (subgoal ∷ []) (h ∷ []); purpose = purpose.Show 0 } ∷ []))
 
+-- behind the `by` of what is shown
 abbrev pub achieved : State
 achieved = proving itself (Stated (block [] (h ∷ [])) [])
 

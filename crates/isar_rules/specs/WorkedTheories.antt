@@ -18,13 +18,15 @@ use Rattle.isar_rules.specs.Small.{said, says_word, errors, reports, behind, sta
 abbrev pub fact : List ℕ → List ℕ → Fact
 fact name p = (record { name = name; theory = codes "A" }, prop p)
 
--- the fact `a`, the theory of it, and another theory that sees it
+-- the fact `a`
 abbrev pub a_is_p : Fact
 a_is_p = fact (codes "a") (codes "P")
 
+-- the theory that has it
 abbrev pub with_a : State
 with_a = with_facts (a_is_p ∷ [])
 
+-- another theory that sees it
 abbrev pub seen_in_b : State
 seen_in_b = state_at (place.Theory (record { name = codes "B"; facts = a_is_p ∷ [] }))
 
@@ -62,20 +64,23 @@ pub record StatedFacts : Type 0 where
       ∷ said kind.Def 6 7 (theory_is (codes "A") ∷ name_is (codes "l") ∷ []) []
       ∷ said kind.Formula 9 41 [] (codes "(ALL x. P(x)) --> (EX y. P(y))") ∷ []
 
--- an import of a theory, one whose proof is open, one that began none, and one that is no node
+-- a node that imports a theory of these facts
 abbrev pub importing : List Fact → State
 importing facts = start (codes "B") (imports.Ordered
     (record { name = codes "A"; state = with_facts facts } ∷ [])) no_aliases
 
+-- a node that imports one whose proof is open
 abbrev pub importing_a_proof : State
 importing_a_proof = start (codes "B") (imports.Ordered
     (record { name = codes "A"; state = in_prove } ∷ [])) no_aliases
 
+-- a node of three imports, of which two have begun no theory
 abbrev pub importing_none : State
 importing_none = start (codes "B") (imports.Ordered
     (record { name = codes "A"; state = in_theory } ∷ record { name = codes "C"; state = outside }
     ∷ record { name = codes "D"; state = at_start } ∷ [])) no_aliases
 
+-- a node that imports what is no node, and whose aliases have a bad pair
 abbrev pub badly_importing : State
 badly_importing =
     start (codes "B") (imports.Bad (codes "D")) (record { pairs = []; bad = Some (codes "k") })

@@ -13,6 +13,7 @@ use Rattle.markup_lines.specs.Lines.{line}
 abbrev pub command : ℕ → ℕ → List ℕ → Report
 command start stop name = said kind.Command start stop (name_is name ∷ []) []
 
+-- an error's report
 abbrev pub error : ℕ → ℕ → List ℕ → Report
 error start stop text = said kind.Error start stop [] text
 

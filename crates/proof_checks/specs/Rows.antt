@@ -28,35 +28,43 @@ use Rattle.proof_checks.specs.Statements.{is_same}
 abbrev pub Planned : Type 0
 Planned = Result Step TermFault
 
+-- the rule does not fit
 abbrev pub misfit : Rule → Planned
 misfit r = Err (RuleDoesNotFit r)
 
 -- Rules that introduce; the last argument is the outermost layer of the goal.
 
+-- from A and B to A & B
 abbrev pub conj_i : Term → Term → Formula-F Formula → Planned
 conj_i t u (Formula-F.And a b) = Ok (Two B.ConjI (part t a) (part u b))
 conj_i t u _ = misfit R.ConjI
 
+-- from A to A | B
 abbrev pub disj_i1 : Term → Formula-F Formula → Planned
 disj_i1 t (Formula-F.Or a b) = Ok (One (U.DisjI1 b) (part t a))
 disj_i1 t _ = misfit R.DisjI1
 
+-- from B to A | B
 abbrev pub disj_i2 : Term → Formula-F Formula → Planned
 disj_i2 t (Formula-F.Or a b) = Ok (One (U.DisjI2 a) (part t b))
 disj_i2 t _ = misfit R.DisjI2
 
+-- from B under A to A --> B
 abbrev pub imp_i : List ℕ → Term → Formula-F Formula → Planned
 imp_i x t (Formula-F.Implies a b) = Ok (One (U.ImpI a) (under x a t b))
 imp_i x t _ = misfit R.ImpI
 
+-- from False under A to ~A
 abbrev pub not_i : List ℕ → Term → Formula-F Formula → Planned
 not_i x t (Formula-F.Not a) = Ok (One (U.NotI a) (under x a t False))
 not_i x t _ = misfit R.NotI
 
+-- from the body at a name to all
 abbrev pub all_i : List ℕ → Term → Formula-F Formula → Planned
 all_i x t (Formula-F.All y p) = Ok (One (U.AllI x) (part t (formula_instance (Free x) p)))
 all_i x t _ = misfit R.AllI
 
+-- from the body at a term to some
 abbrev pub ex_i : Argument → Term → Formula-F Formula → Planned
 ex_i s t (Formula-F.Exists y p) =
     if is_closed s then Ok (One (U.ExI s) (part t (formula_instance s p))) else misfit R.ExI
@@ -64,31 +72,39 @@ ex_i s t _ = misfit R.ExI
 
 -- Rules that eliminate; a last argument after the goal is the outermost layer of what is quoted.
 
+-- from A & B to A, where B is quoted
 abbrev pub conj_e1 : Formula → Term → Formula → Step
 conj_e1 b t goal = One U.ConjE1 (part t (And goal b))
 
+-- from A & B to B, where A is quoted
 abbrev pub conj_e2 : Formula → Term → Formula → Step
 conj_e2 a t goal = One U.ConjE2 (part t (And a goal))
 
+-- from A | B and from the goal under either to the goal
 abbrev pub disj_e : Formula → Formula → Term → List ℕ → Term → List ℕ → Term → Formula → Step
 disj_e a b t x u y v goal = Three (part t (Or a b)) (under x a u goal) (under y b v goal)
 
+-- from A --> B and A to B
 abbrev pub imp_e : Formula → Term → Term → Formula → Step
 imp_e a t u goal = Two B.ImpE (part t (Implies a goal)) (part u a)
 
+-- from ~A and A to False
 abbrev pub not_e : Formula → Term → Term → Formula-F Formula → Planned
 not_e a t u Formula-F.False = Ok (Two B.NotE (part t (Not a)) (part u a))
 not_e a t u _ = misfit R.NotE
 
+-- from False to anything
 abbrev pub false_e : Term → Step
 false_e t = One U.FalseE (part t False)
 
+-- from all to the body at a term
 abbrev pub all_e : Formula → Argument → Term → Formula → Formula-F Formula → Planned
 all_e quoted s t goal (Formula-F.All y p) =
     if is_closed s && is_same (meaning goal) (meaning (formula_instance s p))
     then Ok (One (U.AllE s) (part t quoted)) else misfit R.AllE
 all_e quoted s t goal _ = misfit R.AllE
 
+-- from some, and from the goal under the body at a name, to the goal
 abbrev pub ex_e : Formula → List ℕ → List ℕ → Term → Term → Formula → Formula-F Formula → Planned
 ex_e quoted x h t u goal (Formula-F.Exists y p) =
     Ok (Two (B.ExE x) (part t quoted) (under h (formula_instance (Free x) p) u goal))

@@ -81,6 +81,7 @@ decide a b = by (decide_tree (tree a) (tree b))
         ∙ (ap meaning (formulas.the_row.coded.inj (unnamed a) (unnamed b) same) ∙ unnamed_says b))
     by (inr other) = inr (λ e. other (ap tree e))
 
+-- whether it is the first of the two that holds
 abbrev pub is_first : {P Q : Type 0} → P ⊎ Q → Bool
 is_first (inl p) = true
 is_first (inr q) = false

@@ -52,10 +52,12 @@ read_start (Long c ∷ more) = Ok (S.Fact c, more)
 read_start (Opens ∷ more) = and_then (read_rule_name more) (λ r last. Ok (S.Rule r, last))
 read_start _ = Err Malformed
 
+-- a name of the term's own
 abbrev pub read_name : List Mark → Read (List ℕ)
 read_name (Name c ∷ more) = Ok (c.name, more)
 read_name _ = Err Malformed
 
+-- the `)` behind a rule
 abbrev pub read_close : List Mark → Read (Unit {0})
 read_close (Closes ∷ more) = Ok (tt, more)
 read_close _ = Err Malformed
@@ -77,10 +79,12 @@ abbrev pub unquoted : {A : Type 0} → Result A FormulaFault → List Mark → R
 unquoted (Ok a) more = Ok (a, more)
 unquoted (Err fault) more = Err (quoted_fault fault)
 
+-- a quoted formula
 abbrev pub read_formula : List Mark → Read Formula
 read_formula (Quoted s ∷ more) = unquoted (formula_of s) more
 read_formula _ = Err Malformed
 
+-- a quoted term of the object language
 abbrev pub read_object : List Mark → Read Argument
 read_object (Quoted s ∷ more) = unquoted (term_of s) more
 read_object _ = Err Malformed
@@ -133,6 +137,7 @@ abbrev pub alone : Term → List Mark → Result Term TermFault
 alone t [] = Ok t
 alone t (m ∷ more) = Err Malformed
 
+-- the term where nothing is left behind it, or the fault
 abbrev pub whole : Read Term → Result Term TermFault
 whole (Ok r) = alone r.0 r.1
 whole (Err fault) = Err fault

@@ -8,6 +8,7 @@ use Rattle.report_markup.specs.declared.property.Property.{Property}
 use Rattle.report_markup.specs.declared.report.Report.{Report}
 use Rattle.report_markup.specs.Words.{kind_word, key_word}
 
+-- a property as an attribute
 abbrev pub property_attribute : Property → Attribute
 property_attribute p = record { key = key_word p.key; value = p.value }
 

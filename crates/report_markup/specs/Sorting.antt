@@ -11,6 +11,7 @@ abbrev pub insert_if : Bool → Report → Report → List Report → List Repor
 insert_if true r next rest inserted = next ∷ inserted
 insert_if false r next rest inserted = r ∷ next ∷ rest
 
+-- a report put in its place among sorted ones
 abbrev pub insert_report : Report → List Report → List Report
 insert_report r [] = r ∷ []
 insert_report r (next ∷ rest) =

@@ -21,6 +21,7 @@ pub record Assignments : Type 0 where
 abbrev pub range : ℕ → ℕ → Range
 range start stop = record { start = start; stop = stop }
 
+-- a report of a command at a range
 abbrev pub said : ℕ → ℕ → Report
 said start stop =
     record { range = range start stop; kind = report.Command; properties = []; text = [] }
@@ -29,6 +30,7 @@ said start stop =
 abbrev pub text : List ℕ
 text = codes " \\<open>x"
 
+-- a command that has reported, and one that has not
 abbrev pub parts : List PartShown
 parts = record { exec = 1; span = range 1 9; reports = Some (said 0 8 ∷ said 7 8 ∷ []) }
     ∷ record { exec = 2; span = range 1 9; reports = None } ∷ []

@@ -23,6 +23,7 @@ abbrev pub awaited_by : Result Version Refusal → Option Version
 awaited_by (Ok version) = Some version
 awaited_by (Err reason) = None
 
+-- the version that a message has to wait for
 abbrev pub awaited_of : {S : Type 0} → Lang S → Service → Session → Result EditorMessage Refusal
     → Option Version
 awaited_of l service s (Ok (asks.Settle id)) = awaited_by (settles l service s id)

@@ -26,6 +26,7 @@ pub record Looked : Type 0 where
   pub version : Version
   pub text : List ℕ
 
+-- what a look at a node of a version finds, or why it is refused
 abbrev pub looked_at : {S : Type 0} → Lang S → Session → ℕ → List ℕ → List Edit
     → Result Looked Refusal
 looked_at l s id name edits = version_in l s id >>= λ version.

@@ -12,26 +12,31 @@ use Rattle.session_rules.specs.declared.service.Service.TheVariants.{Workers, Sc
 use Rattle.session_rules.specs.Heard.{Heard, Message}
 use Rattle.session_rules.specs.Replies.{told}
 
--- messages: an update of nodes, a settle, a snapshot, a cancellation, a removal
+-- a message that makes a version of these items
 abbrev pub update : ℕ → List Item → Heard
 update version items = Message (Ok (asks.Update version items []))
 
+-- a message that settles a version
 abbrev pub settle : ℕ → Heard
 settle version = Message (Ok (asks.Settle version))
 
+-- a message that asks for a snapshot
 abbrev pub snapshot : ℕ → List ℕ → List Edit → Heard
 snapshot version node edits = Message (Ok (asks.Snapshot version node edits))
 
+-- a message that cancels an execution
 abbrev pub cancel : ℕ → Heard
 cancel exec = Message (Ok (asks.Cancel exec))
 
+-- a message that removes versions
 abbrev pub remove : List ℕ → Heard
 remove versions = Message (Ok (asks.RemoveVersions versions))
 
--- what a worker is told to do
+-- a message that lets a worker claim a part
 abbrev pub claim : ℕ → Heard
 claim worker = Message (Ok (asks.Claim worker))
 
+-- a message that lets a worker finish its part
 abbrev pub finish : ℕ → Heard
 finish worker = Message (Ok (asks.Finish worker))
 
@@ -42,9 +47,10 @@ two_commands = record {
   change = change.Edit (Insert 0 (codes "theory A begin end") ∷ []) all_wanted;
 }
 
--- what is told of an entry by a session without workers, and by one that follows a script
+-- what is told of an entry by a session without workers
 abbrev pub alone : List Heard → Heard → List Told
 alone h e = told small (Workers 0) h e
 
+-- and by one that follows a script
 abbrev pub scripted : List Heard → Heard → List Told
 scripted h e = told small Script h e

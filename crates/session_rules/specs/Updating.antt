@@ -43,5 +43,6 @@ removed_by s ids answer.Removed = Ok (with_event s (event.Remove ids))
 removed_by s ids (answer.Unknown id) = Err UnknownVersion
 removed_by s ids answer.Tip = Err TipVersion
 
+-- the session without these versions, or why they can't go
 abbrev pub removed : {S : Type 0} → Lang S → Session → List ℕ → Result Session Refusal
 removed l s ids = removed_by s ids (removing (document l s).live ids)

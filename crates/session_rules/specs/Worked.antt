@@ -29,13 +29,15 @@ said start stop = record {
   text = [];
 }
 
--- a version is made; the reader finishes both parts
+-- a version is made
 abbrev pub made : List Heard
 made = update 1 (two_commands ∷ []) ∷ []
 
+-- the reader has evaluated its first command
 abbrev pub begun : List Heard
 begun = Finished 0 (eval 1) ∷ Claimed 0 (eval 1) ∷ made
 
+-- and its second
 abbrev pub whole : List Heard
 whole = Finished 0 (eval 2) ∷ Claimed 0 (eval 2) ∷ begun
 
@@ -54,10 +56,11 @@ pub record AFirstVersion : Type 0 where
   pub edited : alone whole (snapshot 1 (codes "A") (Insert 14 (codes "  ") ∷ []))
       ≡ tells.Markup 1 (codes "A") (said 0 16 ∷ said 17 20 ∷ []) [] true ∷ []
 
--- a worker takes a part by a message; its execution is cancelled, and the part is let go
+-- a worker takes a part by a message
 abbrev pub taken : List Heard
 taken = Claimed 1 (eval 1) ∷ claim 1 ∷ made
 
+-- its execution is cancelled, and the part is let go
 abbrev pub let_go : List Heard
 let_go = Dropped 1 (eval 1) ∷ finish 1 ∷ cancel 1 ∷ taken
 

@@ -20,6 +20,7 @@ abbrev pub left_range : List Edit → Range → Option Range
 left_range [] range = Some range
 left_range (e ∷ es) range = if_filled (converted (e ∷ es) range)
 
+-- a report at another range, where there is one
 abbrev pub at_range : Report → Option Range → List Report
 at_range r (Some range) = record r { range = range } ∷ []
 at_range r None = []

@@ -6,6 +6,7 @@ use Rattle.std.specs.Borrow.{Bor}
 use Rattle.report_markup.specs.declared.report.Report.{Report}
 use Rattle.snapshots.specs.declared.part.AssignedPart.{AssignedPart}
 
+-- the execution, unless it has reported
 abbrev pub unless_reported : ℕ → Option (Bor (List Report)) → List ℕ
 unless_reported exec (Some reports) = []
 unless_reported exec None = exec ∷ []

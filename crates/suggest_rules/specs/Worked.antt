@@ -18,6 +18,7 @@ abbrev pub swap : Formula
 swap =
     Implies (And (prop (codes "P")) (prop (codes "Q"))) (And (prop (codes "Q")) (prop (codes "P")))
 
+-- Peirce's law, which NJ does not prove
 abbrev pub peirce : Formula
 peirce =
     Implies (Implies (Implies (prop (codes "P")) (prop (codes "Q"))) (prop (codes "P")))

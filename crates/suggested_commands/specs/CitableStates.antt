@@ -28,6 +28,7 @@ module _ (aliases : List (List ℕ)) where
   CitablePurpose (Have name) = IfSome name (IsFree aliases)
   CitablePurpose (Show place) = ⊤
 
+  -- so do a frame's
   abbrev pub CitableFrame : Frame → Type 0
   CitableFrame frame = CitableBlock frame.block × CitablePurpose frame.purpose
 
@@ -38,6 +39,7 @@ module _ (aliases : List (List ℕ)) where
   CitableLevels (levels.State block around) =
       CitableBlock block × AllByRecursion CitableFrame around
 
+  -- so do those of the proof at a place
   abbrev pub CitablePlace : Place → Type 0
   CitablePlace (place.Proof theory name goal levels) = CitableLevels levels
   CitablePlace _ = ⊤

@@ -46,6 +46,7 @@ IsHeld o = (s : Standing) × (o ≡ Some s) × (s.held ≡ true)
 abbrev pub kind_if_ready : Standing → Option PartKind
 kind_if_ready s = if is_ready s then Some s.kind else None
 
+-- the kind of a part that is ready, where there is a part
 abbrev pub ready_kind : Option Standing → Option PartKind
 ready_kind None = None
 ready_kind (Some s) = kind_if_ready s

@@ -6,6 +6,7 @@ use Rattle.theory_ctx.specs.Spelled.{long_name}
 use Rattle.theory_ctx.specs.declared.lookup.Lookup.{Lookup}
 use Rattle.theory_ctx.specs.declared.lookup.Lookup.TheVariants.{Found, Unknown, Ambiguous}
 
+-- what a name is found to mean
 pub data Answer : Type 0 where
   -- a fact: its theory (a local fact has none), its name, and what it says
   found : Option (List ℕ) → List ℕ → Formula → Answer

@@ -26,6 +26,7 @@ use Rattle.nj_formula.specs.contracts.shared.Shared.TheInside as I
 abbrev pub the_former : Former {0} → Former {0}
 the_former g = g
 
+-- and it weighs what the value weighs
 abbrev pub the_weighed : {g : Former {0}} → Weighed g → Weighed (the_former g)
 the_weighed w = w
 
@@ -34,9 +35,11 @@ abbrev fields : Former {0}
 fields = via (pair (const Ptr) this) Inside (λ X a. (a.inner.ptr, a.inner.value))
     (λ X v. record { inner = record { ptr = v.0; value = v.1 } }) (λ X a. refl) (λ X v. refl)
 
+-- the same place with another value in it
 abbrev with_value : {X Y : Type 0} → Arc X Global → Y → Arc Y Global
 with_value b y = record { ptr = b.ptr; value = y }
 
+-- an `Arc` of a type
 abbrev arc_of : RattleType → RattleType
 arc_of R = arc.the_row R heap.the_row ghosts
 
