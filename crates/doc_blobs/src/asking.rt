@@ -21,7 +21,7 @@ pub fn needs(
 {
     one_list();
     let tokens = lex_under(alloc, source, aliases.names())?;
-    let proper = proper_ones(alloc, &tokens)?;
+    let proper = proper_ones(tokens);
     of_tokens(alloc, source, aliases, &proper)
 }
 

@@ -51,7 +51,7 @@ fn first_of(first: char, text: &[char]) -> (char, usize)
 fn replaced(alloc: Global, inside: &[char]) -> Result<Vec<char>, AllocError>
     ensures { IfOk result (λ v. v.items ≡ replaced_from 0 inside.now) }
 {
-    let mut content = Vec::new(alloc);
+    let mut content = Vec::with_capacity(alloc, inside.len())?;
     let mut at = 0;
     while at < inside.len() {
         let (c, size) = first_of(inside[at], &inside[at + 1..]);

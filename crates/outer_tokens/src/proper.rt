@@ -1,22 +1,15 @@
 //! The proper tokens: all but spaces and comments.
-ghost use Rattle.std.specs.Prelude.{◌≡◌, IfOk};
+ghost use Rattle.std.specs.Prelude.{◌≡◌};
 ghost use Rattle.outer_tokens.specs.Headings.{proper};
 
 use crate::kind::is_proper;
 use crate::token::Token;
-use std::alloc::{AllocError, Global};
 
-/// The proper ones of the tokens, in memory of their own.
-pub fn proper_ones(alloc: Global, tokens: &[Token]) -> Result<Vec<Token>, AllocError>
-    ensures { IfOk result (λ some. some.items ≡ proper tokens.now) }
+/// The proper ones of the tokens, in the memory of them all.
+pub fn proper_ones(tokens: Vec<Token>) -> Vec<Token>
+    ensures { result.items ≡ proper tokens.items }
 {
-    let mut some = Vec::with_capacity(alloc, tokens.len())?;
-    let mut rest = tokens;
-    'tokens: while let [token, more @ ..] = rest {
-        if is_proper(token.kind) {
-            some.push(*token)?;
-        }
-        rest = more;
-    }
-    Ok(some)
+    let mut some = tokens;
+    some.retain(|token| is_proper(token.kind));
+    some
 }

@@ -5,7 +5,7 @@ use std::alloc::{AllocError, Global};
 /// The proper tokens of a text, no alias being in force.
 pub fn proper_tokens(alloc: Global, source: &[char]) -> Result<Vec<Token>, AllocError> {
     let tokens = lex_under(alloc, source, &[])?;
-    proper_ones(alloc, &tokens)
+    Ok(proper_ones(tokens))
 }
 
 /// A text with so many of these openings before the inner text, and as many `)` behind it.

@@ -28,5 +28,5 @@ pub(crate) fn source_tokens(
 {
     one_list();
     let tokens = lex_under(alloc, source, aliases.names())?;
-    proper_ones(alloc, &tokens)
+    Ok(proper_ones(tokens))
 }

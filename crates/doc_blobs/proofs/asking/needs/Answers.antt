@@ -11,10 +11,9 @@ pub returns : goal.returns
 returns c =
     let source = c.args.source.now in
     let aliases = c.args.aliases.now in
-    let same : c.deref-2.result.now ≡ source_tokens aliases source =
-    c.deref-2.ensures.value ∙ c.in_ok-proper.ensures
-    ∙ ap proper (c.deref.ensures.value
-    ∙ (c.one_list.ensures.under _ _ _).0 c.in_ok-tokens.ensures
+    let same : c.deref.result.now ≡ source_tokens aliases source =
+    c.deref.ensures.value ∙ c.proper_ones-proper.ensures
+    ∙ ap proper ((c.one_list.ensures.under _ _ _).0 c.in_ok-tokens.ensures
     ∙ ap (λ names. tokens_under (λ _. is_in_force names) source) c.names.ensures)
     in
     subst (λ (tokens : List Token). IfOk c.of_tokens.result
