@@ -10,7 +10,7 @@ use crate::frame::Purpose;
 use crate::levels::Levels;
 use crate::local_fact::{LocalFact, Origin};
 use crate::subgoal::without;
-use nj_formula::{Formula, Name};
+use nj_formula::{Formula, Name, Shared};
 use std::alloc::{AllocError, Global};
 
 pub(crate) fn copy_name(alloc: Global, name: &Option<Name>) -> Result<Option<Name>, AllocError>
@@ -29,7 +29,7 @@ pub(crate) fn closed(alloc: Global, goal: &Formula, around: &Around) -> Result<L
     match around.first() {
         None => Ok(Levels::Closed),
         Some(frame) => Ok(Levels::State {
-            block: achieved(alloc, &frame.purpose, goal, &frame.block)?,
+            block: Shared::new(alloc, achieved(alloc, &frame.purpose, goal, &frame.block)?)?,
             around: around.rest(alloc)?,
         }),
     }

@@ -13,7 +13,7 @@ use crate::frame::{Frame, Purpose};
 use crate::fresh::is_taken;
 use crate::levels::Levels;
 use crate::local_fact::{LocalFact, Origin};
-use nj_formula::{Formula, Name};
+use nj_formula::{Formula, Name, Shared};
 use std::alloc::{AllocError, Global};
 use theory_ctx::Ctx;
 
@@ -25,7 +25,7 @@ impl Levels {
             return Err(ProofFault::NotAllowed);
         };
         Ok(Levels::State {
-            block: Block::opened(alloc, goal, dash)?,
+            block: Shared::new(alloc, Block::opened(alloc, goal, dash)?)?,
             around: around.copy()?,
         })
     }
@@ -41,14 +41,14 @@ impl Levels {
         let Levels::State { block, around } = self else {
             return Err(ProofFault::NotAllowed);
         };
-        let taken = is_taken(ctx, name, block, around);
+        let taken = is_taken(ctx, name, block.get(), around);
         let name = Name::new(alloc, name)?;
         if taken {
             return Err(ProofFault::NotFresh { name });
         }
         let around = around.copy()?;
         Ok(Levels::State {
-            block: block.with_variable(alloc, name)?,
+            block: Shared::new(alloc, block.get().with_variable(alloc, name)?)?,
             around,
         })
     }
@@ -70,7 +70,7 @@ impl Levels {
             formula,
         };
         Ok(Levels::State {
-            block: block.with_fact(alloc, fact)?,
+            block: Shared::new(alloc, block.get().with_fact(alloc, fact)?)?,
             around: around.copy()?,
         })
     }
@@ -86,7 +86,7 @@ impl Levels {
         let Levels::State { block, around } = self else {
             return Err(ProofFault::NotAllowed);
         };
-        let around = inside(alloc, block, Purpose::Have(name), around)?;
+        let around = inside(alloc, block.get(), Purpose::Have(name), around)?;
         Ok(Levels::Prove {
             goal: formula,
             around,
@@ -99,10 +99,10 @@ impl Levels {
         let Levels::State { block, around } = self else {
             return Err(ProofFault::NotAllowed);
         };
-        let Some(place) = fitting(alloc, block, &formula)? else {
+        let Some(place) = fitting(alloc, block.get(), &formula)? else {
             return Err(ProofFault::NoSuchSubgoal);
         };
-        let around = inside(alloc, block, Purpose::Show(place), around)?;
+        let around = inside(alloc, block.get(), Purpose::Show(place), around)?;
         Ok(Levels::Prove {
             goal: formula,
             around,
@@ -116,7 +116,7 @@ impl Levels {
             return Err(ProofFault::NotAllowed);
         };
         Ok(Levels::State {
-            block: block.cleared(alloc)?,
+            block: Shared::new(alloc, block.get().cleared(alloc)?)?,
             around: around.copy()?,
         })
     }
@@ -127,10 +127,10 @@ impl Levels {
         let Levels::State { block, around } = self else {
             return Err(ProofFault::NotAllowed);
         };
-        if block.pending.len() != 0 {
+        if block.get().pending.len() != 0 {
             return Err(ProofFault::SubgoalsRemain);
         }
-        let levels = closed(alloc, &block.goal, around)?;
+        let levels = closed(alloc, &block.get().goal, around)?;
         Ok(levels)
     }
 

@@ -19,7 +19,7 @@ impl Levels {
         match self {
             Levels::Closed => {}
             Levels::Prove { goal, around: _ } => write_goal(alloc, &mut text, goal)?,
-            Levels::State { block, around: _ } => write_block(alloc, &mut text, block)?,
+            Levels::State { block, around: _ } => write_block(alloc, &mut text, block.get())?,
         }
         Ok(text)
     }

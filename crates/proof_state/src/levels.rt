@@ -3,7 +3,7 @@ ghost use Rattle.proof_state.specs.Answers.{is_closed};
 
 use crate::around::Around;
 use crate::block::Block;
-use nj_formula::Formula;
+use nj_formula::{Formula, Shared};
 use std::alloc::{AllocError, Global};
 
 /// How far a proof has come. What stands around a level is given from the inside out.
@@ -12,9 +12,15 @@ pub(crate) enum Levels {
     /// The goal given at the start was closed.
     Closed,
     /// Mode prove: a goal is open.
-    Prove { goal: Formula, around: Around },
+    Prove {
+        goal: Formula,
+        around: Around,
+    },
     /// Mode state: a block is worked on.
-    State { block: Block, around: Around },
+    State {
+        block: Shared<Block>,
+        around: Around,
+    },
 }
 
 impl Levels {
@@ -29,7 +35,7 @@ impl Levels {
                 around: around.copy()?,
             }),
             Levels::State { block, around } => Ok(Levels::State {
-                block: block.copy(alloc)?,
+                block: block.copy()?,
                 around: around.copy()?,
             }),
         }

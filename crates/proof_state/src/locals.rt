@@ -20,7 +20,7 @@ impl Levels {
             Levels::Prove { goal: _, around } => around.sights(),
             Levels::State { block, around } => {
                 let sights = around.sights()?;
-                sights.with_first(alloc, block.facts.named().copy()?)
+                sights.with_first(alloc, block.get().facts.named().copy()?)
             }
         }
     }
