@@ -6,7 +6,7 @@ use Rattle.std.specs.declared.cmp.Ordering.{Ordering}
 use Rattle.std.specs.declared.cmp.Ordering.TheVariants.{Less, Equal, Greater}
 use Rattle.std.specs.Ordering.{is_eq, ordering_reverse}
 use Rattle.std.proofs.lemmas.Cmp.{alike_right, tied_itself}
-use Rattle.shared_map.specs.Pairs.{Each, IsSorted, has_key, found}
+use Rattle.shared_map.specs.Pairs.{Each, IsSorted, has_key}
 use Rattle.shared_map.proofs.Lists.{Each-along, find_none}
 use Rattle.shared_map.proofs.KnownFound.{none_above}
 use Rattle.std.proofs.lemmas.Option.{none-some}

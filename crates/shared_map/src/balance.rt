@@ -8,7 +8,8 @@ use std::sync::Arc;
 /// One side of a fork is at most by so many forks higher than the other.
 const SLACK: usize = 1;
 
-/// The tree of these parts, of whatever heights. It shares what it can of them.
+/// The tree of these parts, of whatever heights. It shares what it can of them. Where a side is too
+/// high, the rest is joined to its inner part, which may grow by that.
 pub(crate) fn joined<T: Drop>(
     alloc: Global,
     left: &Tree<T>,
@@ -19,14 +20,14 @@ pub(crate) fn joined<T: Drop>(
 {
     if is_high(left, right) {
         if let Some(parts) = left.parts() {
-            let right = joined(alloc, parts.right, item, right)?;
-            return balanced(alloc, parts.left, parts.item, &right);
+            let inner = joined(alloc, parts.right, item, right)?;
+            return right_grown(alloc, parts.left, parts.item, inner);
         }
     }
     if is_high(right, left) {
         if let Some(parts) = right.parts() {
-            let left = joined(alloc, left, item, parts.left)?;
-            return balanced(alloc, &left, parts.item, parts.right);
+            let inner = joined(alloc, left, item, parts.left)?;
+            return left_grown(alloc, inner, parts.item, parts.right);
         }
     }
     Tree::fork(alloc, left, item, right)
@@ -91,22 +92,6 @@ fn is_high<T: Drop>(one: &Tree<T>, other: &Tree<T>) -> bool {
 /// Whether two rotations are wanted: the inner part is higher than the outer one.
 fn is_inner_high<T: Drop>(inner: &Tree<T>, outer: &Tree<T>) -> bool {
     inner.height() > outer.height()
-}
-
-/// The tree of parts of which one may be a little too high.
-fn balanced<T: Drop>(
-    alloc: Global,
-    left: &Tree<T>,
-    item: &Arc<T>,
-    right: &Tree<T>,
-) -> Result<Tree<T>, AllocError>
-    ensures { IfOk result (λ tree. tree ≡ left.now ++ arc_value item.now ∷ right.now) }
-{
-    if is_high(left, right) {
-        left_grown(alloc, left.copy()?, item, right)
-    } else {
-        right_grown(alloc, left, item, right.copy()?)
-    }
 }
 
 /// A rotation that brings up the left part, or what is inside it.

@@ -56,6 +56,12 @@ block_field_send = search (formula_field_send, facts_send, variables_send, subgo
 pub block_field_sync : IsSync block.the_field.row
 block_field_sync = search (formula_field_sync, facts_sync, variables_sync, subgoal_sync, kit.crosses, sendable) depth 60 fits 20000
 
+pub block_send : IsSend block.the_row
+block_send = search (block_field_send, sendable) depth 60 fits 20000
+
+pub block_sync : IsSync block.the_row
+block_sync = search (block_field_sync, sendable) depth 60 fits 20000
+
 pub purpose_field_send : IsSend purpose.the_field.row
 purpose_field_send = search (name_send, kit.crosses, sendable) depth 60 fits 20000
 
@@ -81,10 +87,10 @@ pub around_sync : IsSync around.the_row
 around_sync = search (frame_send, frame_sync, locals_send, locals_sync, kit.crosses, trees.crosses, sendable) depth 60 fits 20000
 
 pub levels_field_send : IsSend levels.the_field.row
-levels_field_send = search (formula_field_send, block_field_send, around_send, sendable) depth 60 fits 20000
+levels_field_send = search (formula_field_send, block_send, block_sync, around_send, kit.crosses, sendable) depth 60 fits 20000
 
 pub levels_field_sync : IsSync levels.the_field.row
-levels_field_sync = search (formula_field_sync, block_field_sync, around_sync, sendable) depth 60 fits 20000
+levels_field_sync = search (formula_field_sync, block_send, block_sync, around_sync, kit.crosses, sendable) depth 60 fits 20000
 
 pub proof_send : IsSend proof.the_row
 proof_send = search (levels_field_send, sendable) depth 60 fits 20000
