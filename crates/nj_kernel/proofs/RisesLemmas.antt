@@ -1,5 +1,5 @@
 -- What rises is told by the order of its members, and has each once; joining and taking out keep that.
-use Rattle.std.proofs.Common.{◌≡◌, ◌≢◌, ◌≤◌, ℕ, length, map, drop, Bool, true, false, ◌&&◌, IsTrue, List, [], ◌∷◌, ◌++◌, refl, ap, sym, subst, ◌∙◌, inl, inr, ⊎_elim}
+use Rattle.std.proofs.Common.{◌≡◌, ◌≢◌, ◌≤◌, ℕ, length, map, drop, Bool, true, false, ◌&&◌, cond, ◌↔◌, IsTrue, List, [], ◌∷◌, ◌++◌, refl, ap, sym, subst, ◌∙◌, inl, inr, ⊎_elim}
 use Rattle.std.specs.List.{list_all}
 use Rattle.std.specs.Ordering.{is_lt}
 use Rattle.std.specs.declared.cmp.Ordering.{Ordering}
@@ -130,13 +130,15 @@ pub removed_rises : (a : Statement) (s : List Statement) → IsTrue (rises s) �
 removed_rises a [] h = refl
 removed_rises a (f ∷ s) h = rises_kept a f s h (removed_rises a s (tail_rises f s h)) (order f a)
 
-pub removed_dropped : (a f : Statement) (s : List Statement) → order f a ≡ Equal → removed a (f ∷ s) ≡ removed a s
-removed_dropped a f s e = ap (λ r. kept r f (removed a s)) e
-
-pub removed_kept : (a f : Statement) (s : List Statement) (r : Ordering) → order f a ≡ r → (r ≡ Equal → ⊥) → removed a (f ∷ s) ≡ f ∷ removed a s
-removed_kept a f s Less e unlike = ap (λ r. kept r f (removed a s)) e
-removed_kept a f s Equal e unlike = absurd (unlike refl)
-removed_kept a f s Greater e unlike = ap (λ r. kept r f (removed a s)) e
+-- a member stays where a test says that it isn't the same
+pub removed_tested : (same : Bool) (a f : Statement) (s : List Statement) → IsTrue same ↔ (f ≡ a) → removed a (f ∷ s) ≡ cond same (removed a s) (f ∷ removed a s)
+removed_tested true a f s h = ap (λ r. kept r f (removed a s)) (sym (ap (order f) (h.0 refl)) ∙ itself f)
+removed_tested false a f s h = go (order f a) refl
+  where
+    go : (r : Ordering) → order f a ≡ r → kept r f (removed a s) ≡ f ∷ removed a s
+    go Less e = refl
+    go Equal e = let yes = h.1 (equal_is f a e) in cc
+    go Greater e = refl
 
 -- at the end of a pass nothing is left to look at
 pub whole : (a : Statement) (done all : List Formula) (i : ℕ) → length all ≤ i

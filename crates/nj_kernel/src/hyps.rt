@@ -87,12 +87,11 @@ pub(crate) fn without(
         (members (map meaning s.now) ∖ meaning formula.now)) }
     ensures ordered { IfOk result (λ u. IsTrue (rises (map meaning u))) }
 {
-    let dropped = Hyp::new(alloc, formula)?;
-    let kept = others(alloc, s, &dropped)?;
+    let kept = others(alloc, s, formula)?;
     Shared::new(alloc, kept)
 }
 
-fn others(alloc: Global, s: &[Hyp], dropped: &Hyp) -> Result<Items<Hyp>, AllocError>
+fn others(alloc: Global, s: &[Hyp], dropped: &Formula) -> Result<Items<Hyp>, AllocError>
     requires { IsTrue (rises (map meaning s.now)) }
     ensures listed { IfOk result (λ u. Lists (map meaning u)
         (members (map meaning s.now) ∖ meaning dropped.now)) }
@@ -100,7 +99,7 @@ fn others(alloc: Global, s: &[Hyp], dropped: &Hyp) -> Result<Items<Hyp>, AllocEr
 {
     let mut kept = Items::new(alloc);
     for member in s {
-        if member.order(dropped).is_ne() {
+        if !member.formula().same(dropped) {
             kept.push(member.copy(alloc)?)?;
         }
     }
