@@ -179,7 +179,7 @@ fn premise<P: Stop>(
     match &part.own {
         None => proved(alloc, part.term.get(), &part.goal, scope, stop, left),
         Some(own) => {
-            scope.push(alloc, own.name.as_str(), own.formula.copy(alloc)?)?;
+            scope.push(alloc, &own.name, own.formula.copy(alloc)?)?;
             let given = proved(alloc, part.term.get(), &part.goal, scope, stop, left);
             hand_on(scope, given)
         }

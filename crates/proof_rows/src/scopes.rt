@@ -156,7 +156,8 @@ fn push_inside(
     name: &str,
     said: &str,
 ) -> Result<String, AllocError> {
-    inner.push(alloc, name, atom(alloc, said)?)?;
+    let name = Name::new(alloc, name)?;
+    inner.push(alloc, &name, atom(alloc, said)?)?;
     done(alloc)
 }
 

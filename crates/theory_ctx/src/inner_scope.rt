@@ -37,13 +37,13 @@ impl<'s, 'a> Model for InnerScope<'s, 'a> {
 
 impl<'s, 'a> InnerScope<'s, 'a> {
     /// Adds a local fact, as the innermost one. For want of memory it adds nothing.
-    pub fn push(&mut self, alloc: Global, name: &str, formula: Formula) -> Result<(), AllocError>
+    pub fn push(&mut self, alloc: Global, name: &Name, formula: Formula) -> Result<(), AllocError>
         ensures ok { OnOk result (self.new ≡ record self.old {
           own = record { name = name.now; formula = formula } ∷ self.old.own;
         }) }
         ensures err { OnErr result (self.new ≡ self.old) }
     {
-        let name = Name::new(alloc, name)?;
+        let name = name.copy(alloc)?;
         self.locals.push(Local { name, formula })?;
         Ok(())
     }
