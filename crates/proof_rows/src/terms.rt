@@ -180,8 +180,10 @@ const NAMES: &[Named] = &[
 ];
 
 #[test]
-fn each_rule_has_its_name(rt: HostRuntime) {
+fn each_rule_has_its_name(rt: HostRuntime) -> Result<(), Fail> {
     for Named(name, rule) in NAMES {
-        assert_eq!(rt; rule_named(name), *rule, "{name}");
+        let scalars: Vec<char> = name.chars().collect(rt.alloc())?;
+        assert_eq!(rt; rule_named(scalars.as_slice()), *rule, "{name}");
     }
+    Ok(())
 }

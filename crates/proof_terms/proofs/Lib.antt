@@ -1,4 +1,5 @@
 mod StepLemmas
+mod SpelledLemmas
 mod QuotedLemmas
 mod CompleteLemmas
 mod TakenMarks

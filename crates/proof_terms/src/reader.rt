@@ -1,9 +1,10 @@
 //! The tokens of a proof, taken one after the other.
 
-ghost use Rattle.std.specs.Prelude.{◌≡◌, ◌∷◌, [], IfOk, MatchOption, true, false};
+ghost use Rattle.std.specs.Prelude.{◌≡◌, ◌∷◌, [], List, IfOk, MatchOption, true, false};
 ghost use Rattle.nj_syntax.specs.Answer.{formula_of, term_of};
+ghost use Rattle.proof_terms.specs.declared.mark.Mark.{Mark};
 ghost use Rattle.proof_terms.specs.Marks.{is_ascii, mark_of, marks};
-ghost use Rattle.proof_terms.specs.Reading.{Gives, read_start, read_rule_name, read_name, read_formula, read_object, read_close, Quotes, quoted_error};
+ghost use Rattle.proof_terms.specs.Reading.{Gives, of_name, read_start, read_rule_name, read_name, read_formula, read_object, read_close, Quotes, quoted_error};
 
 use crate::fault::{TermError, TermFault};
 use crate::mark::{Mark, sign};
@@ -22,8 +23,6 @@ pub(crate) struct Reader<'a> {
     pub(crate) alloc: Global,
     pub(crate) source: &'a [char],
     pub(crate) rest: &'a [Token],
-    /// Room for the letters of a name, used again for each.
-    pub(crate) letters: String,
 }
 
 /// What a term begins with.
@@ -41,43 +40,33 @@ pub(crate) fn malformed() -> TermError
     TermError::Fault(TermFault::Malformed)
 }
 
-/// The name whose scalars these are, unless one of them is not ASCII. The letters are room to
-/// write.
-fn ascii_name(
-    alloc: Global,
-    letters: &mut String,
-    scalars: &[char],
-) -> Result<Option<Name>, AllocError>
+/// The name whose scalars these are, unless one of them is not ASCII.
+fn ascii_name(alloc: Global, scalars: &[char]) -> Result<Option<Name>, AllocError>
     ensures { IfOk result (λ name. MatchOption name (is_ascii scalars.now ≡ false)
         (λ x. (is_ascii scalars.now ≡ true) × (x ≡ scalars.now))) }
 {
-    letters.clear();
+    let mut letters = String::with_capacity(alloc, scalars.len())?;
     for c in scalars {
         if !c.is_ascii() {
             return Ok(None);
         }
         letters.push(*c)?;
     }
-    Ok(Some(Name::new(alloc, letters.as_str())?))
+    Ok(Some(Name::from_string(letters)?))
 }
 
-/// What the token of the source is. The letters are room to write.
-fn mark(
-    alloc: Global,
-    letters: &mut String,
-    source: &[char],
-    token: Token,
-) -> Result<Mark, AllocError>
+/// What the token of the source is.
+fn mark(alloc: Global, source: &[char], token: Token) -> Result<Mark, AllocError>
     ensures { IfOk result (λ m. m ≡ mark_of source.now token) }
 {
     let text = scalars(source, token.range);
     let range = token.range;
     match token.kind {
-        Kind::Ident => match ascii_name(alloc, letters, text)? {
+        Kind::Ident => match ascii_name(alloc, text)? {
             Some(name) => Ok(Mark::Name(Cite { name, range })),
             None => Ok(Mark::Other),
         },
-        Kind::LongIdent => match ascii_name(alloc, letters, text)? {
+        Kind::LongIdent => match ascii_name(alloc, text)? {
             Some(name) => Ok(Mark::Long(Cite { name, range })),
             None => Ok(Mark::Other),
         },
@@ -87,6 +76,17 @@ fn mark(
         }
         Kind::Sym => Ok(sign(text)),
         _ => Ok(Mark::Other),
+    }
+}
+
+/// The rule that the token of the source names. It takes no memory.
+fn rule_in(source: &[char], token: Token) -> Option<Rule>
+    ensures { (more : List Mark)
+        → read_rule_name (mark_of source.now token ∷ more) ≡ of_name result more }
+{
+    match token.kind {
+        Kind::Ident => rule_named(scalars(source, token.range)),
+        _ => None,
     }
 }
 
@@ -101,7 +101,7 @@ impl<'a> Reader<'a> {
         match self.rest {
             [] => Ok(None),
             [token, after @ ..] => {
-                let mark = mark(self.alloc, &mut self.letters, self.source, *token)?;
+                let mark = mark(self.alloc, self.source, *token)?;
                 self.rest = after;
                 Ok(Some(mark))
             }
@@ -113,9 +113,15 @@ impl<'a> Reader<'a> {
         ensures { Gives result (marks self.new.source.now self.new.rest.now)
             (read_rule_name (marks self.old.source.now self.old.rest.now)) }
     {
-        match self.next()? {
-            Some(Mark::Name(cite)) => rule_named(cite.name.as_str()).ok_or(malformed()),
-            _ => Err(malformed()),
+        let [token, after @ ..] = self.rest else {
+            return Err(malformed());
+        };
+        match rule_in(self.source, *token) {
+            Some(rule) => {
+                self.rest = after;
+                Ok(rule)
+            }
+            None => Err(malformed()),
         }
     }
 

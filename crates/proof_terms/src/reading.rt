@@ -33,7 +33,6 @@ pub fn read(alloc: Global, source: &[char], tokens: &[Token]) -> Result<Term, Te
         alloc,
         source,
         rest: tokens,
-        letters: String::new(alloc),
     };
     let term = reader.term(deepest())?;
     if reader.rest.is_empty() {

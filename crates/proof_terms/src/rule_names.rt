@@ -1,7 +1,10 @@
 ghost use Rattle.std.specs.Prelude.{◌≡◌};
+ghost use Rattle.std.specs.Str.{bytes_eq};
+ghost use Rattle.nj_kernel.specs.RuleNames.{rule_name};
 ghost use Rattle.proof_terms.specs.RuleNames.{rule_of};
 
 use nj_kernel::Rule;
+use outer_tokens::spells;
 
 /// All rules of natural deduction.
 const RULES: [Rule; 15] = [
@@ -23,8 +26,15 @@ const RULES: [Rule; 15] = [
 ];
 
 /// The rule of this name.
-pub fn rule_named(name: &str) -> Option<Rule>
+pub fn rule_named(name: &[char]) -> Option<Rule>
     ensures { result ≡ rule_of name.now }
 {
-    RULES.iter().copied().find(|rule| rule.name() == name)
+    RULES.iter().copied().find(|rule| is_named(*rule, name))
+}
+
+/// Whether the rule has this name.
+fn is_named(rule: Rule, name: &[char]) -> bool
+    ensures { result ≡ bytes_eq (rule_name rule) name.now }
+{
+    spells(name, rule.name())
 }
