@@ -23,7 +23,7 @@ fn mark(token: &Token) -> char {
 /// The marks of the tokens with their places, and where they stop: `$` at a stray scalar.
 fn marks(alloc: Global, text: &str) -> Result<String, AllocError> {
     let scalars = scalars(alloc, text)?;
-    let mut lexer = Lexer::new(alloc);
+    let lexer = Lexer::new(alloc);
     let mut out = String::new(alloc);
     let mut from = 0;
     for _ in 0..u64::MAX {

@@ -30,7 +30,7 @@ impl State {
     pub fn read(self, alloc: Global, text: &[char]) -> Result<End, FormulaFault>
         ensures { Gives seen_end result (read_from (seen self) (cut_of text.now)) }
     {
-        let mut lexer = Lexer::new(alloc);
+        let lexer = Lexer::new(alloc);
         let mut state = self;
         let mut at = 0;
         'tokens: loop {

@@ -14,22 +14,17 @@ use text_words::{identifier_front, is_blank};
 #[derive(Drop)]
 pub struct Lexer {
     alloc: Global,
-    /// Room for the letters of a name, used again for each.
-    letters: String,
 }
 
 impl Lexer {
-    /// A lexer, which takes memory at the first name.
+    /// A lexer. It takes memory for names alone.
     pub fn new(alloc: Global) -> Lexer {
-        Lexer {
-            alloc,
-            letters: String::new(alloc),
-        }
+        Lexer { alloc }
     }
 
     /// What stands in the text from the place on, which is told in scalars. It looks no further
     /// than the next token.
-    pub fn next(&mut self, text: &[char], from: usize) -> Result<Next, AllocError>
+    pub fn next(&self, text: &[char], from: usize) -> Result<Next, AllocError>
         requires { from ≤ length text.now }
         ensures value { IfOk result (λ next. cut_from from text.now ≡ cut_by text.now next) }
         ensures behind { IfOk result (λ next. IsBehind text.now from next) }
@@ -48,7 +43,7 @@ impl Lexer {
     }
 
     /// The token at the front of the text, and its length in scalars.
-    fn first_token(&mut self, text: &[char]) -> Result<Option<(Token, usize)>, AllocError>
+    fn first_token(&self, text: &[char]) -> Result<Option<(Token, usize)>, AllocError>
         ensures value { IfOk result (λ found. found ≡ first_token text.now) }
         ensures within { IfOk result (λ found.
             IfSome found (λ t. (0 < t.1) × (t.1 ≤ length text.now))) }
@@ -64,15 +59,15 @@ impl Lexer {
 
     /// The name whose scalars these are.
     #[tactic(auto, using(crate::proofs::KnownNames::part_is_ascii))]
-    fn name_of(&mut self, letters: &[char]) -> Result<Name, AllocError>
-        requires { IsTrue (list_all is_identifier_part letters.now) }
-        ensures { IfOk result (λ name. name ≡ letters.now) }
+    fn name_of(&self, scalars: &[char]) -> Result<Name, AllocError>
+        requires { IsTrue (list_all is_identifier_part scalars.now) }
+        ensures { IfOk result (λ name. name ≡ scalars.now) }
     {
-        self.letters.clear();
-        for c in letters {
-            self.letters.push(*c)?;
+        let mut letters = String::with_capacity(self.alloc, scalars.len())?;
+        for c in scalars {
+            letters.push(*c)?;
         }
-        Name::new(self.alloc, self.letters.as_str())
+        Name::from_string(letters)
     }
 }
 

@@ -6,5 +6,5 @@ use Rattle.nj_tokens.proofs.lex.Lexer.name_of.Given as goal
 
 abbrev pub invariant-loop-c : goal.invariant-loop-c
 invariant-loop-c l =
-    (string_bytes l.self.letters ++ drop l.c-index l.letters ≡ l.letters)
-    × IsTrue (list_all is_identifier_part (drop l.c-index l.letters))
+    (string_bytes l.letters ++ drop l.c-index l.scalars ≡ l.scalars)
+    × IsTrue (list_all is_identifier_part (drop l.c-index l.scalars))
