@@ -6,11 +6,14 @@ use Rattle.report_markup.specs.declared.report.Report.{Report}
 use Rattle.report_markup.specs.Words.{kind_word}
 use Rattle.report_markup.specs.PropertyOrder.{property_cmp}
 
--- report order: start rising, stop falling, then the kind's word, the properties as a list, and the
--- text, by bytes (this project's own)
+-- what is said of a range: the kind's word, then the properties as a list, and the text, by bytes
+-- (this project's own)
+abbrev pub said_cmp : Report → Report → Ordering
+said_cmp = then_cmp (on (λ r. kind_word r.kind) (slice_cmp nat_cmp))
+    (then_cmp (on (λ r. r.properties) (slice_cmp property_cmp))
+    (on (λ r. r.text) (slice_cmp nat_cmp)))
+
+-- report order: start rising, stop falling, then what is said (this project's own)
 abbrev pub report_cmp : Report → Report → Ordering
 report_cmp = then_cmp (on (λ r. r.range.start) nat_cmp)
-    (then_cmp (flip_args (on (λ r. r.range.stop) nat_cmp))
-    (then_cmp (on (λ r. kind_word r.kind) (slice_cmp nat_cmp))
-    (then_cmp (on (λ r. r.properties) (slice_cmp property_cmp))
-    (on (λ r. r.text) (slice_cmp nat_cmp)))))
+    (then_cmp (flip_args (on (λ r. r.range.stop) nat_cmp)) said_cmp)

@@ -1,10 +1,11 @@
 //! Texts that reports share.
 ghost use Rattle.std.specs.Prelude.{◌≡◌, [], IfOk, IsTrue, ◌↔◌, string_bytes};
+ghost use Rattle.std.specs.Arc.{arc_str_bytes};
 ghost use Rattle.xml_tree.specs.Normal.{IsPlain};
 
 use std::alloc::{AllocError, Global};
 use std::marker::Model;
-use std::sync::Arc;
+use std::sync::ArcStr;
 
 /// Whether a text has neither a byte 5 nor a byte 6.
 pub fn is_plain(text: &str) -> bool
@@ -18,7 +19,7 @@ pub fn is_plain(text: &str) -> bool
 /// and in memory that copies share. Contracts see it as its bytes.
 #[derive(Debug, Drop)]
 pub struct PlainText {
-    text: Option<Arc<String>>,
+    text: Option<ArcStr>,
 }
 
 impl Model for PlainText {
@@ -49,17 +50,23 @@ impl PlainText {
         if text.is_empty() {
             return Ok(PlainText { text: None });
         }
-        PlainText::from_string(alloc, String::from_str(alloc, text)?)
+        PlainText::from_string(String::from_str(alloc, text)?)
     }
 
     /// The text, in the memory that it has.
-    pub fn from_string(alloc: Global, text: String) -> Result<PlainText, AllocError>
+    pub fn from_string(text: String) -> Result<PlainText, AllocError>
         requires { IsPlain (string_bytes text) }
         ensures { IfOk result (λ plain. plain ≡ string_bytes text) }
     {
-        Ok(PlainText {
-            text: Some(Arc::new(alloc, text)?),
-        })
+        Ok(PlainText::shared(ArcStr::from_string(text)?))
+    }
+
+    /// The text, in the memory that it has, which others may share. It takes no memory.
+    pub fn shared(text: ArcStr) -> PlainText
+        requires { IsPlain (arc_str_bytes text) }
+        ensures { result ≡ arc_str_bytes text }
+    {
+        PlainText { text: Some(text) }
     }
 
     pub fn as_str(&self) -> &str
@@ -83,7 +90,7 @@ impl PlainText {
         ensures { IfOk result (λ shared. shared ≡ self.now) }
     {
         let text = match &self.text {
-            Some(text) => Some(Arc::try_clone(text)?),
+            Some(text) => Some(text.clone()?),
             None => None,
         };
         Ok(PlainText { text })
