@@ -4,9 +4,11 @@
 //! one answer. It must not know of commands or of states.
 #![tactic(auto)]
 
-ghost use Rattle.std.specs.Prelude.{◌≡◌, ◌+◌, ◌++◌, ℕ, IfOk, OnOk};
+ghost use Rattle.std.specs.Prelude.{◌≡◌, ◌+◌, ◌++◌, ℕ, IfOk, IsTrue, OnOk};
 ghost use Rattle.std.specs.List.{sum_by};
+ghost use Rattle.std.specs.List.Sorted.{IsSorted};
 ghost use Rattle.report_markup.specs.declared.report.Report.{Report};
+ghost use Rattle.report_markup.specs.Order.{report_cmp};
 ghost use Rattle.report_markup.specs.Sorting.{in_order};
 
 use report_markup::{Report, one_order};
@@ -25,6 +27,37 @@ fn take_all(all: &mut Vec<Report>, reports: Items<Report>) -> Result<(), AllocEr
     Ok(())
 }
 
+/// Whether the reports stand in report order.
+fn are_sorted(reports: &[Report]) -> bool
+    ensures { IsTrue result → IsSorted report_cmp reports.now }
+{
+    one_order();
+    reports.is_sorted()
+}
+
+/// The reports moved one by one into report order.
+fn sorted_anew(alloc: Global, reports: Items<Report>) -> Result<Items<Report>, AllocError>
+    ensures { IfOk result (λ ordered. ordered ≡ in_order reports) }
+{
+    one_order();
+    let mut all = Vec::with_capacity(alloc, reports.len())?;
+    take_all(&mut all, reports)?;
+    all.sort()?;
+    Ok(Items::from_vec(all))
+}
+
+/// These reports in report order. Those that stand so are handed back as they are.
+pub fn sorted(alloc: Global, reports: Items<Report>) -> Result<Items<Report>, AllocError>
+    ensures { IfOk result (λ ordered. ordered ≡ in_order reports) }
+{
+    one_order();
+    if are_sorted(reports.as_slice()) {
+        Ok(reports)
+    } else {
+        sorted_anew(alloc, reports)
+    }
+}
+
 /// All of these reports in report order.
 pub fn in_order(
     alloc: Global,
@@ -33,10 +66,7 @@ pub fn in_order(
 ) -> Result<Items<Report>, AllocError>
     ensures { IfOk result (λ ordered. ordered ≡ in_order (reports ++ more)) }
 {
-    one_order();
-    let mut all = Vec::new(alloc);
-    take_all(&mut all, reports)?;
-    take_all(&mut all, more)?;
-    all.sort()?;
-    Ok(Items::from_vec(all))
+    let mut all = reports;
+    all.append(more)?;
+    sorted(alloc, all)
 }
