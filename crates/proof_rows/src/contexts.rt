@@ -26,7 +26,11 @@ pub(crate) fn meaning(alloc: Global, lookup: Lookup) -> Result<String, AllocErro
             name,
             formula,
         } => {
-            let theory = theory.unwrap_or("local");
+            let theory = match theory {
+                Some(theory) => theory.as_str(),
+                None => "local",
+            };
+            let name = name.as_str();
             let said = said(formula);
             format!(in alloc; "{theory}.{name}: {said}")
         }

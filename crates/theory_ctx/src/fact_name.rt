@@ -30,8 +30,8 @@ impl FactName {
         ensures { told result ≡ among ((self.now, formula.now) ∷ []) }
     {
         Lookup::Found {
-            theory: Some(self.theory.as_str()),
-            name: self.name.as_str(),
+            theory: Some(&self.theory),
+            name: &self.name,
             formula,
         }
     }

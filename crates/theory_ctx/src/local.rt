@@ -17,7 +17,7 @@ impl Local {
     {
         Lookup::Found {
             theory: None,
-            name: self.name.as_str(),
+            name: &self.name,
             formula: &self.formula,
         }
     }

@@ -1,4 +1,4 @@
-use nj_formula::Formula;
+use nj_formula::{Formula, Name};
 use std::fmt;
 
 /// A fact's theory and name, as `T.n`.
@@ -26,8 +26,8 @@ impl fmt::Display for LongName<'_> {
 pub enum Lookup<'a> {
     /// One fact. A local fact has no theory.
     Found {
-        theory: Option<&'a str>,
-        name: &'a str,
+        theory: Option<&'a Name>,
+        name: &'a Name,
         formula: &'a Formula,
     },
     /// There is no fact of this name.
