@@ -2,29 +2,28 @@
 ghost use Rattle.std.specs.Prelude.{◌≡◌, ◌∷◌, [], Some, IfOk, decimal, string_bytes};
 ghost use Rattle.std.specs.Option.{option_copied};
 ghost use Rattle.report_markup.specs.declared.kind.ReportKind.TheVariants as kinds;
-ghost use Rattle.isar_rules.specs.Reports.{report, theory_is, name_is, whole, announced, error_report};
+ghost use Rattle.isar_rules.specs.Reports.{report, name_is, whole, announced, error_report};
 ghost use Rattle.isar_rules.specs.Cites.{meant_by};
 ghost use Rattle.isar_rules.specs.Reports.{theory_report, import_report, def_report, local_report, formula_report};
 
-use crate::texts::{ascii, plain};
+use crate::texts::{ascii, plain, shared};
 use formula_texts::formula_text;
 use isar_rules::Spot;
 use itoa::Buffer;
-use nj_formula::Formula;
+use nj_formula::{Formula, Name};
 use outer_tokens::{Kind, Token, scalars};
 use pide_base::Range;
 use report_markup::{PlainText, Property, PropertyKey, Report, ReportKind};
 use sqlite_items::Items;
 use std::alloc::{AllocError, Global};
 
-/// A property of this key.
-fn property(alloc: Global, key: PropertyKey, value: String) -> Result<Property, AllocError>
-    ensures { IfOk result (λ property. property
-        ≡ record { key = key; value = string_bytes value }) }
+/// A property of this key, whose value is the name, in the memory that it has.
+fn property(key: PropertyKey, name: &Name) -> Result<Property, AllocError>
+    ensures { IfOk result (λ property. property ≡ record { key = key; value = name.now }) }
 {
     Ok(Property {
         key,
-        value: plain(alloc, value)?,
+        value: shared(name)?,
     })
 }
 
@@ -32,14 +31,27 @@ fn property(alloc: Global, key: PropertyKey, value: String) -> Result<Property, 
 fn name_is(alloc: Global, name: &[char]) -> Result<Property, AllocError>
     ensures { IfOk result (λ property. property ≡ name_is name.now) }
 {
-    property(alloc, PropertyKey::Name, ascii(alloc, name)?)
+    Ok(Property {
+        key: PropertyKey::Name,
+        value: plain(ascii(alloc, name)?)?,
+    })
 }
 
-/// What names a fact's theory.
-fn theory_is(alloc: Global, name: &str) -> Result<Property, AllocError>
-    ensures { IfOk result (λ property. property ≡ theory_is name.now) }
+/// What a name means: a fact of a theory, or one of the proof's own.
+fn meant_by(
+    alloc: Global,
+    theory: Option<&Name>,
+    name: &Name,
+) -> Result<Items<Property>, AllocError>
+    ensures { IfOk result (λ properties. properties
+        ≡ meant_by (option_copied theory.entry) name.now) }
 {
-    property(alloc, PropertyKey::Theory, String::from_str(alloc, name)?)
+    let mut properties = Items::new(alloc);
+    if let Some(theory) = theory {
+        properties.push(property(PropertyKey::Theory, theory)?)?;
+    }
+    properties.push(property(PropertyKey::Name, name)?)?;
+    Ok(properties)
 }
 
 /// A report of this kind that names something.
@@ -106,7 +118,7 @@ pub fn announced(
 pub fn error_report(alloc: Global, source: &[char], text: String) -> Result<Report, AllocError>
     ensures { IfOk result (λ r. r ≡ error_report source.now (string_bytes text)) }
 {
-    let text = plain(alloc, text)?;
+    let text = plain(text)?;
     Ok(saying(alloc, ReportKind::Error, whole(source), text))
 }
 
@@ -115,7 +127,7 @@ pub fn state_report(alloc: Global, source: &[char], text: String) -> Result<Repo
     ensures { IfOk result (λ r. r
         ≡ report kinds.State (whole source.now) [] (string_bytes text)) }
 {
-    let text = plain(alloc, text)?;
+    let text = plain(text)?;
     Ok(saying(alloc, ReportKind::State, whole(source), text))
 }
 
@@ -124,7 +136,7 @@ pub fn suggest_report(alloc: Global, source: &[char], text: String) -> Result<Re
     ensures { IfOk result (λ r. r
         ≡ report kinds.Suggest (whole source.now) [] (string_bytes text)) }
 {
-    let text = plain(alloc, text)?;
+    let text = plain(text)?;
     Ok(saying(alloc, ReportKind::Suggest, whole(source), text))
 }
 
@@ -142,17 +154,20 @@ pub fn import_report(alloc: Global, name: &Spot) -> Result<Report, AllocError>
     naming(alloc, ReportKind::Import, name.range, name.text.as_slice())
 }
 
-/// The name of a theory's new fact.
-pub fn def_report(alloc: Global, theory: &str, name: &Spot) -> Result<Report, AllocError>
-    ensures { IfOk result (λ r. r ≡ def_report theory.now name.now) }
+/// The name of a theory's new fact, which stands at this range.
+pub fn def_report(
+    alloc: Global,
+    theory: &Name,
+    name: &Name,
+    range: Range,
+) -> Result<Report, AllocError>
+    ensures { IfOk result (λ r. r
+        ≡ def_report theory.now (record { text = name.now; range = range })) }
 {
-    let mut properties = Items::new(alloc);
-    properties.push(theory_is(alloc, theory)?)?;
-    properties.push(name_is(alloc, name.text.as_slice())?)?;
     Ok(Report {
-        range: name.range,
+        range,
         kind: ReportKind::Def,
-        properties,
+        properties: meant_by(alloc, Some(theory), name)?,
         text: PlainText::empty(),
     })
 }
@@ -176,26 +191,12 @@ pub fn local_report(alloc: Global, name: &Option<Spot>) -> Result<Items<Report>,
     }
 }
 
-/// What a name means that is cited: a fact of a theory, or one of the proof's own.
-fn meant_by(alloc: Global, theory: Option<&str>, name: &str) -> Result<Items<Property>, AllocError>
-    ensures { IfOk result (λ properties. properties
-        ≡ meant_by (option_copied theory.entry) name.now) }
-{
-    let mut properties = Items::new(alloc);
-    if let Some(theory) = theory {
-        properties.push(theory_is(alloc, theory)?)?;
-    }
-    let name = String::from_str(alloc, name)?;
-    properties.push(property(alloc, PropertyKey::Name, name)?)?;
-    Ok(properties)
-}
-
 /// A name that is cited, by what it means.
 pub fn ref_report(
     alloc: Global,
     range: Range,
-    theory: Option<&str>,
-    name: &str,
+    theory: Option<&Name>,
+    name: &Name,
 ) -> Result<Report, AllocError>
     ensures { IfOk result (λ r. r
         ≡ report kinds.Ref range (meant_by (option_copied theory.entry) name.now) []) }
@@ -219,7 +220,7 @@ pub fn proved_report(alloc: Global, source: &[char]) -> Report
 pub fn loaded_report(alloc: Global, name: &Spot, count: usize) -> Result<Report, AllocError>
     ensures { IfOk result (λ r. r ≡ report kinds.Loaded name.now.range [] (decimal count)) }
 {
-    let text = plain(alloc, counted(alloc, count)?)?;
+    let text = plain(counted(alloc, count)?)?;
     Ok(saying(alloc, ReportKind::Loaded, name.range, text))
 }
 
@@ -235,6 +236,6 @@ fn counted(alloc: Global, number: usize) -> Result<String, AllocError>
 pub fn formula_report(alloc: Global, quoted: &Spot, formula: &Formula) -> Result<Report, AllocError>
     ensures { IfOk result (λ r. r ≡ formula_report quoted.now formula.now) }
 {
-    let text = plain(alloc, formula_text(alloc, formula)?)?;
+    let text = plain(formula_text(alloc, formula)?)?;
     Ok(saying(alloc, ReportKind::Formula, quoted.range, text))
 }

@@ -1,15 +1,27 @@
 //! Texts of reports.
 ghost use Rattle.std.specs.Prelude.{◌≡◌, IfOk, string_bytes};
 
+use nj_formula::Name;
 use report_markup::{PlainText, is_plain};
 use std::alloc::{AllocError, Global};
 
 /// The text, in the memory that it has, as one that reports share. It has to be plain.
-pub fn plain(alloc: Global, text: String) -> Result<PlainText, AllocError>
+pub fn plain(text: String) -> Result<PlainText, AllocError>
     ensures { IfOk result (λ plain. plain ≡ string_bytes text) }
 {
     if is_plain(text.as_str()) {
-        PlainText::from_string(alloc, text)
+        PlainText::from_string(text)
+    } else {
+        Err(AllocError)
+    }
+}
+
+/// The name's text, in the memory that it has. It has to be plain.
+pub(crate) fn shared(name: &Name) -> Result<PlainText, AllocError>
+    ensures { IfOk result (λ text. text ≡ name.now) }
+{
+    if is_plain(name.as_str()) {
+        Ok(PlainText::shared(name.text()?))
     } else {
         Err(AllocError)
     }
@@ -19,7 +31,7 @@ pub fn plain(alloc: Global, text: String) -> Result<PlainText, AllocError>
 pub fn ascii(alloc: Global, scalars: &[char]) -> Result<String, AllocError>
     ensures { IfOk result (λ text. string_bytes text ≡ scalars.now) }
 {
-    let mut text = String::new(alloc);
+    let mut text = String::with_capacity(alloc, scalars.len())?;
     let mut rest = scalars;
     'scalars: while let [scalar, more @ ..] = rest {
         if *scalar as u32 >= 128 {

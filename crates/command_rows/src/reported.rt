@@ -7,7 +7,7 @@ use command_reports::{
 };
 use formula_texts::formula_text;
 use isar_rules::Spot;
-use nj_formula::Formula;
+use nj_formula::{Formula, Name};
 use nj_syntax::parse;
 use outer_tokens::lex_under;
 use pide_base::Range;
@@ -66,7 +66,8 @@ fn names_are_reported(rt: HostRuntime) -> Result<(), Fail> {
     assert!(rt; theory.range == Range { start: 3, stop: 5 });
     let import = import_report(rt.alloc(), &name)?;
     assert_eq!(rt; told(rt.alloc(), &import)?.as_str(), "import A ");
-    let def = def_report(rt.alloc(), "T", &name)?;
+    let (theory, own) = (Name::new(rt.alloc(), "T")?, Name::new(rt.alloc(), "A")?);
+    let def = def_report(rt.alloc(), &theory, &own, name.range)?;
     assert_eq!(rt; told(rt.alloc(), &def)?.as_str(), "def T A ");
     let loaded = loaded_report(rt.alloc(), &name, 12)?;
     assert_eq!(rt; told(rt.alloc(), &loaded)?.as_str(), "loaded 12");
