@@ -10,6 +10,7 @@ use crate::facts::{has_fact, name_of, with_fact};
 use command_reports::{Halt, def_report, formula_in, formula_report, named_refusal};
 use isar_rules::{Place, Spot, Theory};
 use nj_formula::{Formula, Name};
+use pide_base::Range;
 use proof_state::Proof;
 use report_markup::Report;
 use sqlite_items::Items;
@@ -33,19 +34,21 @@ fn stated(
     Ok((own, formula))
 }
 
-/// The reports of a new fact: its name, and its formula.
+/// The reports of a new fact: its name, which stands at this range, and its formula.
 fn stated_reports(
     alloc: Global,
     theory: &Theory,
-    name: &Spot,
+    own: &Name,
+    range: Range,
     quoted: &Spot,
     formula: &Formula,
 ) -> Result<Items<Report>, AllocError>
-    ensures { IfOk result (λ reports. reports ≡ def_report theory.now.name name.now
+    ensures { IfOk result (λ reports. reports
+        ≡ def_report theory.now.name (record { text = own.now; range = range })
         ∷ formula_report quoted.now formula.now ∷ []) }
 {
     let mut reports = Items::new(alloc);
-    reports.push(def_report(alloc, theory.name.as_str(), name)?)?;
+    reports.push(def_report(alloc, &theory.name, own, range)?)?;
     reports.push(formula_report(alloc, quoted, formula)?)?;
     Ok(reports)
 }
@@ -61,7 +64,7 @@ pub fn axiom_made(
     ensures { Tries (axiom_made theory.now name.now quoted.now) result }
 {
     let (own, formula) = stated(alloc, theory, name, quoted)?;
-    let reports = stated_reports(alloc, theory, name, quoted, &formula)?;
+    let reports = stated_reports(alloc, theory, &own, name.range, quoted, &formula)?;
     let more = with_fact(alloc, theory, &own, formula)?;
     Ok(makes(Place::Theory(more), reports))
 }
@@ -76,7 +79,7 @@ pub fn lemma_made(
     ensures { Tries (lemma_made theory.now name.now quoted.now) result }
 {
     let (own, goal) = stated(alloc, theory, name, quoted)?;
-    let reports = stated_reports(alloc, theory, name, quoted, &goal)?;
+    let reports = stated_reports(alloc, theory, &own, name.range, quoted, &goal)?;
     let place = Place::Proof {
         theory: theory.copy(alloc)?,
         name: own,

@@ -11,8 +11,7 @@ use std::alloc::{AllocError, Global};
 pub(crate) fn name_of(alloc: Global, scalars: &[char]) -> Result<Name, AllocError>
     ensures { IfOk result (λ name. name ≡ scalars.now) }
 {
-    let text = ascii(alloc, scalars)?;
-    Name::new(alloc, text.as_str())
+    Name::from_string(ascii(alloc, scalars)?)
 }
 
 /// Whether the theory has a fact of this name.
