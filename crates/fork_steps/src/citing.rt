@@ -1,5 +1,5 @@
 //! What the names that a proof term cites mean.
-ghost use Rattle.std.specs.Prelude.{◌≡◌, ◌++◌, [], IfOk, OnOk, reverse};
+ghost use Rattle.std.specs.Prelude.{◌≡◌, ◌++◌, [], OnOk, reverse};
 ghost use Rattle.std.specs.List.{list_any};
 ghost use Rattle.doc_nodes.specs.Names.{equal};
 ghost use Rattle.proof_terms.specs.declared.term.Term.{fold-Term};
@@ -42,11 +42,11 @@ fn add_cited(
     ensures { OnOk result (reports.new
         ≡ reports.old ++ cited scope.now cite.now (reverse own.now)) }
 {
-    let name = cite.name.as_str();
-    if is_own(own, &cite.name) {
+    let name = &cite.name;
+    if is_own(own, name) {
         return reports.push(ref_report(alloc, cite.range, None, name)?);
     }
-    match scope.lookup(name) {
+    match scope.lookup(name.as_str()) {
         Lookup::Found { theory, name, .. } => {
             reports.push(ref_report(alloc, cite.range, theory, name)?)
         }
@@ -115,12 +115,15 @@ fn add_refs_under(
     Ok(())
 }
 
-/// The reports of all names that a term cites.
-pub(crate) fn refs(alloc: Global, scope: &Scope, term: &Term) -> Result<Items<Report>, AllocError>
-    ensures { IfOk result (λ reports. reports ≡ refs scope.now term.now) }
+/// Adds the reports of all names that a term cites.
+pub(crate) fn add_cites(
+    alloc: Global,
+    scope: &Scope,
+    term: &Term,
+    reports: &mut Items<Report>,
+) -> Result<(), AllocError>
+    ensures { OnOk result (reports.new ≡ reports.old ++ refs scope.now term.now) }
 {
     let mut own = Items::new(alloc);
-    let mut reports = Items::new(alloc);
-    add_refs(alloc, scope, &mut own, term, &mut reports)?;
-    Ok(reports)
+    add_refs(alloc, scope, &mut own, term, reports)
 }

@@ -11,7 +11,7 @@ ghost use Rattle.isar_rules.specs.Reports.{report, whole, error_report};
 ghost use Rattle.isar_rules.specs.Cites.{refs};
 ghost use Rattle.isar_rules.specs.Forks.{verdict, judged, forked_at};
 
-use crate::citing::refs;
+use crate::citing::add_cites;
 use command_reports::{error_report, proved_report};
 use isar_rules::Place;
 use language::Answer;
@@ -21,7 +21,7 @@ use pide_base::Stop;
 use proof_checks::{Checked, check};
 use proof_terms::{Term, TermError, TermFault, one_answer, read};
 use report_markup::Report;
-use sorted_reports::in_order;
+use sorted_reports::sorted;
 use sqlite_items::Items;
 use std::alloc::{AllocError, Global};
 use theory_ctx::Scope;
@@ -47,10 +47,10 @@ fn accepted(
     ensures { IfOk result (λ reports. reports ≡ in_order
         (report kinds.Proved (whole source.now) [] [] ∷ refs scope.now term.now)) }
 {
-    let mut proved = Items::new(alloc);
-    proved.push(proved_report(alloc, source))?;
-    let cites = refs(alloc, scope, term)?;
-    in_order(alloc, proved, cites)
+    let mut reports = Items::new(alloc);
+    reports.push(proved_report(alloc, source))?;
+    add_cites(alloc, scope, term, &mut reports)?;
+    sorted(alloc, reports)
 }
 
 /// What is reported of a fault.
