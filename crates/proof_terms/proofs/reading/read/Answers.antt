@@ -17,8 +17,8 @@ returns-then-is_empty c =
     subst (λ n. IsTerm n (marks c.args.source.now c.args.tokens.now) c.in_ok-term.term) c.deepest.ensures
     (whole_answers c.deepest.result (marks c.args.source.now c.args.tokens.now) c.in_ok-term.term c.term.new.self.source.now c.term.new.self.rest.now c.in_ok-term.ensures none)
 
-pub returns : goal.returns
-returns c =
+pub returns-else-is_empty : goal.returns-else-is_empty
+returns-else-is_empty c =
     let some : length c.term.new.self.rest.now ≡ 0 → ⊥ = λ e. grind (arith, common_steps) in
     subst (λ e. Told (marks c.args.source.now c.args.tokens.now) (Err e)) (sym c.malformed.ensures)
     (subst (λ n. AnswersTo n (marks c.args.source.now c.args.tokens.now) (Err Malformed)) c.deepest.ensures
