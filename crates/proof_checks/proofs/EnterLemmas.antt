@@ -10,6 +10,7 @@ use Rattle.proof_terms.specs.declared.term.Term.TheOpen.{Term-F}
 use Rattle.proof_checks.specs.declared.halt.Halt.{Halt}
 use Rattle.proof_checks.specs.declared.halt.Halt.TheVariants.{Wrong, Stopped, NoMemory}
 use Rattle.proof_checks.specs.declared.step.Step.{Step}
+use Rattle.proof_checks.specs.declared.step.Step.TheVariants.{Cited}
 use Rattle.proof_checks.specs.Answers.{Plans, Enters, Asked}
 use Rattle.proof_checks.specs.Checks.{step_within}
 use Rattle.proof_checks.specs.Fits.{Fits, IsWithin}
@@ -20,14 +21,14 @@ use Rattle.proof_checks.proofs.ProvingLemmas.{within_of}
 out-Fact : (t : Term) (c : Cite) → t ≡ Fact c → out-Term t ≡ Term-F.Fact c
 out-Fact t c is = ap out-Term (is ∙ sym (rolls-Fact c)) ∙ out-roll-Term (Term-F.Fact c)
 
-fact_layer : (left : ℕ) (c : Cite) (goal : Formula) → step_within left (Term-F.Fact c) goal ≡ step_of (Term-F.Fact c) goal
+cited_layer : (left : ℕ) (c : Cite) (goal : Formula) → step_within left (Term-F.Fact c) goal ≡ Ok (Cited c)
 unfolding step_within step_of
-fact_layer zero c goal = refl
-fact_layer (suc n) c goal = refl
+cited_layer zero c goal = refl
+cited_layer (suc n) c goal = refl
 
 -- a name is cited however many rules are left
-fact_within : (left : ℕ) (t : Term) (goal : Formula) (c : Cite) → t ≡ Fact c → step_within left (out-Term t) goal ≡ step_of (out-Term t) goal
-fact_within left t goal c is = subst (λ l. step_within left l goal ≡ step_of l goal) (sym (out-Fact t c is)) (fact_layer left c goal)
+pub cited_within : (left : ℕ) (t : Term) (goal : Formula) (c : Cite) → t ≡ Fact c → step_within left (out-Term t) goal ≡ Ok (Cited c)
+cited_within left t goal c is = subst (λ l. step_within left l goal ≡ Ok (Cited c)) (sym (out-Fact t c is)) (cited_layer left c goal)
 
 rule_within : (left : ℕ) (t : Term) (goal : Formula) → 0 < left → step_within left (out-Term t) goal ≡ step_of (out-Term t) goal
 unfolding step_within
@@ -64,9 +65,5 @@ pub plans_fit : (l : Term-F Term) (goal : Formula) (result : Result Step Halt) �
 plans_fit l goal (Ok step) h = step_fits l goal step h
 plans_fit l goal (Err e) h = tt
 
-module _ (left : ℕ) (t : Term) (goal : Formula) (result : Result Step Halt) (told : Plans result (step_of (out-Term t) goal)) where
-  pub fact_enters : (c : Cite) → t ≡ Fact c → Enters result (step_within left (out-Term t) goal)
-  fact_enters c is = plans_enters result (step_within left (out-Term t) goal) (subst (λ p. Plans result p) (sym (fact_within left t goal c is)) told)
-
-  pub rule_enters : 0 < left → Enters result (step_within left (out-Term t) goal)
-  rule_enters some = plans_enters result (step_within left (out-Term t) goal) (subst (λ p. Plans result p) (sym (rule_within left t goal some)) told)
+pub rule_enters : (left : ℕ) (t : Term) (goal : Formula) (result : Result Step Halt) → Plans result (step_of (out-Term t) goal) → 0 < left → Enters result (step_within left (out-Term t) goal)
+rule_enters left t goal result told some = plans_enters result (step_within left (out-Term t) goal) (subst (λ p. Plans result p) (sym (rule_within left t goal some)) told)

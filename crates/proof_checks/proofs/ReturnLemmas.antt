@@ -1,5 +1,5 @@
 -- What a term comes to, by what is told of its step and of its parts.
-use Rattle.std.proofs.Common.{◌≡◌, ◌-◌, ℕ, List, Result, Ok, Err, sym, subst}
+use Rattle.std.proofs.Common.{◌≡◌, ◌-◌, ℕ, List, Result, Ok, Err, refl, sym, subst}
 use Rattle.nj_formula.specs.declared.formula.Formula.{Formula}
 use Rattle.nj_formula.specs.Meaning.{meaning}
 use Rattle.nj_formula.specs.Statement.{Statement}
@@ -9,6 +9,7 @@ use Rattle.nj_kernel.specs.Theorem.{assumed}
 use Rattle.proof_terms.specs.declared.fault.TermFault.{TermFault}
 use Rattle.proof_terms.specs.declared.term.Cite.{Cite}
 use Rattle.proof_terms.specs.declared.term.Term.{Term, out-Term}
+use Rattle.proof_terms.specs.declared.term.Term.TheVariants.{Fact}
 use Rattle.theory_ctx.specs.Locals.{Scoped, looked_in}
 use Rattle.proof_checks.specs.declared.halt.Halt.{Halt}
 use Rattle.proof_checks.specs.declared.halt.Halt.TheVariants.{Wrong, Stopped, NoMemory}
@@ -20,14 +21,14 @@ use Rattle.proof_checks.specs.declared.step.Binary.{Binary}
 use Rattle.proof_checks.specs.Answers.{Gives, Enters}
 use Rattle.proof_checks.specs.Checks.{Found, and_then, discharged, cited, by_one, by_two, by_three, of_step, step_within, checked_within}
 use Rattle.proof_checks.specs.Scopes.{inside, remaining}
+use Rattle.proof_checks.proofs.EnterLemmas.{cited_within}
 use Rattle.proof_checks.proofs.ProvingLemmas.{checked_is, checked_err, within_of, entered_halt, two_first, two_next, three_first, three_second, three_next}
 
 -- a step's answer is the term's
-pub stepped : (left : ℕ) (t : Term) (goal : Formula) (scope : Scoped) (step got : Step) (result : Result Thm Halt) → step_within left (out-Term t) goal ≡ Ok step
-    → got ≡ step → Gives result (of_step (checked_within (left - 1)) scope goal got) (meaning goal) → Gives result (checked_within left t goal scope) (meaning goal)
-stepped left t goal scope step got result e same told =
-    subst (λ w. Gives result w (meaning goal)) (sym (checked_is left t goal scope step e (within_of left (out-Term t) goal step e)))
-    (subst (λ s. Gives result (of_step (checked_within (left - 1)) scope goal s) (meaning goal)) same told)
+pub stepped : (left : ℕ) (t : Term) (goal : Formula) (scope : Scoped) (step : Step) (result : Result Thm Halt) → step_within left (out-Term t) goal ≡ Ok step
+    → Gives result (of_step (checked_within (left - 1)) scope goal step) (meaning goal) → Gives result (checked_within left t goal scope) (meaning goal)
+stepped left t goal scope step result e told =
+    subst (λ w. Gives result w (meaning goal)) (sym (checked_is left t goal scope step e (within_of left (out-Term t) goal step e))) told
 
 -- an answer to the same term in the same scope is handed on
 pub gives_as : (left : ℕ) (term other : Term) (goal : Formula) (scope here : Scoped) (given result : Result Thm Halt) → result ≡ given → term ≡ other → scope ≡ here
@@ -118,3 +119,10 @@ module _ (sub : Term → Formula → Scoped → Found) (goal : Formula) (scope :
         let last : Scoped → Found = λ k. and_then (discharged r.own (Below k r)) (by_three (remaining p.own a) (remaining q.own b)) in
         subst (λ w. Gives result w (meaning goal)) (sym (three_next sub scope goal p q r a b first.is middle.is))
         (subst (λ k. Gives result (last k) (meaning goal)) still (joined a b first.lists middle.lists))
+
+-- a cited fact's answer is the term's
+pub fact_told : (left : ℕ) (t : Term) (goal : Formula) (scope : Scoped) (c : Cite) (result : Result Thm Halt) → t ≡ Fact c
+    → Gives result (cited c.name goal (looked_in scope c.name)) (meaning goal) → Gives result (checked_within left t goal scope) (meaning goal)
+fact_told left t goal scope c result is told =
+    stepped left t goal scope (Cited c) result (cited_within left t goal c is)
+    (cited_taken (checked_within (left - 1)) goal scope (Cited c) c result refl told)

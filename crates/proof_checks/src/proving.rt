@@ -1,13 +1,14 @@
 //! A term is taken apart, its parts are proved, and their theorems are joined.
 
-ghost use Rattle.std.specs.Prelude.{◌≡◌, ◌-◌, IfOk, OnOk, drop};
+ghost use Rattle.std.specs.Prelude.{◌≡◌, ◌≢◌, ◌-◌, IfOk, OnOk, drop};
 ghost use Rattle.nj_formula.specs.Meaning.{meaning};
 ghost use Rattle.theory_ctx.specs.Locals.{seen};
+ghost use Rattle.proof_terms.specs.declared.term.Cite.{Cite};
 ghost use Rattle.proof_terms.specs.declared.term.Term.{out-Term};
-ghost use Rattle.proof_checks.specs.Answers.{Gives, Enters, Plans, Asked};
+ghost use Rattle.proof_terms.specs.declared.term.Term.TheVariants.{Fact};
+ghost use Rattle.proof_checks.specs.Answers.{Gives, Enters, Asked};
 ghost use Rattle.proof_checks.specs.Checks.{checked_within, step_within, of_step};
 ghost use Rattle.proof_checks.specs.Fits.{FitsTwo, FitsThree, Fits, IsWithin};
-ghost use Rattle.proof_checks.specs.Rows.{Planned};
 ghost use Rattle.proof_checks.specs.Scopes.{inside};
 ghost use Rattle.proof_checks.specs.declared.step.Step.TheVariants.{Two, Three};
 
@@ -16,43 +17,35 @@ use crate::halt::Halt;
 use crate::joins::{join_one, join_three, join_two};
 use crate::step::{Binary, Part, Step};
 use crate::steps::step_of;
-use nj_formula::{Formula, Shared};
+use nj_formula::Formula;
 use nj_kernel::Thm;
 use pide_base::Stop;
 use proof_terms::{Term, TermFault};
 use std::alloc::Global;
 use theory_ctx::InnerScope;
 
-fn shared(alloc: Global, planned: Result<Step, Halt>) -> Result<Shared<Step>, Halt>
-    ensures { (p : Planned) → Plans planned p → Plans result p }
-{
-    Ok(Shared::new(alloc, planned?)?)
-}
-
-/// What the term comes to. Before a rule it is asked whether to stop, and so many rules may be
-/// nested from here on.
+/// What a rule comes to. Before it is asked whether to stop, and so many rules may be nested from
+/// here on.
 fn entered<P: Stop>(
     alloc: Global,
     term: &Term,
     goal: &Formula,
     stop: &mut P,
     left: usize,
-) -> Result<Shared<Step>, Halt>
+) -> Result<Step, Halt>
+    requires { (c : Cite) → term.now ≢ Fact c }
     ensures plans { Enters result (step_within left (out-Term term.now) goal.now) }
     ensures asked { Asked result (P.yeses stop.old) (P.yeses stop.new) }
     ensures deep { IfOk result (λ step. IsWithin step left) }
     ensures fits { IfOk result (λ step. Fits step (meaning goal.now)) }
 {
-    if let Term::Fact(_) = term {
-        return shared(alloc, step_of(alloc, term, goal));
-    }
     if stop.asked() {
         return Err(Halt::Stopped);
     }
     if left == 0 {
         return Err(Halt::Wrong(TermFault::ProofTooDeep));
     }
-    shared(alloc, step_of(alloc, term, goal))
+    step_of(alloc, term, goal)
 }
 
 /// Hands a theorem on, and takes back what was pushed last.
@@ -80,8 +73,11 @@ pub(crate) fn proved<P: Stop>(
     ensures scope { OnOk result (scope.new ≡ scope.old) }
     ensures asked { Asked result (P.yeses stop.old) (P.yeses stop.new) }
 {
+    if let Term::Fact(cite) = term {
+        return cited(alloc, cite, goal, scope);
+    }
     let step = entered(alloc, term, goal, stop, left)?;
-    taken(alloc, step.get(), goal, scope, stop, left)
+    taken(alloc, &step, goal, scope, stop, left)
 }
 
 /// The theorem of what a term came to.

@@ -2,14 +2,18 @@ use Rattle.std.proofs.Common.{◌-◌, rules, arith, refl, sym, subst}
 use Rattle.nj_formula.specs.Meaning.{meaning}
 use Rattle.proof_checks.specs.declared.step.Step.TheVariants.{Two, Three}
 use Rattle.proof_checks.specs.Checks.{checked_within}
-use Rattle.proof_checks.specs.Fits.{Fits, IsWithin}
 use Rattle.theory_ctx.specs.Locals.{seen}
 use Rattle.proof_checks.proofs.JoinLemmas.{runs_asks}
 use Rattle.proof_checks.proofs.OwnLemmas.{none_inside, some_inside, handed_back, handed_asks}
-use Rattle.proof_checks.proofs.ReturnLemmas.{stepped, gives_as, enter_halts, cited_taken, one_taken, same_taken, two_halts, three_halts, three_second_halts}
+use Rattle.proof_checks.proofs.ReturnLemmas.{stepped, fact_told, gives_as, enter_halts, cited_taken, one_taken, same_taken, two_halts, three_halts, three_second_halts}
 use Rattle.proof_checks.proofs.TakenLemmas.{one_within, two_within, three_within, one_fits, two_fits, three_fits, given_shows, taken_shows, asked_then, taken_seen}
 use Rattle.proof_checks.proofs.CallLemmas.{halted, over, two_end, three_end}
 use Rattle.proof_checks.proofs.proving.+proved.Goals as goal
+
+pub proved-returns-in-Fact : goal.proved-returns-in-Fact
+proved-returns-in-Fact g t c =
+    let gives = fact_told c.args.left c.args.term.now c.args.goal.now (seen c.args.scope.now) c.in-Fact.cite c.cited.result c.in-Fact.is c.cited.ensures.gives in
+    record { gives = gives; scope = search rules; asked = runs_asks c.cited.result _ c.cited.ensures.runs }
 
 pub proved-returns-in_err-step : goal.proved-returns-in_err-step
 proved-returns-in_err-step g t c =
@@ -19,14 +23,11 @@ proved-returns-in_err-step g t c =
     record { gives = gives; scope = rest.0; asked = rest.1 }
 
 pub proved-taken-requires : goal.proved-taken-requires
-proved-taken-requires g t c κs within =
-    let deep = subst (λ s. IsWithin s c.args.left) (sym c.get.ensures) c.in_ok-step.ensures.deep in
-    let fits = subst (λ s. Fits s (meaning c.args.goal.now)) (sym c.get.ensures) c.in_ok-step.ensures.fits in
-    search rules
+proved-taken-requires g t c κs within = search (rules, c.in_ok-step.ensures.deep, c.in_ok-step.ensures.fits)
 
 pub proved-returns : goal.proved-returns
 proved-returns g t c =
-    let gives = stepped c.args.left c.args.term.now c.args.goal.now (seen c.args.scope.now) c.in_ok-step.step _ c.taken.result c.in_ok-step.ensures.plans c.get.ensures c.taken.ensures.gives in
+    let gives = stepped c.args.left c.args.term.now c.args.goal.now (seen c.args.scope.now) c.in_ok-step.step c.taken.result c.in_ok-step.ensures.plans c.taken.ensures.gives in
     let asked = asked_then c.entered.result c.in_ok-step.step c.taken.result _ _ _ c.in_ok-step.was c.entered.ensures.asked c.taken.ensures.asked in
     record { gives = gives; scope = c.taken.ensures.scope; asked = asked }
 
