@@ -23,6 +23,9 @@ pub(crate) fn meant<'a>(aliases: &'a Aliases, name: &'a [char]) -> &'a [char]
 fn is(word: &[char], name: &[char]) -> bool
     ensures { result ≡ equal name.now word.now }
 {
+    if name.len() != word.len() {
+        return false;
+    }
     match name.cmp(word) {
         Ordering::Equal => true,
         Ordering::Less | Ordering::Greater => false,
