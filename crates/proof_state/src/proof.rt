@@ -155,6 +155,15 @@ impl Proof {
         Ok(self.levels.is_closed())
     }
 
+    /// The proof as `by` leaves it, beside this one.
+    pub fn closed(&self, alloc: Global) -> Result<Proof, ProofFault>
+        ensures { Gives (step by self.now) result }
+    {
+        Ok(Proof {
+            levels: self.levels.after_by(alloc)?,
+        })
+    }
+
     /// The open goal in mode prove, else None.
     pub fn goal(&self) -> Option<&Formula>
         ensures { option_copied result ≡ open_goal self.now }

@@ -45,9 +45,10 @@ pub(crate) fn opened(alloc: Global, proof: &Proof, dash: bool) -> Result<Proof, 
 pub(crate) fn closed(alloc: Global, proof: &Proof) -> Result<Proof, Halt>
     ensures { Tries (levels_or (step by proof.now)) result }
 {
-    let mut after = proof.copy(alloc)?;
-    let answer = after.by(alloc);
-    gone_on(alloc, answer, after)
+    match proof.closed(alloc) {
+        Ok(after) => Ok(after),
+        Err(fault) => Err(refused(alloc, fault)),
+    }
 }
 
 /// `fix`. The name has to be in ASCII.

@@ -1,8 +1,12 @@
-use Rattle.proof_state.specs.Answers.{left}
+use Rattle.std.proofs.Common.{ap, subst}
+use Rattle.proof_state.specs.Answers.{Gives}
 use Rattle.proof_state.specs.Steps.{step, by}
-use Rattle.proof_steps.proofs.MovedLemmas.{of_copy}
+use Rattle.isar_rules.specs.Proofs.{levels_or}
 use Rattle.proof_steps.proofs.stepping.closed.Goals as goal
 
-pub returns : goal.returns
-returns c = c.gone_on.ensures (step by c.args.proof.now)
-    (of_copy by c.in_ok-after.after c.args.proof.now (left c.by-answer.result c.by-answer.new.self) c.in_ok-after.ensures c.by-answer.ensures.step)
+pub returns-in-Ok : goal.returns-in-Ok
+returns-in-Ok c = ap levels_or (subst (λ a. Gives (step by c.args.proof.now) a) c.in-Ok.is c.closed.ensures)
+
+pub returns-in-Err : goal.returns-in-Err
+returns-in-Err c =
+    c.refused.ensures (step by c.args.proof.now) (subst (λ a. Gives (step by c.args.proof.now) a) c.in-Err.is c.closed.ensures)
