@@ -99,18 +99,30 @@ fn beginning(alloc: Global, line: &str) -> Result<State, Fail> {
     begun(alloc, &imports, bad)
 }
 
+/// Adds the line of a beginning, and gives the node's first state.
+fn tell_beginning(alloc: Global, text: &mut String, line: &str) -> Result<State, Fail> {
+    text.push_str(line)?;
+    text.push_str("\n")?;
+    beginning(alloc, line)
+}
+
+/// Adds a line of a transcript, and gives the state in which the next one stands.
+fn tell_any(alloc: Global, text: &mut String, line: &str, before: State) -> Result<State, Fail> {
+    if line.starts_with('*') {
+        return tell_beginning(alloc, text, line);
+    }
+    match line.split_once('|') {
+        Some((command, _)) => tell_line(alloc, text, command, before),
+        None => Ok(before),
+    }
+}
+
 /// The transcript, with what is told of its commands.
 fn told_again(alloc: Global, transcript: &str) -> Result<String, Fail> {
     let mut text = String::new(alloc);
     let mut state = started(alloc)?;
     for line in transcript.split('\n') {
-        if line.starts_with('*') {
-            text.push_str(line)?;
-            text.push_str("\n")?;
-            state = beginning(alloc, line)?;
-        } else if let Some((command, _)) = line.split_once('|') {
-            state = tell_line(alloc, &mut text, command, state)?;
-        }
+        state = tell_any(alloc, &mut text, line, state)?;
     }
     Ok(text)
 }
