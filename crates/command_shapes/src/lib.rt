@@ -12,4 +12,4 @@ mod shaping;
 mod verbs;
 mod word;
 
-pub use shaping::shape_of;
+pub use shaping::{begins_by, shape_of};

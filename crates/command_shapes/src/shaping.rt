@@ -1,9 +1,11 @@
 //! The shape of a command.
-ghost use Rattle.std.specs.Prelude.{◌≡◌, ◌<◌, IfOk, length};
+ghost use Rattle.std.specs.Prelude.{◌≡◌, ◌∷◌, ◌<◌, IsTrue, IfOk, List, Some, length};
+ghost use Rattle.isar_rules.specs.declared.shape.Shape.TheVariants as shape;
 ghost use Rattle.isar_rules.specs.Shapes.{load_shape, shape_by, shape_of};
 ghost use Rattle.doc_blobs.specs.Needs.{needs};
 ghost use Rattle.outer_tokens.specs.Kinds.{is_command};
-ghost use Rattle.command_shapes.specs.Commands.{verb_in};
+ghost use Rattle.outer_tokens.specs.declared.token.Token.{Token};
+ghost use Rattle.command_shapes.specs.Commands.{verb_in, begins_by};
 
 use crate::forms::worded;
 use crate::header::header_shape;
@@ -83,6 +85,15 @@ fn verb_in(source: &[char], first: Token, aliases: &Aliases) -> Option<Verb>
     } else {
         None
     }
+}
+
+/// Whether the command that the token begins is `by`, whose shape is the same whatever follows.
+pub fn begins_by(source: &[char], first: Token, aliases: &Aliases) -> bool
+    ensures told { result ≡ begins_by aliases.now source.now first }
+    ensures alone { IsTrue result → (more : List Token) →
+        shape_of aliases.now source.now (first ∷ more) ≡ Some shape.By }
+{
+    matches!(verb_in(source, first, aliases), Some(Verb::By))
 }
 
 /// The shape of the command of this source, by its proper tokens under the aliases in force, with

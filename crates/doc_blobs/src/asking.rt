@@ -5,7 +5,7 @@ ghost use Rattle.doc_nodes.specs.Names.{equal};
 ghost use Rattle.doc_blobs.specs.Needs.{is_load, asked_by, named_by, just_two, needs};
 
 use doc_nodes::{Aliases, BlobName};
-use outer_tokens::{Kind, Token, content, lex_under, one_list, proper_ones, scalars};
+use outer_tokens::{Kind, Token, content, proper_under, scalars};
 use std::alloc::{AllocError, Global};
 use std::cmp::Ordering;
 use text_words::text_of;
@@ -19,9 +19,7 @@ pub fn needs(
 ) -> Result<Option<BlobName>, AllocError>
     ensures { IfOk result (λ name. name ≡ needs source.now aliases.now) }
 {
-    one_list();
-    let tokens = lex_under(alloc, source, aliases.names())?;
-    let proper = proper_ones(tokens);
+    let proper = proper_under(alloc, source, aliases.names())?;
     of_tokens(alloc, source, aliases, &proper)
 }
 

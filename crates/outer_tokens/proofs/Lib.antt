@@ -20,6 +20,7 @@ pub mod KnownProper
 pub mod KnownHeadings
 mod TokenLaws
 pub mod KnownLexing
+mod ProperLemmas
 pub mod KnownWords
 mod CrossLemmas
 mod OpeningLemmas

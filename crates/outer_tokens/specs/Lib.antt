@@ -9,3 +9,4 @@ pub mod Headings
 pub mod Stages
 pub mod Lexing
 pub mod Contents
+pub mod ProperTokens

@@ -14,7 +14,7 @@ use sqlite_items::Items;
 use std::alloc::{AllocError, Global};
 
 /// Room for the tokens of a short command: with less, most commands would move theirs twice.
-const FEW: usize = 16;
+pub(crate) const FEW: usize = 16;
 
 /// The token of the text that begins at the place, where these names are commands beside those of
 /// the language. `None` comes exactly at the text's end.

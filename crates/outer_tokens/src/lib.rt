@@ -23,7 +23,7 @@ pub use contents::content;
 pub use kind::{Kind, is_proper};
 pub use law::{one_list, symbol_law};
 pub use lexer::{lex, lex_under, next_token};
-pub use proper::proper_ones;
+pub use proper::{next_proper, proper_after, proper_under};
 pub use renaming::renamed;
 pub use row::Row;
 pub use stage::{Stage, after_token, given};

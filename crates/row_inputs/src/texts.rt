@@ -1,11 +1,10 @@
 //! Texts, and the tokens of texts.
-use outer_tokens::{Token, lex_under, proper_ones};
+use outer_tokens::{Token, proper_under};
 use std::alloc::{AllocError, Global};
 
 /// The proper tokens of a text, no alias being in force.
 pub fn proper_tokens(alloc: Global, source: &[char]) -> Result<Vec<Token>, AllocError> {
-    let tokens = lex_under(alloc, source, &[])?;
-    Ok(proper_ones(tokens))
+    proper_under(alloc, source, &[])
 }
 
 /// A text with so many of these openings before the inner text, and as many `)` behind it.

@@ -1,3 +1,4 @@
 mod CrossingParts
 mod CrossingProofs
 pub mod Crossing
+mod StepLemmas

@@ -6,12 +6,12 @@ ghost use Rattle.isar_rules.specs.Steps.{made_by, step, step_on, tried};
 
 use crate::acting::tried;
 use crate::made::made_by;
-use crate::tokens::{aliases_at, source_tokens};
-use command_shapes::shape_of;
+use crate::tokens::aliases_at;
+use command_shapes::{begins_by, shape_of};
 use doc_nodes::Aliases;
 use isar_rules::{Shape, State};
 use language::Made;
-use outer_tokens::Token;
+use outer_tokens::{Token, next_proper, proper_after};
 use std::alloc::{AllocError, Global};
 
 /// What a command of these tokens and this shape makes.
@@ -46,7 +46,7 @@ fn step_on(
     step_of(alloc, source, blob, before, tokens, shape)
 }
 
-/// What a command makes under these aliases.
+/// What a command makes under these aliases. Behind `by` nothing is read: it is the check's.
 fn step_under(
     alloc: Global,
     source: &[char],
@@ -57,7 +57,14 @@ fn step_under(
     ensures { IfOk result (λ made. made ≡ step_on source.now (option_copied blob.entry) before.now
         aliases.now (source_tokens aliases.now source.now)) }
 {
-    let tokens = source_tokens(alloc, source, aliases)?;
+    let names = aliases.names();
+    let Some(first) = next_proper(source, names, 0) else {
+        return step_on(alloc, source, blob, before, aliases, &[]);
+    };
+    if begins_by(source, first, aliases) {
+        return step_of(alloc, source, blob, before, &[first], Some(Shape::By));
+    }
+    let tokens = proper_after(alloc, source, names, first)?;
     step_on(alloc, source, blob, before, aliases, &tokens)
 }
 

@@ -5,7 +5,7 @@ ghost use Rattle.isar_rules.specs.Steps.{aliases_at};
 
 use doc_nodes::Aliases;
 use isar_rules::Place;
-use outer_tokens::{Token, lex_under, one_list, proper_ones};
+use outer_tokens::{Token, proper_under};
 use std::alloc::{AllocError, Global};
 
 /// The aliases in force at the place: none at the beginning of a node.
@@ -26,7 +26,5 @@ pub(crate) fn source_tokens(
 ) -> Result<Vec<Token>, AllocError>
     ensures { IfOk result (λ tokens. tokens.items ≡ source_tokens aliases.now source.now) }
 {
-    one_list();
-    let tokens = lex_under(alloc, source, aliases.names())?;
-    Ok(proper_ones(tokens))
+    proper_under(alloc, source, aliases.names())
 }

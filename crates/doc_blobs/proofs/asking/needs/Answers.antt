@@ -12,9 +12,8 @@ returns c =
     let source = c.args.source.now in
     let aliases = c.args.aliases.now in
     let same : c.deref.result.now ≡ source_tokens aliases source =
-    c.deref.ensures.value ∙ c.proper_ones-proper.ensures
-    ∙ ap proper ((c.one_list.ensures.under _ _ _).0 c.in_ok-tokens.ensures
-    ∙ ap (λ names. tokens_under (λ _. is_in_force names) source) c.names.ensures)
+    c.deref.ensures.value ∙ c.in_ok-proper.ensures
+    ∙ ap (λ names. proper (tokens_under (λ _. is_in_force names) source)) c.names.ensures
     in
     subst (λ (tokens : List Token). IfOk c.of_tokens.result
     (λ found. found ≡ option_and_then (asked_by source aliases) (just_two tokens))) same c.of_tokens.ensures

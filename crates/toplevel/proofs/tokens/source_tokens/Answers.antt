@@ -1,5 +1,5 @@
--- Each source has one list of tokens, so the proper ones are those of the rules.
-use Rattle.std.proofs.Common.{ap, ◌∙◌}
+-- The names in force are those of the aliases.
+use Rattle.std.proofs.Common.{◌≡◌, IfOk, List, ℕ, subst}
 use Rattle.outer_tokens.specs.Headings.{proper}
 use Rattle.outer_tokens.specs.Lexing.{tokens_under}
 use Rattle.outer_tokens.specs.Words.{is_in_force}
@@ -7,6 +7,6 @@ use Rattle.toplevel.proofs.tokens.source_tokens.Goals as goal
 
 pub returns : goal.returns
 returns c =
-    c.proper_ones.ensures
-    ∙ ap proper ((c.one_list.ensures.under _ _ _).0 c.in_ok-tokens.ensures
-    ∙ ap (λ names. tokens_under (λ _. is_in_force names) c.args.source.now) c.names.ensures)
+    subst (λ (names : List (List ℕ)). IfOk c.proper_under.result
+    (λ v. v.items ≡ proper (tokens_under (λ _. is_in_force names) c.args.source.now)))
+    c.names.ensures c.proper_under.ensures
