@@ -1,8 +1,8 @@
 //! What rows ask of tokens, and what is told of them (`outer_tokens`).
 use crate::values::{names_of, scalars_of, text_of};
 use outer_tokens::{
-    Kind, Stage, Token, after_token, content, given, is_proper, lex, lex_under, next_token,
-    renamed, scalars,
+    Kind, Stage, Token, after_token, content, given, is_proper, lex, lex_under, next_proper,
+    next_token, proper_after, renamed, scalars,
 };
 use pide_base::Range;
 use sqlite_items::Items;
@@ -23,6 +23,8 @@ pub(crate) enum Call {
     Renamed(&'static [&'static str], &'static [&'static str], &'static str),
     /// The token at a place.
     Next(&'static str, usize),
+    /// The proper tokens from a place on.
+    ProperFrom(&'static str, usize),
     /// How far the header is read behind each token.
     Stages(&'static str),
     /// What stands from here to there.
@@ -35,7 +37,8 @@ pub(crate) enum Call {
 }
 
 use Call::{
-    Between, Commands, Content, Cut, Given, Next, Piece, PieceCommands, Proper, Renamed, Stages,
+    Between, Commands, Content, Cut, Given, Next, Piece, PieceCommands, Proper, ProperFrom,
+    Renamed, Stages,
 };
 
 /// The kind and the stop of each of the tokens.
@@ -147,6 +150,18 @@ fn next_told(alloc: Global, text: &str, place: usize) -> Result<String, AllocErr
     }
 }
 
+/// The proper tokens from the place on, as they are told.
+fn proper_from_told(alloc: Global, text: &str, place: usize) -> Result<String, AllocError> {
+    let scalars = scalars_of(alloc, text)?;
+    if scalars.len() < place {
+        return String::from_str(alloc, "behind the end");
+    }
+    let Some(first) = next_proper(&scalars, &[], place) else {
+        return Ok(String::new(alloc));
+    };
+    tokens_told(alloc, &proper_after(alloc, &scalars, &[], first)?)
+}
+
 /// The stage behind each token, behind a blank.
 fn stages_of(alloc: Global, text: &[char], tokens: &[Token]) -> Result<String, AllocError> {
     let mut out = String::new(alloc);
@@ -209,6 +224,7 @@ pub(crate) fn told(alloc: Global, call: &Call) -> Result<String, AllocError> {
         PieceCommands(names, text) => piece_commands(alloc, names, text),
         Renamed(from, to, text) => renamed_told(alloc, from, to, text),
         Next(text, place) => next_told(alloc, text, *place),
+        ProperFrom(text, place) => proper_from_told(alloc, text, *place),
         Stages(text) => stages_told(alloc, text),
         Between(text, start, stop) => between_told(alloc, text, *start, *stop),
         Content(kind, token) => content_told(alloc, *kind, token),

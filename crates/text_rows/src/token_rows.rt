@@ -1,6 +1,7 @@
 //! Tokens of texts (`outer_tokens`).
 use crate::token_calls::Call::{
-    Between, Commands, Content, Cut, Given, Next, Piece, PieceCommands, Proper, Renamed, Stages,
+    Between, Commands, Content, Cut, Given, Next, Piece, PieceCommands, Proper, ProperFrom,
+    Renamed, Stages,
 };
 use crate::token_calls::{Call, told};
 use crate::values::sees;
@@ -143,6 +144,17 @@ const ROWS: &[Row] = &[
     Row("a scalar within it", Next("by (*a*)", 4), " Sym 5"),
     Row("none at the end", Next("by (*a*)", 8), ""),
     Row("behind the end", Next("by (*a*)", 9), "behind the end"),
+    Row(
+        "the proper ones from the beginning on",
+        ProperFrom("by (*a*) x", 0),
+        " Command 2 Ident 10",
+    ),
+    Row(
+        "those from within a comment on",
+        ProperFrom("by (*a*) x", 5),
+        " Ident 6 Sym 7 Sym 8 Ident 10",
+    ),
+    Row("none in spaces", ProperFrom("by  ", 2), ""),
     Row(
         "a header by its tokens",
         Stages("theory A begin"),
