@@ -1,8 +1,9 @@
 -- What a command makes is told by its first token and its shape.
-use Rattle.std.proofs.Common.{◌≡◌, ℕ, List, [], ◌∷◌, Option, Some, Ok, Err, refl, ap, sym, ◌∙◌}
+use Rattle.std.proofs.Common.{◌≡◌, ℕ, List, [], ◌∷◌, Option, Some, Ok, Err, map, refl, ap, sym, ◌∙◌}
+use Rattle.outer_tokens.specs.ProperTokens.{proper_from}
+use Rattle.outer_tokens.specs.Words.{is_in_force}
 use Rattle.outer_tokens.specs.declared.token.Token.{Token}
-use Rattle.language.specs.declared.made.Made.{Made}
-use Rattle.doc_blobs.specs.Needs.{AliasList}
+use Rattle.doc_blobs.specs.Needs.{AliasList, source_tokens}
 use Rattle.isar_rules.specs.declared.shape.Shape.{Shape}
 use Rattle.isar_rules.specs.declared.state.State.{State}
 use Rattle.isar_rules.specs.Effects.{Effect}
@@ -21,3 +22,8 @@ pub by-shape : (source : List ℕ) (blob : Option (List ℕ)) (before : State) (
 by-shape source blob before aliases t ts shape e =
     by-first source t [] ts before (tried blob before.place (Some shape))
     ∙ ap (λ s. made_by source (t ∷ ts) before (tried blob before.place s)) (sym e)
+
+-- the proper tokens from the beginning on, under the names of the aliases, are those of the source
+pub read-all : (aliases : AliasList) (source : List ℕ) (names : List (List ℕ)) (tokens : List Token) → names ≡ map (λ pair. pair.0) aliases
+    → proper_from (is_in_force names) source 0 ≡ tokens → source_tokens aliases source ≡ tokens
+read-all aliases source names tokens e read = ap (λ ns. proper_from (is_in_force ns) source 0) (sym e) ∙ read
