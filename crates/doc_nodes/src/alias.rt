@@ -65,6 +65,7 @@ impl Aliases {
         self.names.len()
     }
 
+    /// Whether there are none.
     pub fn is_empty(&self) -> bool
         ensures { result ≡ (length self.now == 0) }
     {

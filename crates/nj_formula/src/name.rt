@@ -21,6 +21,7 @@ impl Model for Name {
 }
 
 impl Name {
+    /// The name that the text is, in memory of its own. It fails for want of memory.
     pub fn new(alloc: Global, text: &str) -> Result<Name, AllocError>
         ensures { IfOk result (λ n. n ≡ text.now) }
     {
@@ -43,12 +44,14 @@ impl Name {
         self.text.clone()
     }
 
+    /// The name as a text.
     pub fn as_str(&self) -> &str
         ensures { result.now ≡ self.now }
     {
         self.text.as_str()
     }
 
+    /// Whether the text is this name.
     pub fn is(&self, text: &str) -> bool
         ensures { IsTrue result ↔ (self.now ≡ text.now) }
     {

@@ -51,6 +51,7 @@ impl ObjTerm {
         Ok(ObjTerm { argument })
     }
 
+    /// The argument that the term is, in which no place is bound from outside.
     pub fn argument(&self) -> &Argument
         ensures value { result.now ≡ self.now }
         ensures closed { IsTrue (is_closed self.now) }

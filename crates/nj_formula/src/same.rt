@@ -5,6 +5,7 @@ use crate::argument::Argument;
 use crate::formula::Formula;
 
 impl Argument {
+    /// Whether both are the same: the same names and places, put together alike.
     #[cycle(same_arguments)]
     pub fn same(&self, other: &Argument) -> bool
         ensures { IsTrue result ↔ (self.now ≡ other.now) }

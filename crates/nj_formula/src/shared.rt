@@ -21,6 +21,7 @@ impl<T> Model for Shared<T> {
 }
 
 impl<T> Shared<T> {
+    /// The value that is shared.
     pub fn get(&self) -> &T
         ensures { result.now ≡ self.now }
     {
@@ -29,6 +30,7 @@ impl<T> Shared<T> {
 }
 
 impl<T: Drop> Shared<T> {
+    /// The value, which copies share from now on. It fails for want of memory.
     pub fn new(alloc: Global, value: T) -> Result<Shared<T>, AllocError>
         ensures { IfOk result (λ s. s ≡ value) }
     {

@@ -69,6 +69,7 @@ impl PlainText {
         PlainText { text: Some(text) }
     }
 
+    /// The text, without a byte 5 or 6.
     pub fn as_str(&self) -> &str
         ensures text { result.now ≡ self.now }
         ensures plain { IsPlain self.now }
@@ -79,6 +80,7 @@ impl PlainText {
         }
     }
 
+    /// Whether it has no bytes.
     pub fn is_empty(&self) -> bool
         ensures { IsTrue result ↔ (self.now ≡ []) }
     {

@@ -51,6 +51,7 @@ impl<T: Drop> SharedList<T> {
         self.tree.len()
     }
 
+    /// Whether it has no items.
     pub fn is_empty(&self) -> bool
         ensures { result ≡ (length self.now == 0) }
     {

@@ -79,6 +79,7 @@ impl<K: Ord + Drop, V: Drop> SharedMap<K, V> {
         self.pairs.len()
     }
 
+    /// Whether it has no pairs.
     pub fn is_empty(&self) -> bool
         ensures { result ≡ (length self.now == 0) }
     {
