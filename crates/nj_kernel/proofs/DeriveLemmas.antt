@@ -1,5 +1,5 @@
 -- What a rule's premises derive, as a theorem holds it.
-use Rattle.std.proofs.Common.{◌≡◌, List, subst}
+use Rattle.std.proofs.Common.{◌≡◌, List, ap, subst, ◌∙◌}
 use Rattle.std.proofs.Math.Logic.{∥∥₁_map, ∥∥₁_elim, ∥∥₁_prop}
 use Rattle.nj_formula.specs.Statement.{Statement}
 use Rattle.nj_kernel.specs.Nj.{Nj}
@@ -19,3 +19,7 @@ by_two rule d e = ∥∥₁_elim d ∥∥₁_prop (λ x. ∥∥₁_map e (rule x
 pub by_three : {s t u v : List Statement} {a b c d : Statement} → (Nj s a → Nj t b → Nj u c → Nj v d)
     → Derives s a → Derives t b → Derives u c → Derives v d
 by_three rule d e f = ∥∥₁_elim d ∥∥₁_prop (λ x. by_two (rule x) e f)
+
+-- a statement of two others, each said in another way
+pub paired : (op : Statement → Statement → Statement) {a b c d : Statement} → a ≡ c → b ≡ d → op a b ≡ op c d
+paired op {b = b} {c = c} e f = ap (λ x. op x b) e ∙ ap (op c) f

@@ -15,6 +15,12 @@ fresh_in_none x t i past =
 pub Lists-itself : (s : List Statement) → Lists s (members s)
 Lists-itself s f = (λ m. m, λ m. m)
 
+pub Lists-same : {s t : List Statement} → s ≡ t → Lists s (members t)
+Lists-same {s} {t} e = subst (λ u. Lists u (members t)) (sym e) (Lists-itself t)
+
+pub Lists-along : {s t : List Statement} {P : Statement → Type 0} → s ≡ t → Lists t P → Lists s P
+Lists-along {P = P} e l = subst (λ u. Lists u P) (sym e) l
+
 -- each part of a union may be what its list lists
 pub Lists-either : (s t u : List Statement) {P Q : Statement → Type 0} → Lists u (members s ∪ members t) → Lists s P → Lists t Q → Lists u (P ∪ Q)
 Lists-either s t u all p q f = (

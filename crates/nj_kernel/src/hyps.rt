@@ -48,16 +48,16 @@ fn both(alloc: Global, s: &[Hyp], t: &[Hyp]) -> Result<Items<Hyp>, AllocError>
         };
         match a.order(b) {
             Ordering::Less => {
-                all.push(a.copy(alloc)?)?;
+                push_copy(alloc, &mut all, a)?;
                 left = after_a;
             }
             Ordering::Equal => {
-                all.push(a.copy(alloc)?)?;
+                push_copy(alloc, &mut all, a)?;
                 left = after_a;
                 right = after_b;
             }
             Ordering::Greater => {
-                all.push(b.copy(alloc)?)?;
+                push_copy(alloc, &mut all, b)?;
                 right = after_b;
             }
         }
@@ -67,11 +67,18 @@ fn both(alloc: Global, s: &[Hyp], t: &[Hyp]) -> Result<Items<Hyp>, AllocError>
     Ok(all)
 }
 
+fn push_copy(alloc: Global, to: &mut Items<Hyp>, formula: &Hyp) -> Result<(), AllocError>
+    ensures { OnOk result (to.new ≡ to.old ++ formula.now ∷ []) }
+{
+    let copy = formula.copy(alloc)?;
+    to.push(copy)
+}
+
 fn push_all(alloc: Global, to: &mut Items<Hyp>, formulas: &[Hyp]) -> Result<(), AllocError>
     ensures { OnOk result (to.new ≡ to.old ++ formulas.now) }
 {
     for formula in formulas {
-        to.push(formula.copy(alloc)?)?;
+        push_copy(alloc, to, formula)?;
     }
     Ok(())
 }
@@ -91,6 +98,23 @@ pub(crate) fn without(
     Shared::new(alloc, kept)
 }
 
+/// The formulas of either set, but for those of the second that say what `formula` says.
+pub(crate) fn union_without(
+    alloc: Global,
+    s: &[Hyp],
+    t: &[Hyp],
+    formula: &Formula,
+) -> Result<Shared<Items<Hyp>>, AllocError>
+    requires left { IsTrue (rises (map meaning s.now)) }
+    requires right { IsTrue (rises (map meaning t.now)) }
+    ensures listed { IfOk result (λ u. Lists (map meaning u)
+        (members (map meaning s.now) ∪ (members (map meaning t.now) ∖ meaning formula.now))) }
+    ensures ordered { IfOk result (λ u. IsTrue (rises (map meaning u))) }
+{
+    let rest = without(alloc, t, formula)?;
+    union(alloc, s, rest.get().as_slice())
+}
+
 fn others(alloc: Global, s: &[Hyp], dropped: &Formula) -> Result<Items<Hyp>, AllocError>
     requires { IsTrue (rises (map meaning s.now)) }
     ensures listed { IfOk result (λ u. Lists (map meaning u)
@@ -100,7 +124,7 @@ fn others(alloc: Global, s: &[Hyp], dropped: &Formula) -> Result<Items<Hyp>, All
     let mut kept = Items::new(alloc);
     for member in s {
         if !member.formula().same(dropped) {
-            kept.push(member.copy(alloc)?)?;
+            push_copy(alloc, &mut kept, member)?;
         }
     }
     Ok(kept)

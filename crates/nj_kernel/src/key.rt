@@ -1,6 +1,6 @@
 //! Keys of formulas, by which assumptions are kept in order.
 
-ghost use Rattle.std.specs.Prelude.{◌≡◌, ◌++◌, map, OnOk, IfOk};
+ghost use Rattle.std.specs.Prelude.{◌≡◌, ◌∷◌, ◌++◌, map, OnOk, IfOk};
 ghost use Rattle.nj_formula.specs.Meaning.{meaning};
 ghost use Rattle.nj_kernel.specs.Keys.{counted_name, counted_keys, argument_key, statement_key};
 
@@ -60,6 +60,7 @@ fn put_arguments(to: &mut Items<usize>, arguments: &[Argument]) -> Result<(), Al
     Ok(())
 }
 
+#[cycle(formula_keys)]
 fn put_formula(to: &mut Items<usize>, formula: &Formula) -> Result<(), AllocError>
     ensures { OnOk result (to.new ≡ to.old ++ statement_key (meaning formula.now)) }
 {
@@ -70,32 +71,28 @@ fn put_formula(to: &mut Items<usize>, formula: &Formula) -> Result<(), AllocErro
             put_name(to, predicate)?;
             put_arguments(to, arguments.get().as_slice())
         }
-        Formula::Not(a) => {
-            to.push(2)?;
-            put_formula(to, a.get())
-        }
+        Formula::Not(a) => put_part(to, 2, a.get()),
         Formula::And(a, b) => {
-            to.push(3)?;
-            put_formula(to, a.get())?;
+            put_part(to, 3, a.get())?;
             put_formula(to, b.get())
         }
         Formula::Or(a, b) => {
-            to.push(4)?;
-            put_formula(to, a.get())?;
+            put_part(to, 4, a.get())?;
             put_formula(to, b.get())
         }
         Formula::Implies(a, b) => {
-            to.push(5)?;
-            put_formula(to, a.get())?;
+            put_part(to, 5, a.get())?;
             put_formula(to, b.get())
         }
-        Formula::All(_, body) => {
-            to.push(6)?;
-            put_formula(to, body.get())
-        }
-        Formula::Exists(_, body) => {
-            to.push(7)?;
-            put_formula(to, body.get())
-        }
+        Formula::All(_, body) => put_part(to, 6, body.get()),
+        Formula::Exists(_, body) => put_part(to, 7, body.get()),
     }
+}
+
+#[cycle(formula_keys)]
+fn put_part(to: &mut Items<usize>, form: usize, part: &Formula) -> Result<(), AllocError>
+    ensures { OnOk result (to.new ≡ to.old ++ form ∷ statement_key (meaning part.now)) }
+{
+    to.push(form)?;
+    put_formula(to, part)
 }

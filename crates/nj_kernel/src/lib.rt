@@ -11,6 +11,7 @@ mod fault;
 mod hyp;
 mod hyps;
 mod key;
+mod made;
 mod quantifiers;
 mod rule;
 mod rules;

@@ -7,7 +7,8 @@ ghost use Rattle.nj_kernel.specs.Rules.{ConjI, ConjE1, ConjE2, DisjI1, DisjI2, D
 ghost use Rattle.nj_kernel.specs.Rules.{ImpI, ImpE, NotI, NotE, FalseE};
 
 use crate::fault::{RuleError, misfit};
-use crate::hyps::{single, union, without};
+use crate::hyps::{single, union_without, without};
+use crate::made::{also, also_copied, and, implies, joined, joined_copied, or};
 use crate::rule::Rule;
 use crate::thm::Thm;
 use nj_formula::Formula;
@@ -26,9 +27,8 @@ pub fn assume(alloc: Global, a: &Formula) -> Result<Thm, AllocError>
 pub fn conj_i(alloc: Global, t: &Thm, u: &Thm) -> Result<Thm, RuleError>
     ensures { ConjI (assumed t.now) (shown t.now) (assumed u.now) (shown u.now) result }
 {
-    let hyps = union(alloc, t.hyps(), u.hyps())?;
-    let concl = Formula::and(alloc, t.concl().copy(alloc)?, u.concl().copy(alloc)?)?;
-    Ok(Thm::derived(hyps, concl))
+    let concl = and(alloc, t.concl(), u.concl())?;
+    joined(alloc, t.hyps(), u.hyps(), concl)
 }
 
 /// From A & B to A.
@@ -36,7 +36,7 @@ pub fn conj_e1(alloc: Global, t: &Thm) -> Result<Thm, RuleError>
     ensures { ConjE1 (assumed t.now) (shown t.now) result }
 {
     match t.concl() {
-        Formula::And(a, _) => Ok(Thm::derived(t.shared_hyps()?, a.get().copy(alloc)?)),
+        Formula::And(a, _) => also_copied(alloc, t, a.get()),
         _ => Err(misfit(Rule::ConjE1, 1)),
     }
 }
@@ -46,7 +46,7 @@ pub fn conj_e2(alloc: Global, t: &Thm) -> Result<Thm, RuleError>
     ensures { ConjE2 (assumed t.now) (shown t.now) result }
 {
     match t.concl() {
-        Formula::And(_, b) => Ok(Thm::derived(t.shared_hyps()?, b.get().copy(alloc)?)),
+        Formula::And(_, b) => also_copied(alloc, t, b.get()),
         _ => Err(misfit(Rule::ConjE2, 1)),
     }
 }
@@ -55,16 +55,16 @@ pub fn conj_e2(alloc: Global, t: &Thm) -> Result<Thm, RuleError>
 pub fn disj_i1(alloc: Global, t: &Thm, other: &Formula) -> Result<Thm, RuleError>
     ensures { DisjI1 (assumed t.now) (shown t.now) (meaning other.now) result }
 {
-    let concl = Formula::or(alloc, t.concl().copy(alloc)?, other.copy(alloc)?)?;
-    Ok(Thm::derived(t.shared_hyps()?, concl))
+    let concl = or(alloc, t.concl(), other)?;
+    also(t, concl)
 }
 
 /// From B to A | B, where A is `other`.
 pub fn disj_i2(alloc: Global, t: &Thm, other: &Formula) -> Result<Thm, RuleError>
     ensures { DisjI2 (assumed t.now) (shown t.now) (meaning other.now) result }
 {
-    let concl = Formula::or(alloc, other.copy(alloc)?, t.concl().copy(alloc)?)?;
-    Ok(Thm::derived(t.shared_hyps()?, concl))
+    let concl = or(alloc, other, t.concl())?;
+    also(t, concl)
 }
 
 /// From A | B, from C with A assumed and from C with B assumed, to C.
@@ -77,11 +77,14 @@ pub fn disj_e(alloc: Global, t: &Thm, u: &Thm, v: &Thm) -> Result<Thm, RuleError
             if !u.concl().same(v.concl()) {
                 return Err(misfit(Rule::DisjE, 3));
             }
-            let left = without(alloc, u.hyps(), a.get())?;
+            let left = union_without(alloc, t.hyps(), u.hyps(), a.get())?;
             let right = without(alloc, v.hyps(), b.get())?;
-            let both = union(alloc, t.hyps(), left.get().as_slice())?;
-            let hyps = union(alloc, both.get().as_slice(), right.get().as_slice())?;
-            Ok(Thm::derived(hyps, u.concl().copy(alloc)?))
+            joined_copied(
+                alloc,
+                left.get().as_slice(),
+                right.get().as_slice(),
+                u.concl(),
+            )
         }
         _ => Err(misfit(Rule::DisjE, 1)),
     }
@@ -92,7 +95,7 @@ pub fn imp_i(alloc: Global, a: &Formula, t: &Thm) -> Result<Thm, RuleError>
     ensures { ImpI (meaning a.now) (assumed t.now) (shown t.now) result }
 {
     let remaining = without(alloc, t.hyps(), a)?;
-    let concl = Formula::implies(alloc, a.copy(alloc)?, t.concl().copy(alloc)?)?;
+    let concl = implies(alloc, a, t.concl())?;
     Ok(Thm::derived(remaining, concl))
 }
 
@@ -105,8 +108,7 @@ pub fn imp_e(alloc: Global, t: &Thm, u: &Thm) -> Result<Thm, RuleError>
             if !a.get().same(u.concl()) {
                 return Err(misfit(Rule::ImpE, 2));
             }
-            let hyps = union(alloc, t.hyps(), u.hyps())?;
-            Ok(Thm::derived(hyps, b.get().copy(alloc)?))
+            joined_copied(alloc, t.hyps(), u.hyps(), b.get())
         }
         _ => Err(misfit(Rule::ImpE, 1)),
     }
@@ -135,7 +137,7 @@ pub fn not_e(alloc: Global, t: &Thm, u: &Thm) -> Result<Thm, RuleError>
             if !u.concl().same(a.get()) {
                 return Err(misfit(Rule::NotE, 2));
             }
-            Ok(Thm::derived(union(alloc, t.hyps(), u.hyps())?, Formula::False))
+            joined(alloc, t.hyps(), u.hyps(), Formula::False)
         }
         _ => Err(misfit(Rule::NotE, 1)),
     }
@@ -146,7 +148,7 @@ pub fn false_e(alloc: Global, t: &Thm, c: &Formula) -> Result<Thm, RuleError>
     ensures { FalseE (assumed t.now) (shown t.now) (meaning c.now) result }
 {
     match t.concl() {
-        Formula::False => Ok(Thm::derived(t.shared_hyps()?, c.copy(alloc)?)),
+        Formula::False => also_copied(alloc, t, c),
         _ => Err(misfit(Rule::FalseE, 1)),
     }
 }
