@@ -9,6 +9,7 @@
 #![tactic(auto)]
 
 mod fault;
+mod inside;
 mod law;
 mod mark;
 mod reader;

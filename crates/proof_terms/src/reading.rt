@@ -73,7 +73,7 @@ impl<'a> Reader<'a> {
 
     /// A term in a rule.
     #[cycle(term)]
-    fn part(&mut self, left: usize) -> Result<Shared<Term>, TermError>
+    pub(crate) fn part(&mut self, left: usize) -> Result<Shared<Term>, TermError>
         ensures { Gives result (marks self.new.source.now self.new.rest.now)
             (read_term left (marks self.old.source.now self.old.rest.now)) }
     {
@@ -88,35 +88,21 @@ impl<'a> Reader<'a> {
             (read_inside (read_term left) rule (marks self.old.source.now self.old.rest.now)) }
     {
         match rule {
-            Rule::ConjI => Ok(Term::ConjI(self.part(left)?, self.part(left)?)),
-            Rule::ConjE1 => Ok(Term::ConjE1(self.formula()?, self.part(left)?)),
-            Rule::ConjE2 => Ok(Term::ConjE2(self.formula()?, self.part(left)?)),
             Rule::DisjI1 => Ok(Term::DisjI1(self.part(left)?)),
             Rule::DisjI2 => Ok(Term::DisjI2(self.part(left)?)),
-            Rule::DisjE => Ok(Term::DisjE(
-                self.formula()?,
-                self.formula()?,
-                self.part(left)?,
-                self.name()?,
-                self.part(left)?,
-                self.name()?,
-                self.part(left)?,
-            )),
-            Rule::ImpI => Ok(Term::ImpI(self.name()?, self.part(left)?)),
-            Rule::ImpE => Ok(Term::ImpE(self.formula()?, self.part(left)?, self.part(left)?)),
-            Rule::NotI => Ok(Term::NotI(self.name()?, self.part(left)?)),
-            Rule::NotE => Ok(Term::NotE(self.formula()?, self.part(left)?, self.part(left)?)),
             Rule::FalseE => Ok(Term::FalseE(self.part(left)?)),
-            Rule::AllI => Ok(Term::AllI(self.name()?, self.part(left)?)),
-            Rule::AllE => Ok(Term::AllE(self.formula()?, self.object()?, self.part(left)?)),
-            Rule::ExI => Ok(Term::ExI(self.object()?, self.part(left)?)),
-            Rule::ExE => Ok(Term::ExE(
-                self.formula()?,
-                self.name()?,
-                self.name()?,
-                self.part(left)?,
-                self.part(left)?,
-            )),
+            Rule::ConjI => self.conj_i(left),
+            Rule::ConjE1 => self.conj_e1(left),
+            Rule::ConjE2 => self.conj_e2(left),
+            Rule::DisjE => self.disj_e(left),
+            Rule::ImpI => self.imp_i(left),
+            Rule::ImpE => self.imp_e(left),
+            Rule::NotI => self.not_i(left),
+            Rule::NotE => self.not_e(left),
+            Rule::AllI => self.all_i(left),
+            Rule::AllE => self.all_e(left),
+            Rule::ExI => self.ex_i(left),
+            Rule::ExE => self.ex_e(left),
         }
     }
 }
