@@ -4,12 +4,13 @@
 ghost use Rattle.std.specs.Prelude.{◌≡◌, [], ◌∷◌, ◌++◌, ◌+◌, reverse, length, IfOk};
 ghost use Rattle.nj_tokens.specs.declared.token.Token.{Token as Tokens};
 ghost use Rattle.nj_syntax.specs.declared.state.Mode.{Mode as Modes};
+ghost use Rattle.nj_syntax.specs.declared.state.Pending.{Pending as Pendings};
 ghost use Rattle.nj_syntax.specs.Terms.{place_of, named};
 ghost use Rattle.nj_syntax.specs.Reduced.{bound_names};
 ghost use Rattle.nj_syntax.specs.Steps.{goes, step_comma, step};
 ghost use Rattle.nj_syntax.specs.Seen.{seen_step};
 
-use crate::operands::{begin, stay};
+use crate::operands::{begin_argument, pushed, stay};
 use crate::state::{Mode, Pending, Step};
 use nj_formula::{Argument, Formula, Name};
 use nj_tokens::Token;
@@ -53,15 +54,55 @@ fn with(arguments: Items<Argument>, argument: Argument) -> Result<Items<Argument
     Ok(arguments)
 }
 
+/// A name where an argument begins.
+pub fn argument(
+    alloc: Global,
+    pending: Items<Pending>,
+    name: &Name,
+) -> Result<Option<Step>, AllocError>
+    ensures { IfOk result (λ s. seen_step s
+        ≡ goes (Modes.Head name.now) (reverse pending) (length (reverse pending))) }
+{
+    let name = name.copy(alloc)?;
+    Ok(Some(stay(Mode::Head(name), pending)))
+}
+
 /// The next argument of this predicate or function.
 fn next_argument(pending: Items<Pending>, frame: Pending) -> Result<Option<Step>, AllocError>
     ensures { IfOk result (λ s.
         seen_step s
         ≡ goes Modes.Argument (frame ∷ reverse pending) (length (reverse pending) + 1)) }
 {
-    let mut pending = pending;
-    pending.push(frame)?;
+    let pending = pushed(pending, frame)?;
     Ok(Some(stay(Mode::Argument, pending)))
+}
+
+/// A comma after an argument of a predicate.
+fn predicate_on(
+    pending: Items<Pending>,
+    name: Name,
+    before: Items<Argument>,
+    argument: Argument,
+) -> Result<Option<Step>, AllocError>
+    ensures { IfOk result (λ s. seen_step s
+        ≡ step_comma (Pendings.Predicate name before ∷ reverse pending) argument Tokens.Comma) }
+{
+    let arguments = with(before, argument)?;
+    next_argument(pending, Pending::Predicate(name, arguments))
+}
+
+/// A comma after an argument of a function.
+fn function_on(
+    pending: Items<Pending>,
+    name: Name,
+    before: Items<Argument>,
+    argument: Argument,
+) -> Result<Option<Step>, AllocError>
+    ensures { IfOk result (λ s. seen_step s
+        ≡ step_comma (Pendings.Function name before ∷ reverse pending) argument Tokens.Comma) }
+{
+    let arguments = with(before, argument)?;
+    next_argument(pending, Pending::Function(name, arguments))
 }
 
 /// A comma after an argument.
@@ -70,17 +111,40 @@ fn after_comma(pending: Items<Pending>, argument: Argument) -> Result<Option<Ste
 {
     let mut pending = pending;
     match pending.pop() {
-        Some(Pending::Predicate(name, arguments)) => {
-            next_argument(
-                pending,
-                Pending::Predicate(name, with(arguments, argument)?),
-            )
-        }
-        Some(Pending::Function(name, arguments)) => {
-            next_argument(pending, Pending::Function(name, with(arguments, argument)?))
-        }
+        Some(Pending::Predicate(name, before)) => predicate_on(pending, name, before, argument),
+        Some(Pending::Function(name, before)) => function_on(pending, name, before, argument),
         _ => Ok(None),
     }
+}
+
+/// The parenthesis that closes after a predicate's arguments.
+fn predicate_ends(
+    alloc: Global,
+    pending: Items<Pending>,
+    name: Name,
+    before: Items<Argument>,
+    argument: Argument,
+) -> Result<Option<Step>, AllocError>
+    ensures { IfOk result (λ s. seen_step s
+        ≡ step_comma (Pendings.Predicate name before ∷ reverse pending) argument Tokens.Close) }
+{
+    let atom = Formula::atom(alloc, name, with(before, argument)?)?;
+    Ok(Some(stay(Mode::Operator(atom), pending)))
+}
+
+/// The parenthesis that closes after a function's arguments.
+fn function_ends(
+    alloc: Global,
+    pending: Items<Pending>,
+    name: Name,
+    before: Items<Argument>,
+    argument: Argument,
+) -> Result<Option<Step>, AllocError>
+    ensures { IfOk result (λ s. seen_step s
+        ≡ step_comma (Pendings.Function name before ∷ reverse pending) argument Tokens.Close) }
+{
+    let term = Argument::apply(alloc, name, with(before, argument)?)?;
+    Ok(Some(stay(Mode::Comma(term), pending)))
 }
 
 /// The parenthesis that closes after the last argument.
@@ -93,13 +157,11 @@ fn after_last(
 {
     let mut pending = pending;
     match pending.pop() {
-        Some(Pending::Predicate(name, arguments)) => {
-            let atom = Formula::atom(alloc, name, with(arguments, argument)?)?;
-            Ok(Some(stay(Mode::Operator(atom), pending)))
+        Some(Pending::Predicate(name, before)) => {
+            predicate_ends(alloc, pending, name, before, argument)
         }
-        Some(Pending::Function(name, arguments)) => {
-            let term = Argument::apply(alloc, name, with(arguments, argument)?)?;
-            Ok(Some(stay(Mode::Comma(term), pending)))
+        Some(Pending::Function(name, before)) => {
+            function_ends(alloc, pending, name, before, argument)
         }
         _ => Ok(None),
     }
@@ -133,7 +195,7 @@ pub fn after_head(
     match token {
         Token::Open => {
             let function = Pending::Function(name, Items::new(alloc));
-            Ok(Some(begin(Mode::Argument, pending, function)?))
+            begin_argument(pending, function)
         }
         _ => {
             let argument = named(pending.as_slice(), name);

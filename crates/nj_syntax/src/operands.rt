@@ -27,18 +27,41 @@ pub fn stay(mode: Mode, pending: Items<Pending>) -> Step
     }
 }
 
-/// The next mode, with one thing more pending.
-pub fn begin(mode: Mode, pending: Items<Pending>, new: Pending) -> Result<Step, AllocError>
-    ensures { IfOk result (λ s.
-        seen_step (Some s) ≡ goes mode (new ∷ reverse pending) (length (reverse pending))) }
+/// One thing more pending.
+pub fn pushed(pending: Items<Pending>, new: Pending) -> Result<Items<Pending>, AllocError>
+    ensures { IfOk result (λ all. reverse all ≡ new ∷ reverse pending) }
 {
     let mut pending = pending;
-    let depth = pending.len();
     pending.push(new)?;
-    Ok(Step {
+    Ok(pending)
+}
+
+/// On to an operand, with one thing more pending.
+pub fn begin_operand(pending: Items<Pending>, new: Pending) -> Result<Option<Step>, AllocError>
+    ensures { IfOk result (λ s.
+        seen_step s ≡ goes Modes.Operand (new ∷ reverse pending) (length (reverse pending))) }
+{
+    let depth = pending.len();
+    let pending = pushed(pending, new)?;
+    let mode = Mode::Operand;
+    Ok(Some(Step {
         state: State { mode, pending },
         depth,
-    })
+    }))
+}
+
+/// On to an argument, with one thing more pending.
+pub fn begin_argument(pending: Items<Pending>, new: Pending) -> Result<Option<Step>, AllocError>
+    ensures { IfOk result (λ s.
+        seen_step s ≡ goes Modes.Argument (new ∷ reverse pending) (length (reverse pending))) }
+{
+    let depth = pending.len();
+    let pending = pushed(pending, new)?;
+    let mode = Mode::Argument;
+    Ok(Some(Step {
+        state: State { mode, pending },
+        depth,
+    }))
 }
 
 /// Whether an operator waits for its operand. No quantifier may stand there.
@@ -77,6 +100,20 @@ fn word(alloc: Global, pending: Items<Pending>, name: &Name) -> Result<Option<St
     }
 }
 
+/// The name that a quantifier binds.
+pub fn after_binder(
+    alloc: Global,
+    pending: Items<Pending>,
+    q: Quantifier,
+    name: &Name,
+) -> Result<Option<Step>, AllocError>
+    ensures { IfOk result (λ s. seen_step s
+        ≡ goes (Modes.Dot q name.now) (reverse pending) (length (reverse pending))) }
+{
+    let name = name.copy(alloc)?;
+    Ok(Some(stay(Mode::Dot(q, name), pending)))
+}
+
 /// The first token of an operand.
 pub fn operand(
     alloc: Global,
@@ -87,8 +124,8 @@ pub fn operand(
 {
     match token {
         Token::Name(name) => word(alloc, pending, name),
-        Token::Not => Ok(Some(begin(Mode::Operand, pending, Pending::Not)?)),
-        Token::Open => Ok(Some(begin(Mode::Operand, pending, Pending::Parenthesis)?)),
+        Token::Not => begin_operand(pending, Pending::Not),
+        Token::Open => begin_operand(pending, Pending::Parenthesis),
         _ => Ok(None),
     }
 }
@@ -105,7 +142,7 @@ fn operator(
 {
     let held = reduced(alloc, op, pending, operand)?;
     let right = Pending::Right(op, held.operand);
-    Ok(Some(begin(Mode::Operand, held.pending, right)?))
+    begin_operand(held.pending, right)
 }
 
 /// A parenthesis that closes after the operand.
@@ -153,13 +190,11 @@ pub fn after_atom(
     match token {
         Token::Open => {
             let predicate = Pending::Predicate(name, Items::new(alloc));
-            Ok(Some(begin(Mode::Argument, pending, predicate)?))
+            begin_argument(pending, predicate)
         }
-        _ => after_operand(
-            alloc,
-            pending,
-            Formula::atom(alloc, name, Items::new(alloc))?,
-            token,
-        ),
+        _ => {
+            let atom = Formula::atom(alloc, name, Items::new(alloc))?;
+            after_operand(alloc, pending, atom, token)
+        }
     }
 }

@@ -1,12 +1,14 @@
-ghost use Rattle.std.specs.Prelude.{◌≡◌, reverse, IfOk};
+ghost use Rattle.std.specs.Prelude.{◌≡◌, reverse, IfOk, nat_lt, if◌then◌else◌, Ok, Err};
 ghost use Rattle.nj_tokens.specs.Tokens.{cut_of};
+ghost use Rattle.nj_syntax.specs.declared.fault.FormulaFault.TheVariants.{TooDeep};
+ghost use Rattle.nj_syntax.specs.Deepest.{deepest};
 ghost use Rattle.nj_syntax.specs.Steps.{formula_at, term_at, alone, step};
 ghost use Rattle.nj_syntax.specs.Answer.{after, read_from};
 ghost use Rattle.nj_syntax.specs.Seen.{seen, Gives, seen_end};
 
 use crate::fault::{FaultKind, FormulaFault};
 use crate::reduce::finished;
-use crate::state::{Mode, Pending, State};
+use crate::state::{Mode, Pending, State, Step};
 use nj_formula::{Argument, Formula};
 use nj_tokens::{Lexer, Next, Placed};
 use sqlite_items::Items;
@@ -31,6 +33,12 @@ impl State {
         ensures { Gives seen_end result (read_from (seen self) (cut_of text.now)) }
     {
         let lexer = Lexer::new(alloc);
+        self.read_by(&lexer, alloc, text)
+    }
+
+    fn read_by(self, lexer: &Lexer, alloc: Global, text: &[char]) -> Result<End, FormulaFault>
+        ensures { Gives seen_end result (read_from (seen self) (cut_of text.now)) }
+    {
         let mut state = self;
         let mut at = 0;
         'tokens: loop {
@@ -67,10 +75,7 @@ impl State {
                 kind: FaultKind::Expected,
             });
         };
-        if step.depth > DEEPEST {
-            return Err(FormulaFault::TooDeep);
-        }
-        Ok(step.state)
+        step.in_reach()
     }
 
     /// The formula, where the text may end here.
@@ -98,6 +103,19 @@ impl State {
             Mode::Comma(argument) => alone(pending, argument),
             _ => None,
         }
+    }
+}
+
+impl Step {
+    /// The state, unless the token stands too deep.
+    fn in_reach(self) -> Result<State, FormulaFault>
+        ensures { Gives seen result
+            (if nat_lt deepest self.depth then Err TooDeep else Ok (seen self.state)) }
+    {
+        if self.depth > DEEPEST {
+            return Err(FormulaFault::TooDeep);
+        }
+        Ok(self.state)
     }
 }
 
