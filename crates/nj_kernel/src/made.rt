@@ -16,25 +16,32 @@ use crate::thm::Thm;
 use nj_formula::Formula;
 use std::alloc::{AllocError, Global};
 
+fn copies(alloc: Global, a: &Formula, b: &Formula) -> Result<(Formula, Formula), AllocError>
+    ensures { IfOk result (λ both. both ≡ (a.now, b.now)) }
+{
+    let left = a.copy(alloc)?;
+    Ok((left, b.copy(alloc)?))
+}
+
 pub(crate) fn and(alloc: Global, a: &Formula, b: &Formula) -> Result<Formula, AllocError>
     ensures { IfOk result (λ f. meaning f ≡ conj (meaning a.now) (meaning b.now)) }
 {
-    let left = a.copy(alloc)?;
-    Formula::and(alloc, left, b.copy(alloc)?)
+    let (left, right) = copies(alloc, a, b)?;
+    Formula::and(alloc, left, right)
 }
 
 pub(crate) fn or(alloc: Global, a: &Formula, b: &Formula) -> Result<Formula, AllocError>
     ensures { IfOk result (λ f. meaning f ≡ disj (meaning a.now) (meaning b.now)) }
 {
-    let left = a.copy(alloc)?;
-    Formula::or(alloc, left, b.copy(alloc)?)
+    let (left, right) = copies(alloc, a, b)?;
+    Formula::or(alloc, left, right)
 }
 
 pub(crate) fn implies(alloc: Global, a: &Formula, b: &Formula) -> Result<Formula, AllocError>
     ensures { IfOk result (λ f. meaning f ≡ implied (meaning a.now) (meaning b.now)) }
 {
-    let left = a.copy(alloc)?;
-    Formula::implies(alloc, left, b.copy(alloc)?)
+    let (left, right) = copies(alloc, a, b)?;
+    Formula::implies(alloc, left, right)
 }
 
 /// A theorem of `concl` that assumes what `t` does, by a rule of NJ.

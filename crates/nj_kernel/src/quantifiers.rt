@@ -30,12 +30,14 @@ fn at(alloc: Global, body: &Formula, s: &ObjTerm) -> Result<Formula, AllocError>
     Ok(at_s)
 }
 
-/// P[x], for a quantifier's body P.
-fn at_name(alloc: Global, body: &Formula, x: &str) -> Result<Formula, AllocError>
-    ensures { IfOk result (λ f. meaning f ≡ instance (Free x.now) (meaning body.now)) }
+/// Whether the theorem shows P[s].
+fn is_witness(alloc: Global, s: &ObjTerm, t: &Thm, body: &Formula) -> Result<bool, AllocError>
+    ensures shows { IfOk result (λ is. IsTrue is
+        ↔ (shown t.now ≡ instance s.now (meaning body.now))) }
+    ensures closed { IsTrue (is_closed s.now) }
 {
-    let name = ObjTerm::name(alloc, x)?;
-    at(alloc, body, &name)
+    let at_s = at(alloc, body, s)?;
+    Ok(t.concl().same(&at_s))
 }
 
 /// Whether the theorem shows P[x], and x is free in no assumption.
@@ -44,8 +46,8 @@ fn is_general(alloc: Global, x: &str, t: &Thm, body: &Formula) -> Result<bool, A
         ↔ (shown t.now ≡ instance (Free x.now) (meaning body.now))
         × IsFreshIn x.now (members (assumed t.now))) }
 {
-    let at_x = at_name(alloc, body, x)?;
-    Ok(t.concl().same(&at_x) && is_fresh(x, t.hyps()))
+    let name = ObjTerm::name(alloc, x)?;
+    Ok(is_witness(alloc, &name, t, body)? && is_fresh(x, t.hyps()))
 }
 
 /// From P[x] to `target`, which is ALL y. P[y]; x is free neither there nor in an assumption.
@@ -76,16 +78,6 @@ pub fn all_e(alloc: Global, t: &Thm, s: &ObjTerm) -> Result<Thm, RuleError>
     }
 }
 
-/// Whether the theorem shows P[s].
-fn is_witness(alloc: Global, s: &ObjTerm, t: &Thm, body: &Formula) -> Result<bool, AllocError>
-    ensures shows { IfOk result (λ is. IsTrue is
-        ↔ (shown t.now ≡ instance s.now (meaning body.now))) }
-    ensures closed { IsTrue (is_closed s.now) }
-{
-    let at_s = at(alloc, body, s)?;
-    Ok(t.concl().same(&at_s))
-}
-
 /// From P[s] to `target`, which is EX y. P[y].
 pub fn ex_i(alloc: Global, s: &ObjTerm, t: &Thm, target: &Formula) -> Result<Thm, RuleError>
     ensures { ExI s.now (assumed t.now) (shown t.now) (meaning target.now) result }
@@ -99,6 +91,14 @@ pub fn ex_i(alloc: Global, s: &ObjTerm, t: &Thm, target: &Formula) -> Result<Thm
         }
         _ => Err(misfit(Rule::ExI, 1)),
     }
+}
+
+/// P[x], for a quantifier's body P.
+fn at_name(alloc: Global, body: &Formula, x: &str) -> Result<Formula, AllocError>
+    ensures { IfOk result (λ f. meaning f ≡ instance (Free x.now) (meaning body.now)) }
+{
+    let name = ObjTerm::name(alloc, x)?;
+    at(alloc, body, &name)
 }
 
 /// What the theorem assumes beside P[x].
