@@ -34,8 +34,7 @@ impl Formula {
     pub fn and(alloc: Global, a: Formula, b: Formula) -> Result<Formula, AllocError>
         ensures { IfOk result (λ f. f ≡ And a b) }
     {
-        let a = Shared::new(alloc, a)?;
-        let b = Shared::new(alloc, b)?;
+        let (a, b) = both(alloc, a, b)?;
         Ok(Formula::And(a, b))
     }
 
@@ -43,8 +42,7 @@ impl Formula {
     pub fn or(alloc: Global, a: Formula, b: Formula) -> Result<Formula, AllocError>
         ensures { IfOk result (λ f. f ≡ Or a b) }
     {
-        let a = Shared::new(alloc, a)?;
-        let b = Shared::new(alloc, b)?;
+        let (a, b) = both(alloc, a, b)?;
         Ok(Formula::Or(a, b))
     }
 
@@ -52,8 +50,7 @@ impl Formula {
     pub fn implies(alloc: Global, a: Formula, b: Formula) -> Result<Formula, AllocError>
         ensures { IfOk result (λ f. f ≡ Implies a b) }
     {
-        let a = Shared::new(alloc, a)?;
-        let b = Shared::new(alloc, b)?;
+        let (a, b) = both(alloc, a, b)?;
         Ok(Formula::Implies(a, b))
     }
 
@@ -70,4 +67,16 @@ impl Formula {
     {
         Ok(Formula::Exists(name, Shared::new(alloc, body)?))
     }
+}
+
+/// Both as parts of a formula.
+fn both(
+    alloc: Global,
+    a: Formula,
+    b: Formula,
+) -> Result<(Shared<Formula>, Shared<Formula>), AllocError>
+    ensures { IfOk result (λ parts. parts ≡ (a, b)) }
+{
+    let a = Shared::new(alloc, a)?;
+    Ok((a, Shared::new(alloc, b)?))
 }
