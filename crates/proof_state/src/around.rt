@@ -58,10 +58,17 @@ impl Around {
     pub(crate) fn with_first(&self, alloc: Global, frame: Frame) -> Result<Around, AllocError>
         ensures { IfOk result (λ around. around ≡ frame ∷ self.now) }
     {
-        let named = frame.block.facts.named().copy()?;
-        let sights = self.sights.with_first(alloc, named)?;
+        let sights = self.sights_from(alloc, &frame)?;
         let frames = self.frames.with_first(alloc, frame)?;
         Ok(Around { frames, sights })
+    }
+
+    /// The named facts of the block of this frame, then those of each of these blocks.
+    fn sights_from(&self, alloc: Global, frame: &Frame) -> Result<SharedList<Locals>, AllocError>
+        ensures { IfOk result (λ sights. AreSights sights (frame.now ∷ self.now)) }
+    {
+        let named = frame.block.get().facts.named().copy()?;
+        self.sights.with_first(alloc, named)
     }
 
     /// Those around the innermost one.

@@ -1,18 +1,18 @@
-ghost use Rattle.std.specs.Prelude.{◌≡◌, [], ◌∷◌, IfOk};
+ghost use Rattle.std.specs.Prelude.{◌≡◌, [], ◌∷◌, IfOk, remove};
 ghost use Rattle.proof_state.specs.Blocks.{opened};
 
 use crate::facts::Facts;
 use crate::local_fact::LocalFact;
-use crate::subgoal::{Subgoal, copies, subgoals_of};
+use crate::subgoal::{Subgoal, copies, subgoals_of, without};
 use crate::variables::Variables;
-use nj_formula::{Formula, Name};
+use nj_formula::{Formula, Name, Shared};
 use sqlite_items::Items;
 use std::alloc::{AllocError, Global};
 
 /// A goal that is being shown in steps.
 #[derive(Drop)]
 pub(crate) struct Block {
-    pub(crate) goal: Formula,
+    pub(crate) goal: Shared<Formula>,
     /// The subgoals that are still to be shown.
     pub(crate) pending: Items<Subgoal>,
     /// The fixed names, the newest first.
@@ -26,23 +26,13 @@ impl Block {
     pub(crate) fn opened(alloc: Global, goal: &Formula, dash: bool) -> Result<Block, AllocError>
         ensures { IfOk result (λ block. block ≡ opened dash goal.now) }
     {
+        let goal = Shared::new(alloc, goal.copy(alloc)?)?;
+        let pending = subgoals_of(alloc, &goal, dash)?;
         Ok(Block {
-            goal: goal.copy(alloc)?,
-            pending: subgoals_of(alloc, goal, dash)?,
+            goal,
+            pending,
             variables: Variables::new(),
             facts: Facts::new(),
-        })
-    }
-
-    /// The same block, in constant time.
-    pub(crate) fn copy(&self, alloc: Global) -> Result<Block, AllocError>
-        ensures { IfOk result (λ block. block ≡ self.now) }
-    {
-        Ok(Block {
-            goal: self.goal.copy(alloc)?,
-            pending: copies(alloc, self.pending.as_slice())?,
-            variables: self.variables.copy()?,
-            facts: self.facts.copy()?,
         })
     }
 
@@ -51,9 +41,11 @@ impl Block {
         ensures { IfOk result (λ block. block
             ≡ record self.now { variables = []; facts = [] }) }
     {
+        let goal = self.goal.copy()?;
+        let pending = copies(alloc, self.pending.as_slice())?;
         Ok(Block {
-            goal: self.goal.copy(alloc)?,
-            pending: copies(alloc, self.pending.as_slice())?,
+            goal,
+            pending,
             variables: Variables::new(),
             facts: Facts::new(),
         })
@@ -64,9 +56,16 @@ impl Block {
         ensures { IfOk result (λ block. block
             ≡ record self.now { variables = name ∷ self.now.variables }) }
     {
-        let mut block = self.copy(alloc)?;
-        block.variables = block.variables.with_first(alloc, name)?;
-        Ok(block)
+        let goal = self.goal.copy()?;
+        let pending = copies(alloc, self.pending.as_slice())?;
+        let variables = self.variables.with_first(alloc, name)?;
+        let facts = self.facts.copy()?;
+        Ok(Block {
+            goal,
+            pending,
+            variables,
+            facts,
+        })
     }
 
     /// The block with one more assumption or fact.
@@ -74,8 +73,32 @@ impl Block {
         ensures { IfOk result (λ block. block
             ≡ record self.now { facts = fact ∷ self.now.facts }) }
     {
-        let mut block = self.copy(alloc)?;
-        block.facts = block.facts.with_first(alloc, fact)?;
-        Ok(block)
+        let goal = self.goal.copy()?;
+        let pending = copies(alloc, self.pending.as_slice())?;
+        let variables = self.variables.copy()?;
+        let facts = self.facts.with_first(alloc, fact)?;
+        Ok(Block {
+            goal,
+            pending,
+            variables,
+            facts,
+        })
+    }
+
+    /// The block without the subgoal at this place, if there is one.
+    pub(crate) fn without_subgoal(&self, alloc: Global, place: usize) -> Result<Block, AllocError>
+        ensures { IfOk result (λ block. block
+            ≡ record self.now { pending = remove self.now.pending place }) }
+    {
+        let goal = self.goal.copy()?;
+        let pending = without(alloc, self.pending.as_slice(), place)?;
+        let variables = self.variables.copy()?;
+        let facts = self.facts.copy()?;
+        Ok(Block {
+            goal,
+            pending,
+            variables,
+            facts,
+        })
     }
 }

@@ -1,6 +1,7 @@
 //! What becomes of the levels when a goal is closed.
 
 ghost use Rattle.std.specs.Prelude.{◌≡◌, IfOk};
+ghost use Rattle.proof_state.specs.declared.local_fact.Origin.TheVariants.{Proved};
 ghost use Rattle.proof_state.specs.Blocks.{achieved};
 ghost use Rattle.proof_state.specs.Steps.{closed};
 
@@ -9,7 +10,6 @@ use crate::block::Block;
 use crate::frame::Purpose;
 use crate::levels::Levels;
 use crate::local_fact::{LocalFact, Origin};
-use crate::subgoal::without;
 use nj_formula::{Formula, Name, Shared};
 use std::alloc::{AllocError, Global};
 
@@ -28,10 +28,12 @@ pub(crate) fn closed(alloc: Global, goal: &Formula, around: &Around) -> Result<L
 {
     match around.first() {
         None => Ok(Levels::Closed),
-        Some(frame) => Ok(Levels::State {
-            block: Shared::new(alloc, achieved(alloc, &frame.purpose, goal, &frame.block)?)?,
-            around: around.rest(alloc)?,
-        }),
+        Some(frame) => {
+            let block = achieved(alloc, &frame.purpose, goal, frame.block.get())?;
+            let block = Shared::new(alloc, block)?;
+            let around = around.rest(alloc)?;
+            Ok(Levels::State { block, around })
+        }
     }
 }
 
@@ -45,18 +47,16 @@ fn achieved(
     ensures { IfOk result (λ block'. block' ≡ achieved purpose.now goal.now block.now) }
 {
     match purpose {
-        Purpose::Have(name) => {
-            let fact = LocalFact {
-                origin: Origin::Proved,
-                name: copy_name(alloc, name)?,
-                formula: goal.copy(alloc)?,
-            };
-            block.with_fact(alloc, fact)
-        }
-        Purpose::Show(place) => {
-            let mut left = block.copy(alloc)?;
-            left.pending = without(alloc, block.pending.as_slice(), *place)?;
-            Ok(left)
-        }
+        Purpose::Have(name) => block.with_fact(alloc, proved(alloc, name, goal)?),
+        Purpose::Show(place) => block.without_subgoal(alloc, *place),
     }
+}
+
+/// The fact that a goal becomes.
+fn proved(alloc: Global, name: &Option<Name>, goal: &Formula) -> Result<LocalFact, AllocError>
+    ensures { IfOk result (λ fact. fact
+        ≡ record { origin = Proved; name = name.now; formula = goal.now }) }
+{
+    let name = copy_name(alloc, name)?;
+    LocalFact::new(alloc, Origin::Proved, name, goal.copy(alloc)?)
 }

@@ -1,6 +1,7 @@
 //! The levels after each command.
 
 ghost use Rattle.std.specs.Prelude.{◌≡◌, ◌∷◌, IfOk};
+ghost use Rattle.proof_state.specs.declared.levels.Levels.TheVariants.{State};
 ghost use Rattle.proof_state.specs.Steps.{step, proof, fix, assume, have, show, next, qed, by};
 ghost use Rattle.proof_state.specs.Answers.{Gives};
 
@@ -24,10 +25,8 @@ impl Levels {
         let Levels::Prove { goal, around } = self else {
             return Err(ProofFault::NotAllowed);
         };
-        Ok(Levels::State {
-            block: Shared::new(alloc, Block::opened(alloc, goal, dash)?)?,
-            around: around.copy()?,
-        })
+        let block = Block::opened(alloc, goal, dash)?;
+        Ok(stated(alloc, block, around)?)
     }
 
     pub(crate) fn after_fix(
@@ -46,11 +45,8 @@ impl Levels {
         if taken {
             return Err(ProofFault::NotFresh { name });
         }
-        let around = around.copy()?;
-        Ok(Levels::State {
-            block: Shared::new(alloc, block.get().with_variable(alloc, name)?)?,
-            around,
-        })
+        let block = block.get().with_variable(alloc, name)?;
+        Ok(stated(alloc, block, around)?)
     }
 
     pub(crate) fn after_assume(
@@ -64,15 +60,9 @@ impl Levels {
         let Levels::State { block, around } = self else {
             return Err(ProofFault::NotAllowed);
         };
-        let fact = LocalFact {
-            origin: Origin::Assumed,
-            name,
-            formula,
-        };
-        Ok(Levels::State {
-            block: Shared::new(alloc, block.get().with_fact(alloc, fact)?)?,
-            around: around.copy()?,
-        })
+        let fact = LocalFact::new(alloc, Origin::Assumed, name, formula)?;
+        let block = block.get().with_fact(alloc, fact)?;
+        Ok(stated(alloc, block, around)?)
     }
 
     pub(crate) fn after_have(
@@ -86,7 +76,7 @@ impl Levels {
         let Levels::State { block, around } = self else {
             return Err(ProofFault::NotAllowed);
         };
-        let around = inside(alloc, block.get(), Purpose::Have(name), around)?;
+        let around = inside(alloc, block, Purpose::Have(name), around)?;
         Ok(Levels::Prove {
             goal: formula,
             around,
@@ -102,7 +92,7 @@ impl Levels {
         let Some(place) = fitting(alloc, block.get(), &formula)? else {
             return Err(ProofFault::NoSuchSubgoal);
         };
-        let around = inside(alloc, block.get(), Purpose::Show(place), around)?;
+        let around = inside(alloc, block, Purpose::Show(place), around)?;
         Ok(Levels::Prove {
             goal: formula,
             around,
@@ -115,10 +105,8 @@ impl Levels {
         let Levels::State { block, around } = self else {
             return Err(ProofFault::NotAllowed);
         };
-        Ok(Levels::State {
-            block: Shared::new(alloc, block.get().cleared(alloc)?)?,
-            around: around.copy()?,
-        })
+        let cleared = block.get().cleared(alloc)?;
+        Ok(stated(alloc, cleared, around)?)
     }
 
     pub(crate) fn after_qed(&self, alloc: Global) -> Result<Levels, ProofFault>
@@ -130,7 +118,7 @@ impl Levels {
         if block.get().pending.len() != 0 {
             return Err(ProofFault::SubgoalsRemain);
         }
-        let levels = closed(alloc, &block.get().goal, around)?;
+        let levels = closed(alloc, block.get().goal.get(), around)?;
         Ok(levels)
     }
 
@@ -145,10 +133,19 @@ impl Levels {
     }
 }
 
+/// Mode state, at this block.
+fn stated(alloc: Global, block: Block, around: &Around) -> Result<Levels, AllocError>
+    ensures { IfOk result (λ levels. levels ≡ State block around.now) }
+{
+    let block = Shared::new(alloc, block)?;
+    let around = around.copy()?;
+    Ok(Levels::State { block, around })
+}
+
 /// What stands around a goal that is opened in the block.
 fn inside(
     alloc: Global,
-    block: &Block,
+    block: &Shared<Block>,
     purpose: Purpose,
     around: &Around,
 ) -> Result<Around, AllocError>
@@ -156,7 +153,7 @@ fn inside(
         ≡ record { block = block.now; purpose = purpose } ∷ around.now) }
 {
     let frame = Frame {
-        block: block.copy(alloc)?,
+        block: block.copy()?,
         purpose,
     };
     around.with_first(alloc, frame)

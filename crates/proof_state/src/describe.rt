@@ -38,7 +38,7 @@ fn write_block(alloc: Global, text: &mut String, block: &Block) -> Result<(), Al
         (SaysBlock block.now)) }
 {
     text.push_str("state: ")?;
-    write_formula(alloc, text, &block.goal)?;
+    write_formula(alloc, text, block.goal.get())?;
     write_subgoals(alloc, text, block.pending.as_slice())
 }
 
@@ -67,11 +67,11 @@ fn write_subgoal(alloc: Global, text: &mut String, subgoal: &Subgoal) -> Result<
         (SaysSubgoal subgoal.now)) }
 {
     match subgoal {
-        Subgoal::Show(conclusion) => write_formula(alloc, text, conclusion),
+        Subgoal::Show(conclusion) => write_formula(alloc, text, conclusion.get()),
         Subgoal::AssumeShow(assumption, conclusion) => {
-            write_assumed(alloc, text, assumption, conclusion)
+            write_assumed(alloc, text, assumption.get(), conclusion.get())
         }
-        Subgoal::FixShow(name, body) => write_fixed(alloc, text, name, body),
+        Subgoal::FixShow(name, body) => write_fixed(alloc, text, name, body.get()),
     }
 }
 

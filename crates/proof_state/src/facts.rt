@@ -2,6 +2,7 @@ ghost use Rattle.std.specs.Prelude.{◌≡◌, [], ◌∷◌, IfOk};
 ghost use Rattle.std.specs.List.{cons_option, list_any};
 ghost use Rattle.proof_state.specs.Fresh.{is_in};
 ghost use Rattle.proof_state.specs.Named.{as_local, named};
+ghost use Rattle.proof_state.specs.Kept.{AreFree};
 
 use crate::local_fact::LocalFact;
 use shared_map::{ListItems, SharedList};
@@ -64,10 +65,19 @@ impl Facts {
     pub(crate) fn with_first(&self, alloc: Global, fact: LocalFact) -> Result<Facts, AllocError>
         ensures { IfOk result (λ facts. facts ≡ fact ∷ self.now) }
     {
-        let cited = with_named(alloc, &self.cited, &fact)?;
-        let free = self.free.with_formula(alloc, &fact.formula)?;
+        let (cited, free) = self.kept_with(alloc, &fact)?;
         let all = self.all.with_first(alloc, fact)?;
         Ok(Facts { all, cited, free })
+    }
+
+    /// What is kept beside these facts and this one.
+    fn kept_with(&self, alloc: Global, fact: &LocalFact) -> Result<(Locals, NameSet), AllocError>
+        ensures { IfOk result (λ kept. (kept.0 ≡ named (fact.now ∷ self.now))
+            × AreFree kept.1 (fact.now ∷ self.now)) }
+    {
+        let cited = with_named(alloc, &self.cited, fact)?;
+        let free = self.free.with_formula(alloc, fact.formula.get())?;
+        Ok((cited, free))
     }
 
     /// They themselves, lent.
@@ -97,7 +107,7 @@ fn with_named(alloc: Global, locals: &Locals, fact: &LocalFact) -> Result<Locals
     ensures { IfOk result (λ more. more ≡ cons_option (as_local fact.now) locals.now) }
 {
     match &fact.name {
-        Some(name) => locals.with_first(alloc, name, &fact.formula),
+        Some(name) => locals.with_first(alloc, name, fact.formula.get()),
         None => locals.copy(),
     }
 }

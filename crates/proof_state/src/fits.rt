@@ -57,9 +57,9 @@ fn concludes(
 {
     match subgoal {
         Subgoal::Show(conclusion) | Subgoal::AssumeShow(_, conclusion) => {
-            Ok(says_same(shown, conclusion))
+            Ok(says_same(shown, conclusion.get()))
         }
-        Subgoal::FixShow(_, body) => is_instance(alloc, fixed, shown, body),
+        Subgoal::FixShow(_, body) => is_instance(alloc, fixed, shown, body.get()),
     }
 }
 
@@ -96,7 +96,7 @@ fn are_assumed(facts: &Facts, subgoal: &Subgoal) -> bool
         (map (λ fact. fact.formula) (filter is_assumption facts.now)) }
 {
     for fact in facts.iter() {
-        if fact.is_assumption() && !is_assumed(&fact.formula, subgoal) {
+        if fact.is_assumption() && !is_assumed(fact.formula.get(), subgoal) {
             return false;
         }
     }
@@ -107,7 +107,7 @@ fn is_assumed(assumption: &Formula, subgoal: &Subgoal) -> bool
     ensures { result ≡ list_any (says_same assumption.now) (assumed subgoal.now) }
 {
     match subgoal {
-        Subgoal::AssumeShow(other, _) => says_same(assumption, other),
+        Subgoal::AssumeShow(other, _) => says_same(assumption, other.get()),
         Subgoal::Show(_) | Subgoal::FixShow(_, _) => false,
     }
 }

@@ -1,8 +1,8 @@
 use crate::block::Block;
-use nj_formula::Name;
+use nj_formula::{Name, Shared};
 
 /// What an inner goal is shown for.
-#[derive(Debug, Drop)]
+#[derive(Drop)]
 pub(crate) enum Purpose {
     /// `have`: to be a fact of the block, of this name.
     Have(Option<Name>),
@@ -13,6 +13,6 @@ pub(crate) enum Purpose {
 /// A block, and what the goal inside it is shown for.
 #[derive(Drop)]
 pub(crate) struct Frame {
-    pub(crate) block: Block,
+    pub(crate) block: Shared<Block>,
     pub(crate) purpose: Purpose,
 }

@@ -18,14 +18,14 @@ pub(crate) fn is_taken(ctx: &Ctx, name: &str, block: &Block, around: &Around) ->
 fn is_used(name: &str, block: &Block) -> bool
     ensures { result ≡ is_used name.now block.now }
 {
-    block.variables.has(name) || block.goal.has_free(name) || block.facts.has_free(name)
+    block.variables.has(name) || block.goal.get().has_free(name) || block.facts.has_free(name)
 }
 
 fn is_used_around(name: &str, around: &Around) -> bool
     ensures { result ≡ list_any (λ frame. is_used name.now frame.block) around.now }
 {
     for frame in around.iter() {
-        if is_used(name, &frame.block) {
+        if is_used(name, frame.block.get()) {
             return true;
         }
     }

@@ -31,8 +31,8 @@ impl Levels {
         match self {
             Levels::Closed => Ok(Levels::Closed),
             Levels::Prove { goal, around } => Ok(Levels::Prove {
-                goal: goal.copy(alloc)?,
                 around: around.copy()?,
+                goal: goal.copy(alloc)?,
             }),
             Levels::State { block, around } => Ok(Levels::State {
                 block: block.copy()?,

@@ -62,8 +62,8 @@ impl Proof {
         ensures step { Gives (step (proof dash) self.old) (left result self.new) }
         ensures err { OnErr result (self.new ≡ self.old) }
     {
-        self.levels = self.levels.after_proof(alloc, dash)?;
-        Ok(())
+        let made = self.levels.after_proof(alloc, dash);
+        self.take(made)
     }
 
     /// `fix`: the name joins the block's variables. `NotAllowed` in mode prove and after the end;
@@ -73,8 +73,8 @@ impl Proof {
         ensures step { Gives (step (fix ctx.now name.now) self.old) (left result self.new) }
         ensures err { OnErr result (self.new ≡ self.old) }
     {
-        self.levels = self.levels.after_fix(alloc, name, ctx)?;
-        Ok(())
+        let made = self.levels.after_fix(alloc, name, ctx);
+        self.take(made)
     }
 
     /// `assume`: the formula joins the block's assumptions. `NotAllowed` in mode prove and after
@@ -90,8 +90,8 @@ impl Proof {
         ensures err { OnErr result (self.new ≡ self.old) }
     {
         let name = held(alloc, name)?;
-        self.levels = self.levels.after_assume(alloc, name, formula)?;
-        Ok(())
+        let made = self.levels.after_assume(alloc, name, formula);
+        self.take(made)
     }
 
     /// `have`: opens a goal, which joins the block's facts when it is closed. `NotAllowed` in mode
@@ -107,8 +107,8 @@ impl Proof {
         ensures err { OnErr result (self.new ≡ self.old) }
     {
         let name = held(alloc, name)?;
-        self.levels = self.levels.after_have(alloc, name, formula)?;
-        Ok(())
+        let made = self.levels.after_have(alloc, name, formula);
+        self.take(made)
     }
 
     /// `show`: opens a goal for the first pending subgoal of the block that fits, which is no
@@ -118,8 +118,8 @@ impl Proof {
         ensures step { Gives (step (show formula) self.old) (left result self.new) }
         ensures err { OnErr result (self.new ≡ self.old) }
     {
-        self.levels = self.levels.after_show(alloc, formula)?;
-        Ok(())
+        let made = self.levels.after_show(alloc, formula);
+        self.take(made)
     }
 
     /// `next`: the block has no variables, assumptions and facts any more. `NotAllowed` in mode
@@ -128,8 +128,8 @@ impl Proof {
         ensures step { Gives (step next self.old) (left result self.new) }
         ensures err { OnErr result (self.new ≡ self.old) }
     {
-        self.levels = self.levels.after_next(alloc)?;
-        Ok(())
+        let made = self.levels.after_next(alloc);
+        self.take(made)
     }
 
     /// `qed`: closes the block's goal, and tells whether it is the goal given at the start.
@@ -140,7 +140,8 @@ impl Proof {
         ensures whole { IfOk result (λ whole. whole ≡ is_closed self.new) }
         ensures err { OnErr result (self.new ≡ self.old) }
     {
-        self.levels = self.levels.after_qed(alloc)?;
+        let made = self.levels.after_qed(alloc);
+        self.take(made)?;
         Ok(self.levels.is_closed())
     }
 
@@ -151,8 +152,18 @@ impl Proof {
         ensures whole { IfOk result (λ whole. whole ≡ is_closed self.new) }
         ensures err { OnErr result (self.new ≡ self.old) }
     {
-        self.levels = self.levels.after_by(alloc)?;
+        let made = self.levels.after_by(alloc);
+        self.take(made)?;
         Ok(self.levels.is_closed())
+    }
+
+    /// Takes these levels for its own, unless a command was refused.
+    fn take(&mut self, made: Result<Levels, ProofFault>) -> Result<(), ProofFault>
+        ensures taken { left result self.new ≡ made }
+        ensures err { OnErr result (self.new ≡ self.old) }
+    {
+        self.levels = made?;
+        Ok(())
     }
 
     /// The proof as `by` leaves it, beside this one.

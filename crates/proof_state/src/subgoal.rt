@@ -1,19 +1,21 @@
 ghost use Rattle.std.specs.Prelude.{◌≡◌, [], ◌∷◌, IfOk, remove};
+ghost use Rattle.nj_formula.specs.declared.formula.Formula.TheVariants.{False};
+ghost use Rattle.proof_state.specs.declared.subgoal.Subgoal.TheVariants.{Show, AssumeShow, FixShow};
 ghost use Rattle.proof_state.specs.Subgoals.{subgoals_of};
 
-use nj_formula::{Formula, Name};
+use nj_formula::{Formula, Name, Shared};
 use sqlite_items::Items;
 use std::alloc::{AllocError, Global};
 
 /// What is left to show of the goal of a block.
-#[derive(Debug, Drop)]
+#[derive(Drop)]
 pub(crate) enum Subgoal {
     /// The conclusion.
-    Show(Formula),
+    Show(Shared<Formula>),
     /// The conclusion, after the assumption that it may be shown from.
-    AssumeShow(Formula, Formula),
+    AssumeShow(Shared<Formula>, Shared<Formula>),
     /// The body of a quantifier, for a name that is fixed; the name is the quantifier's.
-    FixShow(Name, Formula),
+    FixShow(Name, Shared<Formula>),
 }
 
 impl Subgoal {
@@ -21,49 +23,86 @@ impl Subgoal {
         ensures { IfOk result (λ subgoal. subgoal ≡ self.now) }
     {
         match self {
-            Subgoal::Show(conclusion) => Ok(Subgoal::Show(conclusion.copy(alloc)?)),
-            Subgoal::AssumeShow(assumption, conclusion) => Ok(Subgoal::AssumeShow(
-                assumption.copy(alloc)?,
-                conclusion.copy(alloc)?,
-            )),
-            Subgoal::FixShow(name, body) => {
-                Ok(Subgoal::FixShow(name.copy(alloc)?, body.copy(alloc)?))
-            }
+            Subgoal::Show(conclusion) => show(conclusion),
+            Subgoal::AssumeShow(assumption, conclusion) => assume_show(assumption, conclusion),
+            Subgoal::FixShow(name, body) => fix_show(alloc, name, body),
         }
     }
+}
+
+fn show(conclusion: &Shared<Formula>) -> Result<Subgoal, AllocError>
+    ensures { IfOk result (λ subgoal. subgoal ≡ Show conclusion.now) }
+{
+    Ok(Subgoal::Show(conclusion.copy()?))
+}
+
+fn assume_show(
+    assumption: &Shared<Formula>,
+    conclusion: &Shared<Formula>,
+) -> Result<Subgoal, AllocError>
+    ensures { IfOk result (λ subgoal. subgoal ≡ AssumeShow assumption.now conclusion.now) }
+{
+    let assumption = assumption.copy()?;
+    let conclusion = conclusion.copy()?;
+    Ok(Subgoal::AssumeShow(assumption, conclusion))
+}
+
+fn fix_show(alloc: Global, name: &Name, body: &Shared<Formula>) -> Result<Subgoal, AllocError>
+    ensures { IfOk result (λ subgoal. subgoal ≡ FixShow name.now body.now) }
+{
+    let name = name.copy(alloc)?;
+    let body = body.copy()?;
+    Ok(Subgoal::FixShow(name, body))
 }
 
 /// The subgoals of a goal: with a dash the goal alone, else those of its introduction.
 pub(crate) fn subgoals_of(
     alloc: Global,
-    goal: &Formula,
+    goal: &Shared<Formula>,
     dash: bool,
 ) -> Result<Items<Subgoal>, AllocError>
     ensures { IfOk result (λ subgoals. subgoals ≡ subgoals_of dash goal.now) }
 {
-    let mut subgoals = Items::new(alloc);
     if dash {
-        subgoals.push(Subgoal::Show(goal.copy(alloc)?))?;
-        return Ok(subgoals);
+        return only(alloc, show(goal)?);
     }
-    match goal {
-        Formula::Implies(a, b) => {
-            subgoals.push(Subgoal::AssumeShow(a.get().copy(alloc)?, b.get().copy(alloc)?))?;
-        }
-        Formula::Not(a) => {
-            subgoals.push(Subgoal::AssumeShow(a.get().copy(alloc)?, Formula::False))?;
-        }
-        Formula::And(a, b) => {
-            subgoals.push(Subgoal::Show(a.get().copy(alloc)?))?;
-            subgoals.push(Subgoal::Show(b.get().copy(alloc)?))?;
-        }
-        Formula::All(name, body) => {
-            subgoals.push(Subgoal::FixShow(name.copy(alloc)?, body.get().copy(alloc)?))?;
-        }
+    match goal.get() {
+        Formula::Implies(a, b) => only(alloc, assume_show(a, b)?),
+        Formula::Not(a) => denied(alloc, a),
+        Formula::And(a, b) => both(alloc, a, b),
+        Formula::All(name, body) => only(alloc, fix_show(alloc, name, body)?),
         Formula::False | Formula::Atom(_, _) | Formula::Or(_, _) | Formula::Exists(_, _) => {
-            subgoals.push(Subgoal::Show(goal.copy(alloc)?))?;
+            only(alloc, show(goal)?)
         }
     }
+}
+
+fn only(alloc: Global, subgoal: Subgoal) -> Result<Items<Subgoal>, AllocError>
+    ensures { IfOk result (λ subgoals. subgoals ≡ subgoal ∷ []) }
+{
+    let mut subgoals = Items::new(alloc);
+    subgoals.push(subgoal)?;
+    Ok(subgoals)
+}
+
+/// Falsity, from the formula.
+fn denied(alloc: Global, formula: &Shared<Formula>) -> Result<Items<Subgoal>, AllocError>
+    ensures { IfOk result (λ subgoals. subgoals ≡ AssumeShow formula.now False ∷ []) }
+{
+    let falsity = Shared::new(alloc, Formula::False)?;
+    only(alloc, assume_show(formula, &falsity)?)
+}
+
+/// Two conclusions.
+fn both(
+    alloc: Global,
+    one: &Shared<Formula>,
+    other: &Shared<Formula>,
+) -> Result<Items<Subgoal>, AllocError>
+    ensures { IfOk result (λ subgoals. subgoals ≡ Show one.now ∷ Show other.now ∷ []) }
+{
+    let mut subgoals = only(alloc, show(one)?)?;
+    subgoals.push(show(other)?)?;
     Ok(subgoals)
 }
 

@@ -1,13 +1,15 @@
-use Rattle.std.proofs.Common.{◌||◌, sym, ◌∙◌, ap}
-use Rattle.std.specs.List.{cons_option, list_any}
+use Rattle.std.proofs.Common.{◌≡◌, ◌∷◌, sym, ◌∙◌, ap}
+use Rattle.std.specs.List.{list_any}
 use Rattle.nj_formula.specs.Meaning.{meaning}
 use Rattle.nj_formula.specs.Free.{is_free}
-use Rattle.proof_state.specs.Named.{as_local, named}
+use Rattle.proof_state.specs.Named.{named}
 use Rattle.proof_state.proofs.facts.Facts.with_first.Goals as goal
 
 pub invariant_of-result : goal.invariant_of-result
-invariant_of-result c = (
-  c.in_ok-cited.ensures ∙ ap (cons_option (as_local c.args.fact)) c.self.invariant.0 ∙ sym (ap named c.in_ok-all.ensures),
-  λ x. c.in_ok-free.ensures x ∙ ap (λ b. is_free x (meaning c.args.fact.formula) || b) (c.self.invariant.1 x)
-      ∙ sym (ap (list_any (λ fact. is_free x (meaning fact.formula))) c.in_ok-all.ensures),
-)
+invariant_of-result c =
+    let all_is : c.in_ok-all.all ≡ c.args.fact ∷ c.args.self.now =
+    c.in_ok-all.ensures ∙ ap (λ l. c.args.fact ∷ l) c.self.view_is in (
+      c.in_ok-cited.ensures.0 ∙ sym (ap named all_is),
+      λ x. c.in_ok-cited.ensures.1 x
+          ∙ sym (ap (list_any (λ fact. is_free x (meaning fact.formula))) all_is),
+    )
