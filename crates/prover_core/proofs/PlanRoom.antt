@@ -6,7 +6,8 @@ use Rattle.std.specs.Prelude.{flat_map, min}
 use Rattle.import_rounds.specs.Rounds.{has}
 use Rattle.doc_versions.specs.Live.{History, tip_of}
 use Rattle.exec_table.specs.declared.execution.Execution.{Execution}
-use Rattle.task_queue.specs.declared.task.Standing.{Standing as Task}
+use Rattle.task_queue.specs.declared.task.Standing.{Standing}
+use Rattle.task_queue.specs.declared.task.Task.{Task}
 use Rattle.exec_rules.specs.declared.home.Home.{Home}
 use Rattle.exec_rules.specs.declared.version.Version.{Version}
 use Rattle.language.specs.Lang.{Lang}
@@ -14,12 +15,10 @@ use Rattle.core_rules.specs.declared.event.Event.{Event}
 use Rattle.core_rules.specs.Doc.{doc}
 use Rattle.core_jobs.specs.declared.done.Done.{Done}
 use Rattle.update_plans.specs.declared.beginning.Fresh.{Fresh}
-use Rattle.update_plans.specs.declared.steps.Steps.{Steps}
 use Rattle.core_rules.specs.Numbered.{next_number}
 use Rattle.version_losses.specs.declared.losses.Loss.{Loss}
 use Rattle.version_losses.specs.Losses.{AreLosses}
 use Rattle.prover_core.specs.Plans.{PlanState, HasRoom}
-use Rattle.prover_core.specs.Planned.{plan_of}
 use Rattle.prover_core.proofs.FreshAll.{links_of}
 use Rattle.prover_core.specs.Tasks.{HasTask}
 use Rattle.prover_core.specs.Kept.{Tables, IsKept}
@@ -62,7 +61,7 @@ links_turned (one ∷ fresh) =
 
 -- more room changes nothing of what is kept
 pub roomy_tables : {S : Type 0} (l : Lang S) (h : List Event) (t : Tables S) → IsKept l h t
-    → (versions : History Version) (losses : List Loss) (rows : ℕ → Option (Execution (Done S))) (homes : ℕ → Option Home) (tasks : ℕ → Option Task) (room count : ℕ) (cancelled : List ℕ) (spare : ℕ)
+    → (versions : History Version) (losses : List Loss) (rows : ℕ → Option (Execution (Done S))) (homes : ℕ → Option Home) (tasks : ℕ → Option Standing) (room count : ℕ) (cancelled : List ℕ) (spare : ℕ)
     → versions.start ≡ t.versions.start → versions.live ≡ t.versions.live → losses ≡ t.losses → ((e : ℕ) → rows e ≡ t.rows e) → ((e : ℕ) → homes e ≡ t.homes e)
     → ((e : ℕ) → tasks e ≡ t.tasks e) → t.room ≤ room → count ≡ t.count → cancelled ≡ t.cancelled → t.spare ≤ spare
     → IsKept l h (tables_with t versions losses t.next rows homes tasks room count cancelled spare)
@@ -93,23 +92,31 @@ roomy_tables l h t k versions losses rows homes tasks room count cancelled spare
     alike = ap (λ s. record { start = s; live = versions.live; room = t.versions.room }) begins
         ∙ ap (λ ls. record { start = t.versions.start; live = ls; room = t.versions.room }) lives
 
--- the room is enough for the plan of these steps
-pub room_for : (id : ℕ) (s : Steps) (p : PlanState) (fresh : List Fresh) (versions losses execs known queue held links count spare : ℕ) → p ≡ plan_of id s → fresh ≡ s.fresh.items
+-- the room is enough for a plan with these new executions
+pub room_for : (p : PlanState) (fresh all : List Fresh) (versions losses execs known queue held links count spare : ℕ)
+    → map (λ (x : Fresh). x.task) (reverse all) ≡ p.tasks → fresh ≡ all
     → 1 ≤ versions → 1 ≤ losses → length fresh ≤ execs → length fresh ≤ known → length fresh + held ≤ queue → length (flat_map inputs_of fresh) ≤ links
     → length fresh + count ≤ spare
     → HasRoom (record { versions = min versions losses; executions = min (min execs known) (spare - count); tasks = queue - held; links = links }) p
-room_for id s p fresh versions losses execs known queue held links count spare same are some one fit stay wait link note =
-    subst (HasRoom (record { versions = min versions losses; executions = min (min execs known) (spare - count); tasks = queue - held; links = links })) (sym same) (record {
-      versions = le-min 1 versions losses some one;
-      executions = le-min (length (map (λ (x : Fresh). x.task) (reverse s.fresh.items))) (min execs known) (spare - count)
-          (le-min (length (map (λ (x : Fresh). x.task) (reverse s.fresh.items))) execs known (omega (arith, as_many, fit)) (omega (arith, as_many, stay)))
-          (omega (arith, as_many, note));
-      tasks = omega (arith, as_many, wait);
-      links = omega (arith, links_of (reverse s.fresh.items), links_turned s.fresh.items, ap (λ (xs : List Fresh). length (flat_map inputs_of xs)) are, link);
-    })
+room_for p fresh all versions losses execs known queue held links count spare tasks are some one fit stay wait link note = record {
+  versions = le-min 1 versions losses some one;
+  executions = le-min (length p.tasks) (min execs known) (spare - count)
+      (le-min (length p.tasks) execs known (omega (arith, as_many, fit)) (omega (arith, as_many, stay)))
+      (omega (arith, as_many, note));
+  tasks = omega (arith, as_many, wait);
+  links = omega (
+    arith,
+    ap (λ (ts : List Task). length (flat_map (λ (t : Task). t.inputs) ts)) tasks,
+    links_of (reverse all),
+    links_turned all,
+    ap (λ (xs : List Fresh). length (flat_map inputs_of xs)) are,
+    link,
+  );
+}
   where
-    as_many : length (map (λ (x : Fresh). x.task) (reverse s.fresh.items)) ≡ length fresh
-    as_many = length-map (reverse s.fresh.items) (λ (x : Fresh). x.task) ∙ length-reverse s.fresh.items ∙ sym (ap (λ (xs : List Fresh). length xs) are)
+    as_many : length p.tasks ≡ length fresh
+    as_many = ap (λ (ts : List Task). length ts) (sym tasks) ∙ length-map (reverse all) (λ (x : Fresh). x.task) ∙ length-reverse all
+        ∙ sym (ap (λ (xs : List Fresh). length xs) are)
 
     le-min : (n a b : ℕ) → n ≤ a → n ≤ b → n ≤ min a b
     le-min n a b x y = omega (arith, x, y)

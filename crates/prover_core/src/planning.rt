@@ -3,6 +3,7 @@ ghost use Rattle.std.specs.Prelude.{◌≡◌, ◌≤◌, ◌<◌, false, Err, I
 ghost use Rattle.pide_base.specs.Ids.{id_end};
 ghost use Rattle.exec_assign.specs.declared.fault.AssignFault.TheVariants.{Limit};
 ghost use Rattle.exec_assign.specs.Untouched.{AreChanged};
+ghost use Rattle.core_rules.specs.declared.event.Event.TheVariants.{Update};
 ghost use Rattle.core_rules.specs.Standing.{has_ended};
 ghost use Rattle.core_rules.specs.Doc.{doc, assignment_of};
 ghost use Rattle.core_rules.specs.Updates.{FitsUpdate};
@@ -18,9 +19,9 @@ use core_rules::Event;
 use doc_nodes::{Nodes, Shared};
 use doc_versions::Version as SharedVersion;
 use exec_assign::{AssignFault, ChangedBlobs};
-use exec_rules::Blobs;
+use exec_rules::{Blobs, Version};
 use language::Language;
-use pide_base::VersionId;
+use pide_base::{ExecId, VersionId};
 use sqlite_items::Items;
 use std::alloc::{AllocError, Global};
 use update_plans::{Steps, work_out};
@@ -58,6 +59,17 @@ impl<L: Language> Core<L> {
             → id_end < (assignment_of (doc L.lang self.old.past) nodes.now blobs.now).next }
     {
         let steps = self.steps(alloc, id, nodes, blobs, changed, marks)?;
+        let plan = planned(alloc, id, steps)?;
+        let roomy = self.with_room(plan)?;
+        Ok(roomy)
+    }
+
+    /// The same plan, once there is room for it.
+    fn with_room(&mut self, plan: Plan) -> Result<Plan, AllocError>
+        ensures past { self.new.past ≡ self.old.past }
+        ensures same { IfOk result (λ roomy. roomy ≡ plan) }
+        ensures room { IfOk result (λ roomy. HasRoom self.new.room roomy) }
+    {
         make_room(
             &mut self.versions,
             &mut self.losses,
@@ -66,9 +78,8 @@ impl<L: Language> Core<L> {
             &mut self.queue,
             &mut self.cancelled,
             self.holders.len(),
-            &steps.fresh,
+            &plan.fresh,
         )?;
-        let plan = planned(alloc, id, steps)?;
         Ok(plan)
     }
 
@@ -114,6 +125,7 @@ impl<L: Language> Core<L> {
 fn planned(alloc: Global, id: VersionId, steps: Steps) -> Result<Plan, AllocError>
     ensures { IfOk result (λ plan. plan ≡ plan_of id steps) }
 {
+    let event = event_of(id, &steps.version)?;
     let Steps {
         version,
         next,
@@ -122,19 +134,7 @@ fn planned(alloc: Global, id: VersionId, steps: Steps) -> Result<Plan, AllocErro
         sights,
         told,
     } = steps;
-    let event = Event::Update {
-        version: id,
-        nodes: version.nodes.copy()?,
-        blobs: version.blobs.copy()?,
-    };
-    let version = match SharedVersion::new(alloc, version) {
-        Ok(version) => version,
-        Err(_) => return Err(AllocError),
-    };
-    let dropped = match Shared::new(alloc, Items::from_vec(dropped)) {
-        Ok(dropped) => dropped,
-        Err(_) => return Err(AllocError),
-    };
+    let (version, dropped) = shared(alloc, version, dropped)?;
     Ok(Plan {
         id,
         version,
@@ -145,4 +145,33 @@ fn planned(alloc: Global, id: VersionId, steps: Steps) -> Result<Plan, AllocErro
         sights,
         told,
     })
+}
+
+/// What happens when this version is made.
+fn event_of(id: VersionId, version: &Version) -> Result<Event, AllocError>
+    ensures { IfOk result (λ event. event ≡ Update id version.now.nodes version.now.blobs) }
+{
+    Ok(Event::Update {
+        version: id,
+        nodes: version.nodes.copy()?,
+        blobs: version.blobs.copy()?,
+    })
+}
+
+/// The version and what it drops, to be shared.
+fn shared(
+    alloc: Global,
+    version: Version,
+    dropped: Vec<ExecId>,
+) -> Result<(SharedVersion<Version>, Shared<Items<ExecId>>), AllocError>
+    ensures version { IfOk result (λ both. both.0 ≡ version) }
+    ensures dropped { IfOk result (λ both. both.1 ≡ dropped.items) }
+{
+    let Ok(version) = SharedVersion::new(alloc, version) else {
+        return Err(AllocError);
+    };
+    let Ok(dropped) = Shared::new(alloc, Items::from_vec(dropped)) else {
+        return Err(AllocError);
+    };
+    Ok((version, dropped))
 }

@@ -48,6 +48,61 @@ pub(crate) fn make_room<R: Drop>(
     ensures cancelled_fit { OnOk result
         (length fresh.now + length queue.new.tasks ≤ vec_capacity cancelled.new) }
 {
+    make_version_room(versions, losses)?;
+    make_row_room(execs, known, fresh.len())?;
+    make_task_room(queue, cancelled, held, fresh)
+}
+
+/// Makes room for one version more.
+fn make_version_room(
+    versions: &mut Versions<Version>,
+    losses: &mut Losses,
+) -> Result<(), AllocError>
+    ensures start { versions.new.start ≡ versions.old.start }
+    ensures live { versions.new.live ≡ versions.old.live }
+    ensures losses { losses.new.losses ≡ losses.old.losses }
+    ensures versions_fit { OnOk result (1 ≤ versions.new.room) }
+    ensures losses_fit { OnOk result (1 ≤ losses.new.room) }
+{
+    versions.reserve(1)?;
+    losses.reserve(1)
+}
+
+/// Makes room for so many executions more.
+fn make_row_room<R: Drop>(
+    execs: &mut Execs<R>,
+    known: &mut Table<Known>,
+    count: usize,
+) -> Result<(), AllocError>
+    ensures rows { (e : ℕ) → execution_of execs.new.rows e ≡ execution_of execs.old.rows e }
+    ensures known { (e : ℕ) → looked known.new e ≡ looked known.old e }
+    ensures executions_fit { OnOk result (count ≤ execs.new.room) }
+    ensures known_fit { OnOk result (count ≤ spare known.new) }
+{
+    execs.reserve(count)?;
+    reserve(known, count)
+}
+
+/// Makes room for the tasks of these executions, beside the forks of all that is held; and for
+/// noting all that has a task then as cancelled.
+fn make_task_room(
+    queue: &mut TaskQueue,
+    cancelled: &mut Vec<ExecId>,
+    held: usize,
+    fresh: &[Fresh],
+) -> Result<(), AllocError>
+    ensures tasks { (e : ℕ) → standing queue.new e ≡ standing queue.old e }
+    ensures count { length queue.new.tasks ≡ length queue.old.tasks }
+    ensures room { queue.old.room ≤ queue.new.room }
+    ensures cancelled { cancelled.new.items ≡ cancelled.old.items }
+    ensures len { vec_len cancelled.new ≡ vec_len cancelled.old }
+    ensures capacity { vec_capacity cancelled.old ≤ vec_capacity cancelled.new }
+    ensures tasks_fit { OnOk result (length fresh.now + held ≤ queue.new.room) }
+    ensures links_fit { OnOk result
+        (length (flat_map (λ one. one.task.inputs) fresh.now) ≤ queue.new.links) }
+    ensures cancelled_fit { OnOk result
+        (length fresh.now + length queue.new.tasks ≤ vec_capacity cancelled.new) }
+{
     let count = fresh.len();
     let Some(tasks) = count.checked_add(held) else {
         return Err(AllocError);
@@ -58,10 +113,6 @@ pub(crate) fn make_room<R: Drop>(
     let Some(cancellable) = count.checked_add(queue.count()) else {
         return Err(AllocError);
     };
-    versions.reserve(1)?;
-    losses.reserve(1)?;
-    execs.reserve(count)?;
-    reserve(known, count)?;
     cancelled.reserve(cancellable)?;
     queue.reserve(tasks, links)
 }
