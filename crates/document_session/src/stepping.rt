@@ -1,5 +1,9 @@
 //! Messages that tell a worker to take a part, or to end it.
-ghost use Rattle.std.specs.Prelude.{◌≡◌, false, IfOk, OnErr, Ok};
+ghost use Rattle.std.specs.Prelude.{◌≡◌, ◌+◌, ◌^◌, ◌<◌, ◌≤◌, ℕ, false, IfOk, OnOk, OnErr, Ok};
+ghost use Rattle.std.specs.HashMap.{spare};
+ghost use Rattle.prover_core.specs.Looked.{looked};
+ghost use Rattle.reply_writing.specs.declared.told.Told.TheVariants as tells;
+ghost use Rattle.session_replies.specs.Spelling.{spelling};
 ghost use Rattle.core_rules.specs.Standing.{has_ended};
 ghost use Rattle.message_values.specs.Asked.{asked};
 ghost use Rattle.message_values.specs.Workers.{IsWorker};
@@ -11,7 +15,7 @@ ghost use Rattle.document_session.specs.Answers.{TakenSo};
 
 use crate::answering::make_room;
 use crate::session::Session;
-use crate::table::{put, reserve_one, take_out};
+use crate::table::{Table, put, reserve_one, take_out};
 use crate::taking::Taken;
 use crate::working::take_in;
 use byte_message::Message;
@@ -21,7 +25,7 @@ use message_values::{Refusal, Worker, a_message_is_asked_where_it_is_spelled};
 use past_items::Past;
 use pide_base::{Part, Stop};
 use prover_core::Claim as CoreClaim;
-use reply_outbox::Item;
+use reply_outbox::{Item, Outbox};
 use session_jobs::{SessionJob, SessionRan};
 use session_replies::{claimed, dropped};
 use session_rules::{Entry, Service};
@@ -61,14 +65,11 @@ impl<L: Language, P: Past<Item<Service, Entry>> + Drop> Session<L, P> {
     {
         step_laws::<L>();
         a_message_is_asked_where_it_is_spelled();
-        make_room(&mut self.outbox, self.held, 3)?;
-        reserve_one(&mut self.jobs)?;
-        let Some(first) = self.core.first() else {
+        make_step_room(&mut self.outbox, &mut self.jobs, self.held, 3)?;
+        let Some(part) = self.core.first() else {
             return self.refuse(alloc, message, Refusal::NothingToStep);
         };
-        let Part { exec, kind } = first;
-        let claimed = claimed(alloc, worker, Part { exec, kind })?;
-        let dropped = dropped(alloc, Part { exec, kind })?;
+        let (claimed, dropped) = claim_replies(alloc, worker, &part)?;
         let who = number_of(worker);
         match self.core.claim(alloc, lang, who) {
             CoreClaim::Nothing => self.refuse(alloc, message, Refusal::NothingToStep),
@@ -82,7 +83,6 @@ impl<L: Language, P: Past<Item<Service, Entry>> + Drop> Session<L, P> {
                 self.held += 1;
                 self.called = true;
                 self.outbox.add(Entry::Call(message), None);
-                let part = Part { exec, kind };
                 self.outbox.add(Entry::Claimed { who, part }, Some(claimed));
                 Ok(Taken::Replied)
             }
@@ -111,8 +111,7 @@ impl<L: Language, P: Past<Item<Service, Entry>> + Drop> Session<L, P> {
         job_law::<L>();
         a_message_is_asked_where_it_is_spelled();
         let who = number_of(worker);
-        make_room(&mut self.outbox, self.held, 2)?;
-        reserve_one(&mut self.jobs)?;
+        make_step_room(&mut self.outbox, &mut self.jobs, self.held, 2)?;
         let Some(job) = take_out(&mut self.jobs, who) else {
             return self.refuse(alloc, message, Refusal::NothingToStep);
         };
@@ -129,6 +128,50 @@ impl<L: Language, P: Past<Item<Service, Entry>> + Drop> Session<L, P> {
                 Err(AllocError)
             }
         }
+    }
+}
+
+/// Makes room for what a step adds to the list, and for the job of a worker.
+fn make_step_room<T: Drop, P: Past<Item<Service, Entry>> + Drop>(
+    outbox: &mut Outbox<Service, Entry, P>,
+    jobs: &mut Table<T>,
+    held: usize,
+    entries: usize,
+) -> Result<(), AllocError>
+    ensures items { outbox.new.items ≡ outbox.old.items }
+    ensures waiting { outbox.new.waiting ≡ outbox.old.waiting }
+    ensures free { outbox.old.free ≤ outbox.new.free }
+    ensures ok { OnOk result (held + 1 + entries ≤ outbox.new.free) }
+    ensures fits { OnOk result (held + 1 + entries < 2 ^ 64) }
+    ensures jobs { (w : ℕ) → looked jobs.new w ≡ looked jobs.old w }
+    ensures spare { OnOk result (0 < spare jobs.new) }
+{
+    make_room(outbox, held, entries)?;
+    reserve_one(jobs)
+}
+
+/// The replies to a worker that claims a part: that it has it, and that it let it go.
+fn claim_replies(
+    alloc: Global,
+    worker: Worker,
+    part: &Part,
+) -> Result<(Vec<u8>, Vec<u8>), AllocError>
+    ensures claimed { IfOk result (λ both. both.0.items
+        ≡ spelling (tells.Claimed worker part.now)) }
+    ensures dropped { IfOk result (λ both. both.1.items ≡ spelling (tells.Dropped part.now)) }
+{
+    let claimed = claimed(alloc, worker, same(part))?;
+    let dropped = dropped(alloc, same(part))?;
+    Ok((claimed, dropped))
+}
+
+/// The same part.
+fn same(part: &Part) -> Part
+    ensures { result ≡ part.now }
+{
+    Part {
+        exec: part.exec,
+        kind: part.kind,
     }
 }
 

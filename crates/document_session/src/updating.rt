@@ -1,6 +1,16 @@
 //! Updates.
-ghost use Rattle.std.specs.Prelude.{◌≡◌, false, IfOk, OnErr, Ok};
+ghost use Rattle.std.specs.Prelude.{◌≡◌, ◌+◌, ◌<◌, ◌≤◌, false, IfOk, OnErr, Ok, Err};
+ghost use Rattle.pide_base.specs.Ids.{id_end};
+ghost use Rattle.exec_assign.specs.declared.fault.AssignFault.TheVariants.{Limit};
+ghost use Rattle.exec_assign.specs.Untouched.{AreChanged};
+ghost use Rattle.update_plans.specs.Alive.{HaveCommands};
 ghost use Rattle.core_rules.specs.Standing.{has_ended};
+ghost use Rattle.core_rules.specs.Doc.{doc, assignment_of};
+ghost use Rattle.core_rules.specs.Updates.{FitsUpdate};
+ghost use Rattle.prover_core.specs.Plans.{IsPlanOf, HasRoom};
+ghost use Rattle.reply_writing.specs.declared.told.Told.TheVariants as tells;
+ghost use Rattle.session_replies.specs.Spelling.{spelling};
+ghost use Rattle.session_replies.specs.Assigned.{nodes_told};
 ghost use Rattle.message_values.specs.Asked.{asked};
 ghost use Rattle.message_values.specs.declared.editor_message.EditorMessage.TheVariants as asks;
 ghost use Rattle.session_rules.specs.Services.{mode_of};
@@ -20,7 +30,8 @@ use language::Language;
 use message_values::{BlobChange, Item as UpdateItem, Refusal};
 use past_items::Past;
 use pide_base::VersionId;
-use reply_outbox::Item;
+use prover_core::{Core, Plan};
+use reply_outbox::{Item, Outbox};
 use session_lists::history_law;
 use session_replies::assign;
 use session_rules::{Entry, Service};
@@ -80,25 +91,70 @@ impl<L: Language, P: Past<Item<Service, Entry>> + Drop> Session<L, P> {
         fits_law();
         history_law::<L>();
         update_law::<L>();
-        make_room(&mut self.outbox, self.held, 1)?;
-        let plan = match self.core.plan(
+        match plan_prepared(
             alloc,
+            &mut self.outbox,
+            &mut self.core,
+            self.held,
             version,
-            made.nodes(),
-            made.blobs(),
-            made.changed(),
-            made.untouched(),
+            &made,
         ) {
-            Err(AssignFault::NoMemory) => return Err(AllocError),
-            Err(AssignFault::Limit) => return self.refuse(alloc, message, Refusal::Limit),
-            Ok(plan) => plan,
-        };
-        let reply = assign(alloc, version, plan.assigned())?;
-        self.core.update(plan);
-        self.buffer.commit(made);
-        self.last = version.number();
-        self.called = true;
-        self.outbox.add(Entry::Call(message), Some(reply));
-        Ok(Taken::Replied)
+            Err(AssignFault::NoMemory) => Err(AllocError),
+            Err(AssignFault::Limit) => self.refuse(alloc, message, Refusal::Limit),
+            Ok((plan, reply)) => {
+                self.core.update(plan);
+                self.buffer.commit(made);
+                self.last = version.number();
+                self.called = true;
+                self.outbox.add(Entry::Call(message), Some(reply));
+                Ok(Taken::Replied)
+            }
+        }
     }
+}
+
+/// The plan of a version that was prepared, once there is room for one entry more, and the reply
+/// when it is made.
+fn plan_prepared<L: Language, P: Past<Item<Service, Entry>> + Drop>(
+    alloc: Global,
+    outbox: &mut Outbox<Service, Entry, P>,
+    core: &mut Core<L>,
+    held: usize,
+    version: VersionId,
+    made: &Prepared,
+) -> Result<(Plan, Vec<u8>), AssignFault>
+    requires going { has_ended core.old.past ≡ false }
+    requires fits { (assignment_of (doc L.lang core.old.past) made.now.after.nodes
+        made.now.after.document.blobs).next ≤ id_end → FitsUpdate (doc L.lang core.old.past) version
+        made.now.after.nodes made.now.after.document.blobs }
+    requires changed { AreChanged made.now.changed (doc L.lang core.old.past).tip.blobs
+        made.now.after.document.blobs }
+    requires commands { HaveCommands (doc L.lang core.old.past).tip made.now.after.nodes
+        made.now.untouched }
+    ensures items { outbox.new.items ≡ outbox.old.items }
+    ensures waiting { outbox.new.waiting ≡ outbox.old.waiting }
+    ensures free { outbox.old.free ≤ outbox.new.free }
+    ensures entry { IfOk result (λ both. held + 1 + 1 ≤ outbox.new.free) }
+    ensures past { core.new.past ≡ core.old.past }
+    ensures version { IfOk result (λ both. both.0.version ≡ version) }
+    ensures nodes { IfOk result (λ both. both.0.nodes ≡ made.now.after.nodes) }
+    ensures blobs { IfOk result (λ both. both.0.blobs ≡ made.now.after.document.blobs) }
+    ensures plan { IfOk result (λ both. IsPlanOf L.lang core.new.past both.0) }
+    ensures room { IfOk result (λ both. HasRoom core.new.room both.0) }
+    ensures reply { IfOk result (λ both. both.1.items
+        ≡ spelling (tells.Assign version (nodes_told both.0.told))) }
+    ensures limit { result ≡ Err Limit → id_end < (assignment_of (doc L.lang core.old.past)
+        made.now.after.nodes made.now.after.document.blobs).next }
+{
+    make_room(outbox, held, 1)?;
+    let plan = core.plan(
+        alloc,
+        version,
+        made.nodes(),
+        made.blobs(),
+        made.changed(),
+        made.untouched(),
+    )?;
+    let reply = assign(alloc, version, plan.assigned())?;
+    Ok((plan, reply))
 }

@@ -27,7 +27,7 @@ finishes g c =
 
 -- the worker has the job that is taken out
 worked : (g : Over) (c : In-Some g) → looked c.self.inside.jobs c.number_of-who.result ≡ Some c.in-Some.job
-worked g c = sym (c.reserve_one.ensures.things c.number_of-who.result) ∙ sym c.take_out.ensures.value ∙ c.in-Some.is
+worked g c = sym (c.make_step_room.ensures.jobs c.number_of-who.result) ∙ sym c.take_out.ensures.value ∙ c.in-Some.is
 
 -- so a part is held
 held_one : (g : Over) (c : In-Some g) → 1 ≤ c.self.inside.held
@@ -39,45 +39,45 @@ held_one g c =
 done_work : (g : Over) (c : In-Done g) → IsDoneWorkOf g.L.Language.lang (session_kept c.self.invariant) c.number_of-who.result c.in-Done.done
 done_work g c =
     let k = c.self.invariant in
-    let has = sym (c.reserve_one.ensures.things c.number_of-who.result) ∙ sym c.take_out.ensures.value ∙ c.in-Some.is in
+    let has = sym (c.make_step_room.ensures.jobs c.number_of-who.result) ∙ sym c.take_out.ensures.value ∙ c.in-Some.is in
     ended_work g.L.Language.lang c.self.inside.service (state_kept k) k c.number_of-who.result c.in-Some.job has c.in-Done.done c.in-Done.ensures c.job_law.ensures
 
 -- the entries of the message and of its step are added
 added : (g : Over) (c : After-take_in g) → IsStepAdded c.self.inside.outbox c.take_in.new.outbox c.args.message
     (entry_of c.take_in.result c.number_of-who.result c.in-Done.done.done.part) (spelling (told_of c.take_in.result c.in-Done.done)) (c.self.inside.held + 1)
 added g c =
-    step_added c.self.inside.outbox c.make_room.new.outbox c.add.new.self c.take_in.new.outbox c.args.message
+    step_added c.self.inside.outbox c.make_step_room.new.outbox c.add.new.self c.take_in.new.outbox c.args.message
     (entry_of c.take_in.result c.number_of-who.result c.in-Done.done.done.part) _ (spelling (told_of c.take_in.result c.in-Done.done)) c.self.inside.held 2 (c.self.inside.held + 1)
-    c.make_room.ensures.items c.make_room.ensures.waiting c.in_ok-make_room.ensures.ok (omega arith) c.add.ensures.items c.add.ensures.waiting
+    c.make_step_room.ensures.items c.make_step_room.ensures.waiting c.in_ok-make_step_room.ensures.ok (omega arith) c.add.ensures.items c.add.ensures.waiting
     c.add.ensures.free c.take_in.ensures.items c.take_in.ensures.waiting c.take_in.ensures.free refl
 
-pub invariant_of-self-in_err-reserve_one : goal.invariant_of-self-in_err-reserve_one
-invariant_of-self-in_err-reserve_one g c = still_kept g.L.Language.lang _ _ c.make_room.new.outbox _ _ _ _ _ c.self.invariant c.make_room.ensures.items
-    c.make_room.ensures.waiting c.make_room.ensures.free _ refl c.reserve_one.ensures.things
+pub invariant_of-self : goal.invariant_of-self
+invariant_of-self g c = still_kept g.L.Language.lang _ _ c.make_step_room.new.outbox _ _ _ _ _ c.self.invariant c.make_step_room.ensures.items
+    c.make_step_room.ensures.waiting c.make_step_room.ensures.free _ refl c.make_step_room.ensures.jobs
 
 pub invariant_of-self-in_default : goal.invariant_of-self-in_default
-invariant_of-self-in_default g c = still_kept g.L.Language.lang _ _ c.make_room.new.outbox _ _ _ _ _ c.self.invariant c.make_room.ensures.items
-    c.make_room.ensures.waiting c.make_room.ensures.free _ refl (λ w. none_taken c.number_of-who.result (λ v. looked c.reserve_one.new.table v) (λ v. looked c.take_out.new.table v)
-    (sym c.take_out.ensures.value ∙ c.in_default.is) c.take_out.ensures.others w ∙ c.reserve_one.ensures.things w)
+invariant_of-self-in_default g c = still_kept g.L.Language.lang _ _ c.make_step_room.new.outbox _ _ _ _ _ c.self.invariant c.make_step_room.ensures.items
+    c.make_step_room.ensures.waiting c.make_step_room.ensures.free _ refl (λ w. none_taken c.number_of-who.result (λ v. looked c.make_step_room.new.jobs v) (λ v. looked c.take_out.new.table v)
+    (sym c.take_out.ensures.value ∙ c.in_default.is) c.take_out.ensures.others w ∙ c.make_step_room.ensures.jobs w)
 
 pub refuse-requires-clause-going : goal.refuse-requires-clause-going
-refuse-requires-clause-going g c κs within = still_going g.L.Language.lang c.self.inside.service c.self.inside.outbox c.make_room.new.outbox _ c.self.view_is c.make_room.ensures.items c.make_room.ensures.waiting c.requires.going
+refuse-requires-clause-going g c κs within = still_going g.L.Language.lang c.self.inside.service c.self.inside.outbox c.make_step_room.new.outbox _ c.self.view_is c.make_step_room.ensures.items c.make_step_room.ensures.waiting c.requires.going
 
 pub refuse-requires-clause-refused : goal.refuse-requires-clause-refused
 refuse-requires-clause-refused g c κs within =
     let script = script_finishes c.self.inside.service ((c.a_message_is_asked_where_it_is_spelled.ensures (mode_of c.self.inside.service) c.args.message
     (asks.Finish c.args.worker)).0 (asked_inside c.self.inside.service c.self.inside.outbox _ c.self.view_is c.args.message _ c.requires.read)).2 in
-    nothing_finished g.L.Language.lang c.self.inside.service c.self.inside.outbox c.make_room.new.outbox (session_kept c.self.invariant) c.self.invariant.listed c.make_room.ensures.items c.args.message
+    nothing_finished g.L.Language.lang c.self.inside.service c.self.inside.outbox c.make_step_room.new.outbox (session_kept c.self.invariant) c.self.invariant.listed c.make_step_room.ensures.items c.args.message
     c.number_of-who.result (finishes g (goal.at.refuse-requires-clause-refused g c).After-take_out)
     (c.self.invariant.jobs_are.all c.number_of-who.result script c.number_of-who.ensures.range
-    (sym (c.reserve_one.ensures.things c.number_of-who.result) ∙ sym c.take_out.ensures.value ∙ c.in_default.is))
+    (sym (c.make_step_room.ensures.jobs c.number_of-who.result) ∙ sym c.take_out.ensures.value ∙ c.in_default.is))
 
 pub returns-in_default-clause-taken : goal.returns-in_default-clause-taken
 returns-in_default-clause-taken g c =
-    still_taken g.L.Language.lang c.self.inside.service c.self.inside.outbox c.make_room.new.outbox _ c.self.view_is c.make_room.ensures.items c.make_room.ensures.waiting c.args.message c.refuse.result c.refuse.new.self.items c.refuse.ensures.taken
+    still_taken g.L.Language.lang c.self.inside.service c.self.inside.outbox c.make_step_room.new.outbox _ c.self.view_is c.make_step_room.ensures.items c.make_step_room.ensures.waiting c.args.message c.refuse.result c.refuse.new.self.items c.refuse.ensures.taken
 
 pub returns-in_default-clause-err : goal.returns-in_default-clause-err
-returns-in_default-clause-err g c = still_err c.self.inside.service c.self.inside.outbox c.make_room.new.outbox _ c.self.view_is c.make_room.ensures.items c.make_room.ensures.waiting c.refuse.result c.refuse.new.self c.refuse.ensures.err
+returns-in_default-clause-err g c = still_err c.self.inside.service c.self.inside.outbox c.make_step_room.new.outbox _ c.self.view_is c.make_step_room.ensures.items c.make_step_room.ensures.waiting c.refuse.result c.refuse.new.self c.refuse.ensures.err
 
 pub take_in-requires-clause-holds : goal.take_in-requires-clause-holds
 take_in-requires-clause-holds g c κs within = (done_work g (goal.at.take_in-requires-clause-holds g c).In-Done).holds
@@ -86,7 +86,7 @@ pub take_in-requires-clause-right : goal.take_in-requires-clause-right
 take_in-requires-clause-right g c κs within = (done_work g (goal.at.take_in-requires-clause-right g c).In-Done).right
 
 pub take_in-requires-clause-room : goal.take_in-requires-clause-room
-take_in-requires-clause-room g c κs within = omega (arith, c.in_ok-make_room.ensures.ok, c.add.ensures.free)
+take_in-requires-clause-room g c κs within = omega (arith, c.in_ok-make_step_room.ensures.ok, c.add.ensures.free)
 
 pub overflow_sub-self : goal.overflow_sub-self
 overflow_sub-self g c = omega (arith, held_one g (goal.at.overflow_sub-self g c).In-Some)
@@ -99,7 +99,7 @@ invariant_of-self-in-Done-1 g c =
     c.number_of-who.result (finishes g here.After-take_out) c.in-Some.job (worked g here.In-Some) c.in-Done.done c.in-Done.ensures
     c.job_law.ensures c.take_in.result c.take_in.new.outbox (added g here.After-take_in) c.step_laws.ensures
     (going_on g.L.Language.lang _ _ _ _ c.self.view_is k.listed c.requires.going) _ c.take_in.ensures.finished _
-    (omega (arith, held_one g here.In-Some)) (λ w. looked c.reserve_one.new.table w) (λ w. looked c.take_out.new.table w) c.reserve_one.ensures.things c.take_out.ensures.others
+    (omega (arith, held_one g here.In-Some)) (λ w. looked c.make_step_room.new.jobs w) (λ w. looked c.take_out.new.table w) c.make_step_room.ensures.jobs c.take_out.ensures.others
 
 pub returns-in-Done-clause-taken : goal.returns-in-Done-clause-taken
 returns-in-Done-clause-taken g c =
@@ -113,17 +113,17 @@ pub returns-in-Done-clause-legal : goal.returns-in-Done-clause-legal
 returns-in-Done-clause-legal g c = (invariant_of-self-in-Done-1 g c).listed.legal
 
 pub put-requires-clause-new : goal.put-requires-clause-new
-put-requires-clause-new g c = at_itself c.number_of-who.result None (λ w. looked c.reserve_one.new.table w) (λ w. looked c.take_out.new.table w)
+put-requires-clause-new g c = at_itself c.number_of-who.result None (λ w. looked c.make_step_room.new.jobs w) (λ w. looked c.take_out.new.table w)
     c.take_out.ensures.others
 
 pub put-requires-clause-room : goal.put-requires-clause-room
-put-requires-clause-room g c = omega (arith, c.in_ok-reserve_one.ensures.ok, c.take_out.ensures.room)
+put-requires-clause-room g c = omega (arith, c.in_ok-make_step_room.ensures.spare, c.take_out.ensures.room)
 
 pub invariant_of-self-2 : goal.invariant_of-self-2
 invariant_of-self-2 g c =
     let back = came_back g.L.Language.lang c.in-Some.job c.in-Stopped.job c.run.result _ _ c.run.ensures c.in-Stopped.is in
     let there = sym c.take_out.ensures.value ∙ c.in-Some.is ∙ ap (λ (j : Work _). Some j) (sym back) in
-    still_kept g.L.Language.lang _ _ c.make_room.new.outbox _ _ _ _ _ c.self.invariant
-    c.make_room.ensures.items c.make_room.ensures.waiting c.make_room.ensures.free _ refl
-    (λ w. put_back c.number_of-who.result c.in-Stopped.job (λ v. looked c.reserve_one.new.table v) (λ v. looked c.take_out.new.table v)
-    (λ v. looked c.put.new.table v) there c.take_out.ensures.others c.put.ensures.things w ∙ c.reserve_one.ensures.things w)
+    still_kept g.L.Language.lang _ _ c.make_step_room.new.outbox _ _ _ _ _ c.self.invariant
+    c.make_step_room.ensures.items c.make_step_room.ensures.waiting c.make_step_room.ensures.free _ refl
+    (λ w. put_back c.number_of-who.result c.in-Stopped.job (λ v. looked c.make_step_room.new.jobs v) (λ v. looked c.take_out.new.table v)
+    (λ v. looked c.put.new.table v) there c.take_out.ensures.others c.put.ensures.things w ∙ c.make_step_room.ensures.jobs w)
