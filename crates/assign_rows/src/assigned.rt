@@ -1,7 +1,7 @@
 //! What updates of small documents assign and tell (`exec_assign`): each row as its evaluation,
 //! with its print behind a `/`, and `|` behind each node.
 ghost use Rattle.std.specs.Prelude.{◌≡◌, ◌≤◌, ◌∷◌, [], IfOk};
-ghost use Rattle.pide_base.specs.Ids.{id_end};
+ghost use Rattle.pide_base.specs.Ids.{IsId, id_end};
 ghost use Rattle.exec_assign.specs.Fitting.{RowsFit};
 
 use crate::drawn::{Drawn, nodes_of};
@@ -14,6 +14,7 @@ use pide_base::ExecId;
 use shared_map::SharedMap;
 use sqlite_items::Items;
 use std::alloc::{AllocError, Global};
+use std::process::Abort;
 use std::test::Fail;
 
 /// The execution of this number is cancelled.
@@ -103,7 +104,7 @@ fn updated(
     })
 }
 
-fn push_row(alloc: Global, text: &mut String, row: Row) -> Result<(), AllocError> {
+fn push_row(alloc: Global, text: &mut String, row: &Row) -> Result<(), AllocError> {
     let evaluation = row.evaluation.number();
     let told = match row.print {
         Some(print) => format!(in alloc; "{evaluation}/{print} ", print = print.number())?,
@@ -112,13 +113,18 @@ fn push_row(alloc: Global, text: &mut String, row: Row) -> Result<(), AllocError
     text.push_str(told.as_str())
 }
 
+/// The rows of a node, and the end of them.
+fn push_node(alloc: Global, text: &mut String, rows: &[Row]) -> Result<(), AllocError> {
+    for row in rows {
+        push_row(alloc, text, row)?;
+    }
+    text.push('|')
+}
+
 fn told(alloc: Global, version: &Version) -> Result<String, AllocError> {
     let mut text = String::new(alloc);
     for assigned in version.assigned.as_slice() {
-        for row in assigned.get().rows.as_slice() {
-            push_row(alloc, &mut text, *row)?;
-        }
-        text.push('|')?;
+        push_node(alloc, &mut text, assigned.get().rows.as_slice())?;
     }
     Ok(text)
 }
@@ -138,7 +144,7 @@ fn second_of(
 fn push_command(alloc: Global, text: &mut String, one: &ToldCommand) -> Result<(), AllocError> {
     let command = format!(in alloc; "{} ", one.command.number())?;
     text.push_str(command.as_str())?;
-    if let Some(row) = one.row {
+    if let Some(row) = &one.row {
         text.push(':')?;
         push_row(alloc, text, row)?;
     }
@@ -205,58 +211,90 @@ const fn watched(seen: usize) -> Drawn {
     }
 }
 
-const IMPORTER: Drawn = Drawn {
-    name: "B",
-    imports: &["A"],
-    commands: &[4, 5],
-    seen: 0,
-    required: true,
-};
+/// A required node that imports the node `A`.
+const fn importing(commands: &'static [u64]) -> Drawn {
+    Drawn {
+        name: "B",
+        imports: &["A"],
+        commands,
+        seen: 0,
+        required: true,
+    }
+}
+
+const fn importer() -> Drawn {
+    importing(&[4, 5])
+}
+
+/// It has another command.
+const fn other_importer() -> Drawn {
+    importing(&[4, 7])
+}
+
+const fn five() -> Drawn {
+    required("A", &[1, 2, 3, 4, 5])
+}
+
+/// Its third command is another.
+const fn changed_five() -> Drawn {
+    required("A", &[1, 2, 6, 4, 5])
+}
+
+const fn three() -> Drawn {
+    required("A", &[1, 2, 3])
+}
+
+const fn changed_three() -> Drawn {
+    required("A", &[1, 2, 6])
+}
+
+/// Each row: two updates, and what the second assigns.
+fn assign(rt: &impl Abort, alloc: Global, rows: &[(Two<'_>, &str)]) -> Result<(), Fail> {
+    for (two, want) in rows {
+        assert_eq!(rt; after_two(alloc, *two)?.as_str(), *want);
+    }
+    Ok(())
+}
+
+/// Each row: two updates, and what the second tells.
+fn tell(rt: &impl Abort, alloc: Global, rows: &[(Two<'_>, &str)]) -> Result<(), Fail> {
+    for (two, want) in rows {
+        assert_eq!(rt; told_by_two(alloc, *two)?.as_str(), *want);
+    }
+    Ok(())
+}
 
 #[test]
 fn an_update_keeps_what_stands_and_gives_the_next_numbers(rt: HostRuntime) -> Result<(), Fail> {
     let alloc = rt.alloc();
-    let five = required("A", &[1, 2, 3, 4, 5]);
-    let changed = required("A", &[1, 2, 6, 4, 5]);
-    assert_eq!(rt;
-        after_two(alloc, Two(&[], 0, &[five]))?.as_str(),
-        "1 2 3 4 5 |"
-    );
-    assert_eq!(rt;
-        after_two(alloc, Two(&[five], 0, &[five]))?.as_str(),
-        "1 2 3 4 5 |"
-    );
-    assert_eq!(rt;
-        after_two(alloc, Two(&[five], 0, &[changed]))?.as_str(),
-        "1 2 6 7 8 |"
-    );
-    assert_eq!(rt;
-        after_two(alloc, Two(&[five], 2, &[five]))?.as_str(),
-        "1 6 7 8 9 |"
-    );
-    Ok(())
+    assign(
+        &rt,
+        alloc,
+        &[
+            (Two(&[], 0, &[five()]), "1 2 3 4 5 |"),
+            (Two(&[five()], 0, &[five()]), "1 2 3 4 5 |"),
+            (Two(&[five()], 0, &[changed_five()]), "1 2 6 7 8 |"),
+            (Two(&[five()], 2, &[five()]), "1 6 7 8 9 |"),
+        ],
+    )
 }
 
 #[test]
 fn a_perspective_brings_evaluations_and_prints(rt: HostRuntime) -> Result<(), Fail> {
     let alloc = rt.alloc();
-    assert_eq!(rt;
-        after_two(alloc, Two(&[], 0, &[watched(2)]))?.as_str(),
-        "1/3 2/4 |"
-    );
-    assert_eq!(rt;
-        after_two(alloc, Two(&[watched(2)], 0, &[watched(5)]))?.as_str(),
-        "1/3 2/4 5/8 6/9 7/10 |"
-    );
-    assert_eq!(rt;
-        after_two(alloc, Two(&[watched(2)], 0, &[watched(1)]))?.as_str(),
-        "1/3 2 |"
-    );
-    assert_eq!(rt;
-        after_two(alloc, Two(&[watched(2)], 3, &[watched(2)]))?.as_str(),
-        "1/5 2/4 |"
-    );
-    Ok(())
+    assign(
+        &rt,
+        alloc,
+        &[
+            (Two(&[], 0, &[watched(2)]), "1/3 2/4 |"),
+            (
+                Two(&[watched(2)], 0, &[watched(5)]),
+                "1/3 2/4 5/8 6/9 7/10 |",
+            ),
+            (Two(&[watched(2)], 0, &[watched(1)]), "1/3 2 |"),
+            (Two(&[watched(2)], 3, &[watched(2)]), "1/5 2/4 |"),
+        ],
+    )
 }
 
 #[test]
@@ -264,85 +302,88 @@ fn an_importer_has_new_executions_where_its_import_ends_otherwise(
     rt: HostRuntime,
 ) -> Result<(), Fail> {
     let alloc = rt.alloc();
-    let import = required("A", &[1, 2, 3]);
-    let changed = required("A", &[1, 2, 6]);
-    assert_eq!(rt;
-        after_two(alloc, Two(&[import, IMPORTER], 0, &[import, IMPORTER]))?.as_str(),
-        "1 2 3 |4 5 |"
-    );
-    assert_eq!(rt;
-        after_two(alloc, Two(&[import, IMPORTER], 0, &[changed, IMPORTER]))?.as_str(),
-        "1 2 6 |7 8 |"
-    );
-    assert_eq!(rt;
-        after_two(alloc, Two(&[import, IMPORTER], 0, &[IMPORTER]))?.as_str(),
-        "6 7 |"
-    );
-    Ok(())
+    assign(
+        &rt,
+        alloc,
+        &[
+            (
+                Two(&[three(), importer()], 0, &[three(), importer()]),
+                "1 2 3 |4 5 |",
+            ),
+            (
+                Two(&[three(), importer()], 0, &[changed_three(), importer()]),
+                "1 2 6 |7 8 |",
+            ),
+            (Two(&[three(), importer()], 0, &[importer()]), "6 7 |"),
+        ],
+    )
 }
 
 #[test]
 fn an_update_tells_the_nodes_whose_rows_are_others(rt: HostRuntime) -> Result<(), Fail> {
     let alloc = rt.alloc();
-    let import = required("A", &[1, 2, 3]);
-    let changed = required("A", &[1, 2, 6]);
-    let longer = Drawn {
-        commands: &[4, 7],
-        ..IMPORTER
-    };
-    assert_eq!(rt;
-        told_by_two(alloc, Two(&[], 0, &[import, IMPORTER]))?.as_str(),
-        "A 1 :1 2 :2 3 :3 |B 4 :4 5 :5 |"
-    );
-    assert_eq!(rt;
-        told_by_two(alloc, Two(&[import, IMPORTER], 0, &[import, IMPORTER]))?.as_str(),
-        ""
-    );
-    assert_eq!(rt;
-        told_by_two(alloc, Two(&[import, IMPORTER], 0, &[import, longer]))?.as_str(),
-        "B 4 :4 7 :6 |"
-    );
-    assert_eq!(rt;
-        told_by_two(alloc, Two(&[import, IMPORTER], 0, &[changed, IMPORTER]))?.as_str(),
-        "A 1 :1 2 :2 6 :6 |B 4 :7 5 :8 |"
-    );
-    Ok(())
+    tell(
+        &rt,
+        alloc,
+        &[
+            (
+                Two(&[], 0, &[three(), importer()]),
+                "A 1 :1 2 :2 3 :3 |B 4 :4 5 :5 |",
+            ),
+            (Two(&[three(), importer()], 0, &[three(), importer()]), ""),
+            (
+                Two(&[three(), importer()], 0, &[three(), other_importer()]),
+                "B 4 :4 7 :6 |",
+            ),
+            (
+                Two(&[three(), importer()], 0, &[changed_three(), importer()]),
+                "A 1 :1 2 :2 6 :6 |B 4 :7 5 :8 |",
+            ),
+        ],
+    )
 }
 
 #[test]
 fn a_node_is_told_with_the_commands_that_have_no_executions(rt: HostRuntime) -> Result<(), Fail> {
     let alloc = rt.alloc();
     let empty = required("A", &[]);
-    assert_eq!(rt;
-        told_by_two(alloc, Two(&[], 0, &[watched(2)]))?.as_str(),
-        "A 1 :1/3 2 :2/4 3 4 5 |"
-    );
-    assert_eq!(rt;
-        told_by_two(alloc, Two(&[watched(2)], 0, &[watched(1)]))?.as_str(),
-        "A 1 :1/3 2 :2 3 4 5 |"
-    );
-    assert_eq!(rt;
-        told_by_two(alloc, Two(&[watched(2)], 0, &[empty]))?.as_str(),
-        "A |"
-    );
-    assert_eq!(rt; told_by_two(alloc, Two(&[], 0, &[empty]))?.as_str(), "");
-    Ok(())
+    tell(
+        &rt,
+        alloc,
+        &[
+            (Two(&[], 0, &[watched(2)]), "A 1 :1/3 2 :2/4 3 4 5 |"),
+            (
+                Two(&[watched(2)], 0, &[watched(1)]),
+                "A 1 :1/3 2 :2 3 4 5 |",
+            ),
+            (Two(&[watched(2)], 0, &[empty]), "A |"),
+            (Two(&[], 0, &[empty]), ""),
+        ],
+    )
+}
+
+fn number_of(id: u64) -> Result<u64, Fail>
+    ensures { IfOk result (λ number. IsId number) }
+{
+    Ok(ExecId::new(id).ok_or("id")?.number())
+}
+
+/// Whether an update to these commands passes the greatest id, where four numbers are left.
+fn is_past_the_limit(alloc: Global, commands: &'static [u64]) -> Result<bool, Fail> {
+    let mut before = start(alloc);
+    before.next = number_of(999_999_999_999_999_996)?;
+    let nodes = nodes_of(alloc, &[required("A", commands)])?;
+    match updated(alloc, &before, nodes, &Only { number: 0 }) {
+        Ok(_) => Ok(false),
+        Err(AssignFault::Limit) => Ok(true),
+        Err(AssignFault::NoMemory) => Err(AllocError)?,
+    }
 }
 
 #[test]
 fn a_number_past_the_greatest_id_is_the_limit(rt: HostRuntime) -> Result<(), Fail> {
     let alloc = rt.alloc();
-    let mut before = start(alloc);
-    before.next = 999_999_999_999_999_996;
-    let nothing = Only { number: 0 };
-    let four = nodes_of(alloc, &[required("A", &[1, 2, 3, 4])])?;
-    let five = nodes_of(alloc, &[required("A", &[1, 2, 3, 4, 5])])?;
-    assert!(rt; updated(alloc, &before, four, &nothing).is_ok());
-    assert!(rt;
-        matches!(
-            updated(alloc, &before, five, &nothing),
-            Err(AssignFault::Limit)
-        )
-    );
+    assert!(rt; !is_past_the_limit(alloc, &[1, 2, 3, 4])?);
+    assert!(rt; is_past_the_limit(alloc, &[1, 2, 3, 4, 5])?);
     Ok(())
 }
