@@ -6,7 +6,7 @@ use std::process::Abort;
 use std::test::Fail;
 
 /// The results are numbers here.
-#[derive(Clone, Copy, Debug)]
+#[derive(Clone, Copy)]
 enum Step {
     Evaluation(u64),
     Print(u64),
@@ -67,8 +67,12 @@ fn insert(execs: &mut Execs<u8>, exec: ExecId, execution: Execution<u8>) -> Resu
 /// Takes the steps in order. Each has to have its answer.
 fn follow(rt: &impl Abort, alloc: Global, steps: &[Step]) -> Result<(), Fail> {
     let mut execs = Execs::new(alloc);
+    follow_on(rt, &mut execs, steps)
+}
+
+fn follow_on(rt: &impl Abort, execs: &mut Execs<u8>, steps: &[Step]) -> Result<(), Fail> {
     for (n, step) in steps.iter().enumerate() {
-        assert!(rt; holds(&mut execs, *step)?, "step {n}");
+        assert!(rt; holds(execs, *step)?, "step {n}");
     }
     Ok(())
 }

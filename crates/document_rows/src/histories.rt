@@ -15,11 +15,11 @@ fn add_below<H: Past<u32>>(past: &mut H, limit: u32) -> Result<(), AllocError> {
 
 #[test]
 fn kept_items_come_oldest_first(rt: HostRuntime) -> Result<(), Fail> {
+    const ITEMS: &[u32] = &[0, 1, 2];
     let mut past = Kept::new(rt.alloc());
     add_below(&mut past, 3)?;
-    assert_eq!(rt; past.as_slice(), [0, 1, 2].as_slice());
-    let items = past.into_items();
-    assert_eq!(rt; items.as_slice(), [0, 1, 2].as_slice());
+    assert!(rt; past.as_slice() == ITEMS);
+    assert!(rt; past.into_items().as_slice() == ITEMS);
     Ok(())
 }
 

@@ -1,24 +1,45 @@
 //! The order of imports (`doc_nodes`). A bad import stands behind its node and `!`.
 use crate::written::{Written, importing, nodes_of};
-use doc_nodes::{ImportGraph, import_order};
-use std::alloc::Global;
+use doc_nodes::{ImportGraph, Nodes, Placed, import_order};
+use std::alloc::{AllocError, Global};
+use std::process::Abort;
 use std::test::Fail;
+
+fn push_placed(text: &mut String, placed: &Placed) -> Result<(), AllocError> {
+    text.push_str(placed.node.as_str())?;
+    if let Some(bad) = &placed.bad {
+        text.push('!')?;
+        for scalar in bad.as_slice() {
+            text.push(*scalar)?;
+        }
+    }
+    text.push(' ')
+}
+
+fn order_told(alloc: Global, order: &[Placed]) -> Result<String, AllocError> {
+    let mut text = String::new(alloc);
+    for placed in order {
+        push_placed(&mut text, placed)?;
+    }
+    Ok(text)
+}
+
+fn order_of(alloc: Global, nodes: &Nodes) -> Result<Vec<Placed>, AllocError> {
+    let graph = ImportGraph::of(alloc, nodes)?;
+    import_order(alloc, nodes, &graph)
+}
 
 fn told(alloc: Global, written: &[Written]) -> Result<String, Fail> {
     let nodes = nodes_of(alloc, written)?;
-    let graph = ImportGraph::of(alloc, &nodes)?;
-    let mut text = String::new(alloc);
-    for placed in &import_order(alloc, &nodes, &graph)? {
-        text.push_str(placed.node.as_str())?;
-        if let Some(bad) = &placed.bad {
-            text.push('!')?;
-            for scalar in bad.as_slice() {
-                text.push(*scalar)?;
-            }
-        }
-        text.push(' ')?;
-    }
-    Ok(text)
+    let order = order_of(alloc, &nodes)?;
+    Ok(order_told(alloc, &order)?)
+}
+
+/// The nodes, and their order.
+fn check(rt: &impl Abort, alloc: Global, written: &[Written], want: &str) -> Result<(), Fail> {
+    let told = told(alloc, written)?;
+    assert_eq!(rt; told.as_str(), want);
+    Ok(())
 }
 
 #[test]
@@ -29,8 +50,7 @@ fn nodes_on_a_cycle_come_last_by_name(rt: HostRuntime) -> Result<(), Fail> {
         importing("C", &["D"]),
         importing("E", &[]),
     ];
-    assert_eq!(rt; told(rt.alloc(), &cycle)?.as_str(), "E A!B B!A C!D ");
-    Ok(())
+    check(&rt, rt.alloc(), &cycle, "E A!B B!A C!D ")
 }
 
 #[test]
@@ -51,10 +71,9 @@ fn an_import_stands_before_its_importer(rt: HostRuntime) -> Result<(), Fail> {
         importing("C", &["D"]),
         importing("D", &[]),
     ];
-    assert_eq!(rt; told(rt.alloc(), &chain)?.as_str(), "C B A ");
-    assert_eq!(rt; told(rt.alloc(), &star)?.as_str(), "C A B ");
-    assert_eq!(rt; told(rt.alloc(), &diamond)?.as_str(), "D B C A ");
-    Ok(())
+    check(&rt, rt.alloc(), &chain, "C B A ")?;
+    check(&rt, rt.alloc(), &star, "C A B ")?;
+    check(&rt, rt.alloc(), &diamond, "D B C A ")
 }
 
 #[test]
@@ -65,15 +84,13 @@ fn the_first_bad_import_is_told(rt: HostRuntime) -> Result<(), Fail> {
         importing("C", &["D", "B", "A"]),
         importing("D", &[]),
     ];
-    assert_eq!(rt; told(rt.alloc(), &bad)?.as_str(), "D A!Y B!B C!B ");
-    Ok(())
+    check(&rt, rt.alloc(), &bad, "D A!Y B!B C!B ")
 }
 
 #[test]
 fn an_import_listed_twice_counts_once(rt: HostRuntime) -> Result<(), Fail> {
     let twice = [importing("A", &["B", "B"]), importing("B", &[])];
-    assert_eq!(rt; told(rt.alloc(), &twice)?.as_str(), "B A ");
-    Ok(())
+    check(&rt, rt.alloc(), &twice, "B A ")
 }
 
 #[test]

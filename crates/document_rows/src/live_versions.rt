@@ -5,14 +5,14 @@ use std::alloc::Global;
 use std::process::Abort;
 use std::test::Fail;
 
-#[derive(Clone, Copy, Debug)]
+#[derive(Clone, Copy)]
 enum Answer {
     Removed,
     Unknown(u64),
     Tip,
 }
 
-#[derive(Clone, Copy, Debug)]
+#[derive(Clone, Copy)]
 enum Step {
     Push(u64),
     /// Asks to remove these two.
@@ -68,9 +68,18 @@ fn push(versions: &mut Versions<u64>, alloc: Global, n: u64) -> Result<bool, Fai
 /// Takes the steps in order. Each has to have its answer.
 fn follow(rt: &impl Abort, alloc: Global, steps: &[Step]) -> Result<(), Fail> {
     let mut versions = Versions::new(alloc, version(alloc, 0)?);
-    assert_eq!(rt; versions.tip_id(), None);
+    assert!(rt; versions.tip_id().is_none());
+    follow_on(rt, alloc, &mut versions, steps)
+}
+
+fn follow_on(
+    rt: &impl Abort,
+    alloc: Global,
+    versions: &mut Versions<u64>,
+    steps: &[Step],
+) -> Result<(), Fail> {
     for (n, step) in steps.iter().enumerate() {
-        assert!(rt; holds(&mut versions, alloc, *step)?, "step {n}");
+        assert!(rt; holds(versions, alloc, *step)?, "step {n}");
     }
     Ok(())
 }
@@ -113,11 +122,18 @@ fn versions_are_removed_all_or_none(rt: HostRuntime) -> Result<(), Fail> {
 fn who_shares_a_removed_version_still_has_it(rt: HostRuntime) -> Result<(), Fail> {
     let alloc = rt.alloc();
     let mut versions = Versions::new(alloc, version(alloc, 0)?);
-    let pushed = push(&mut versions, alloc, 1)? && push(&mut versions, alloc, 2)?;
-    assert!(rt; pushed);
-    let shared = versions.get(id(1)?).ok_or("a version")?.share()?;
-    assert_eq!(rt; versions.remove(&[id(1)?]), Removing::Removed);
-    assert_eq!(rt; versions.len(), 1);
-    assert_eq!(rt; *shared.get(), 10);
+    let shared = shared_first(alloc, &mut versions)?;
+    assert!(rt; versions.remove(&[id(1)?]) == Removing::Removed);
+    assert!(rt; versions.len() == 1);
+    assert!(rt; *shared.get() == 10);
     Ok(())
+}
+
+/// The first of two versions, shared.
+fn shared_first(alloc: Global, versions: &mut Versions<u64>) -> Result<Version<u64>, Fail> {
+    let pushed = push(versions, alloc, 1)? && push(versions, alloc, 2)?;
+    if !pushed {
+        return Err(Fail::new("a version"));
+    }
+    Ok(versions.get(id(1)?).ok_or("a version")?.share()?)
 }

@@ -6,7 +6,7 @@ use std::test::Fail;
 use task_queue::{Inputs, Priority, Task, TaskQueue};
 
 /// Executions are told by their numbers.
-#[derive(Clone, Copy, Debug)]
+#[derive(Clone, Copy)]
 enum Step {
     /// A task of the execution, which waits for these.
     Eval(u64, &'static [u64]),

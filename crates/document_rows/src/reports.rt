@@ -1,19 +1,22 @@
+use crate::shown::yxml;
 use crate::sketch::{Sketch, bare, named, of_fact, report, reports, told};
 use pide_base::Range;
 use report_markup::ReportKind::{
     self, Command, Def, Error, Formula, Import, Proved, State, Theory,
 };
 use report_markup::{
-    PlainText, are_treelike, compare_at, is_plain, moved_range, write_report, write_reports,
+    PlainText, Report, are_treelike, compare_at, is_plain, moved_range, write_report,
 };
+use std::alloc::{AllocError, Global};
 use std::cmp::Ordering;
+use std::process::Abort;
 use std::test::Fail;
 
 const L: Sketch = of_fact!(6, 7, Def, "l");
 
 #[test]
 fn reports_in_yxml(rt: HostRuntime) -> Result<(), Fail> {
-    let rows: [(&[Sketch], &str); 4] = [
+    const ROWS: &[(&[Sketch], &str)] = &[
         (&[], ""),
         (
             &[named!(0, 6, Command, "theory"), named!(7, 8, Theory, "A")],
@@ -29,29 +32,42 @@ fn reports_in_yxml(rt: HostRuntime) -> Result<(), Fail> {
             "\u{5}\u{6}formula\u{6}offset=9\u{6}end_offset=18\u{5}P --> P\u{5}\u{6}\u{5}",
         ),
     ];
-    for (sketches, written) in rows {
-        let mut out = String::new(rt.alloc());
-        write_reports(&mut out, reports(rt.alloc(), sketches)?.as_slice())?;
-        assert_eq!(rt; out.as_str(), written);
+    for (sketches, written) in ROWS {
+        assert_eq!(rt; yxml(rt.alloc(), sketches)?.as_str(), *written);
     }
     Ok(())
 }
 
+/// The report at this range, behind a text.
+fn written_behind(
+    alloc: Global,
+    text: &str,
+    range: Range,
+    report: &Report,
+) -> Result<String, AllocError> {
+    let mut out = String::from_str(alloc, text)?;
+    write_report(&mut out, range, report)?;
+    Ok(out)
+}
+
+const PROVED: Sketch = bare!(0, 13, Proved);
+
+/// Its range, 34 places further on.
+fn moved() -> Range {
+    moved_range(34, Range { start: 0, stop: 13 })
+}
+
+/// The report there, behind an `x`.
+fn moved_told(alloc: Global) -> Result<String, AllocError> {
+    let proved = report(alloc, PROVED)?;
+    written_behind(alloc, "x", moved(), &proved)
+}
+
 #[test]
 fn a_report_is_written_at_another_range(rt: HostRuntime) -> Result<(), Fail> {
-    let proved = report(rt.alloc(), bare!(0, 13, Proved))?;
-    let range = moved_range(34, Range { start: 0, stop: 13 });
+    assert!(rt; moved() == range(34, 47));
     assert_eq!(rt;
-        range,
-        Range {
-            start: 34,
-            stop: 47
-        }
-    );
-    let mut out = String::from_str(rt.alloc(), "x")?;
-    write_report(&mut out, range, &proved)?;
-    assert_eq!(rt;
-        out.as_str(),
+        moved_told(rt.alloc())?.as_str(),
         "x\u{5}\u{6}proved\u{6}offset=34\u{6}end_offset=47\u{5}\u{5}\u{6}\u{5}"
     );
     Ok(())
@@ -60,7 +76,7 @@ fn a_report_is_written_at_another_range(rt: HostRuntime) -> Result<(), Fail> {
 /// Listed in report order: start rising, stop falling, then kind, properties and text.
 #[test]
 fn reports_in_order(rt: HostRuntime) -> Result<(), Fail> {
-    let rows = [
+    const ROWS: &[Sketch] = &[
         told!(0, 14, State, "theory A"),
         named!(0, 6, Command, "theory"),
         told!(0, 6, Error, "bad import B"),
@@ -74,31 +90,46 @@ fn reports_in_order(rt: HostRuntime) -> Result<(), Fail> {
         told!(1, 2, Formula, "P"),
         told!(1, 2, Formula, "P --> P"),
     ];
-    let listed = reports(rt.alloc(), &rows)?;
-    let mut sorted = reports(rt.alloc(), &rows)?;
+    let listed = reports(rt.alloc(), ROWS)?;
+    let sorted = sorted_reversed(reports(rt.alloc(), ROWS)?)?;
+    assert!(rt; sorted.as_slice() == listed.as_slice());
+    Ok(())
+}
+
+/// The reports, reversed and then sorted.
+fn sorted_reversed(reports: Vec<Report>) -> Result<Vec<Report>, AllocError> {
+    let mut sorted = reports;
     sorted.as_mut_slice().reverse();
     sorted.sort()?;
-    assert!(rt; sorted.as_slice() == listed.as_slice());
+    Ok(sorted)
+}
+
+#[test]
+fn a_longer_report_comes_first(rt: HostRuntime) -> Result<(), Fail> {
     let shorter = report(rt.alloc(), bare!(1, 2, Proved))?;
     let longer = report(rt.alloc(), bare!(1, 9, Proved))?;
-    assert!(rt; longer < shorter);
-    assert!(rt; longer != shorter);
-    let order = compare_at(longer.range, &shorter, shorter.range, &longer);
-    assert_eq!(rt; order, Ordering::Less);
+    comes_first(&rt, &longer, &shorter);
     Ok(())
+}
+
+fn comes_first(rt: &impl Abort, longer: &Report, shorter: &Report) {
+    assert!(rt; *longer < *shorter);
+    assert!(rt; *longer != *shorter);
+    let order = compare_at(longer.range, shorter, shorter.range, longer);
+    assert!(rt; order == Ordering::Less);
 }
 
 #[test]
 fn words_of_kinds(rt: HostRuntime) {
-    let rows = [
+    const ROWS: &[(ReportKind, &str)] = &[
         (Command, "command"),
         (Import, "import"),
         (ReportKind::Ref, "ref"),
         (ReportKind::Loaded, "loaded"),
         (ReportKind::Suggest, "suggest"),
     ];
-    for (kind, word) in rows {
-        assert_eq!(rt; kind.word(), word);
+    for (kind, word) in ROWS {
+        assert_eq!(rt; kind.word(), *word);
     }
 }
 
@@ -117,9 +148,13 @@ fn texts_are_plain_and_shared(rt: HostRuntime) -> Result<(), Fail> {
     Ok(())
 }
 
+const fn range(start: usize, stop: usize) -> Range {
+    Range { start, stop }
+}
+
 #[test]
 fn ranges_that_a_tree_can_have(rt: HostRuntime) {
-    let rows = [
+    const ROWS: &[((usize, usize), (usize, usize), bool)] = &[
         ((0, 5), (0, 5), true),
         ((0, 5), (1, 2), true),
         ((1, 2), (0, 5), true),
@@ -128,12 +163,8 @@ fn ranges_that_a_tree_can_have(rt: HostRuntime) {
         ((0, 5), (4, 6), false),
         ((4, 6), (0, 5), false),
     ];
-    for ((start, stop), (from, to), treelike) in rows {
-        let range = Range { start, stop };
-        let other = Range {
-            start: from,
-            stop: to,
-        };
-        assert_eq!(rt; are_treelike(range, other), treelike);
+    for ((start, stop), (from, to), treelike) in ROWS {
+        let found = are_treelike(range(*start, *stop), range(*from, *to));
+        assert_eq!(rt; found, *treelike);
     }
 }

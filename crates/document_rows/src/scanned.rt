@@ -5,7 +5,7 @@ use std::test::Fail;
 use task_queue::{Priority, TaskQueue};
 
 /// A task of the plain list. Only evaluations are put in, visible or not.
-#[derive(Debug, Drop)]
+#[derive(Drop)]
 struct Listed {
     exec: u64,
     visible: bool,
@@ -14,7 +14,7 @@ struct Listed {
 }
 
 /// A queue that scans.
-#[derive(Debug, Drop)]
+#[derive(Drop)]
 struct Plain {
     tasks: Vec<Listed>,
 }
@@ -97,6 +97,72 @@ fn one_of(exec: u64, number: u64) -> u64 {
     (number % exec).saturating_add(1)
 }
 
+/// A task that waits for some of the older ones is put in both.
+fn put_in_both(
+    alloc: Global,
+    queue: &mut TaskQueue,
+    plain: &mut Plain,
+    exec: u64,
+    number: u64,
+) -> Result<bool, Fail> {
+    let newest = exec.saturating_add(1);
+    let visible = number % 16 < 8;
+    let older = one_of(exec, number / 16);
+    let waits = waits_for(alloc, plain, older, one_of(exec, number / 64))?;
+    let fits = put(alloc, queue, eval(newest)?, priority_of(visible), &waits)?;
+    plain.tasks.push(Listed {
+        exec: newest,
+        visible,
+        waits,
+        held: false,
+    })?;
+    Ok(fits)
+}
+
+fn priority_of(visible: bool) -> Priority {
+    if visible {
+        Priority::VisibleEval
+    } else {
+        Priority::Eval
+    }
+}
+
+/// The next task is taken from both, where there is one.
+fn take_from_both(
+    alloc: Global,
+    queue: &mut TaskQueue,
+    plain: &mut Plain,
+) -> Result<bool, AllocError> {
+    match queue.dequeue() {
+        Some(part) => {
+            plain.hold(part.exec.number());
+            Ok(true)
+        }
+        None => Ok(plain.ready(alloc)?.is_empty()),
+    }
+}
+
+/// The task is done in both, where it is held.
+fn end_in_both(queue: &mut TaskQueue, plain: &mut Plain, exec: u64) -> Result<bool, Fail> {
+    let fits = done(queue, id(exec)?) == plain.is_held(exec);
+    if plain.is_held(exec) {
+        plain.done(exec);
+    }
+    Ok(fits)
+}
+
+fn show_in_both(queue: &mut TaskQueue, plain: &mut Plain, exec: u64) -> Result<(), Fail> {
+    queue.set_priority(id(exec)?, Priority::VisibleEval);
+    plain.show(exec, true);
+    Ok(())
+}
+
+fn cancel_in_both(queue: &mut TaskQueue, plain: &mut Plain, exec: u64) -> Result<(), Fail> {
+    queue.cancel_group(id(exec)?);
+    plain.cancel(exec);
+    Ok(())
+}
+
 /// One step, chosen by the number, on both.
 fn step(
     alloc: Global,
@@ -106,50 +172,14 @@ fn step(
     number: u64,
 ) -> Result<bool, Fail> {
     let older = one_of(exec, number / 16);
-    let newest = exec.saturating_add(1);
     match number % 8 {
-        0 | 1 | 2 => {
-            let visible = number % 16 < 8;
-            let waits = waits_for(alloc, plain, older, one_of(exec, number / 64))?;
-            let priority = if visible {
-                Priority::VisibleEval
-            } else {
-                Priority::Eval
-            };
-            let fits = put(alloc, queue, eval(newest)?, priority, &waits)?;
-            plain.tasks.push(Listed {
-                exec: newest,
-                visible,
-                waits,
-                held: false,
-            })?;
-            Ok(fits)
-        }
-        3 | 4 => match queue.dequeue() {
-            Some(part) => {
-                plain.hold(part.exec.number());
-                Ok(true)
-            }
-            None => Ok(plain.ready(alloc)?.is_empty()),
-        },
-        5 => {
-            let fits = done(queue, id(older)?) == plain.is_held(older);
-            if plain.is_held(older) {
-                plain.done(older);
-            }
-            Ok(fits)
-        }
-        6 => {
-            queue.set_priority(id(older)?, Priority::VisibleEval);
-            plain.show(older, true);
-            Ok(true)
-        }
-        _ => {
-            queue.cancel_group(id(older)?);
-            plain.cancel(older);
-            Ok(true)
-        }
+        0 | 1 | 2 => return put_in_both(alloc, queue, plain, exec, number),
+        3 | 4 => return Ok(take_from_both(alloc, queue, plain)?),
+        5 => return end_in_both(queue, plain, older),
+        6 => show_in_both(queue, plain, older)?,
+        _ => cancel_in_both(queue, plain, older)?,
     }
+    Ok(true)
 }
 
 #[test]

@@ -2,9 +2,10 @@ use crate::sketch::{Sketch, bare, named, of_fact, reports, told};
 use pide_base::{ExecId, Range};
 use report_markup::ReportKind::{Command, Def, Error, Formula, Proved, Ref, State, Theory};
 use report_markup::{Report, write_reports};
-use snapshots::{AssignedPart, Snapshot, are_movable, snapshot, write_shown};
+use snapshots::{AssignedPart, Shown, Snapshot, are_movable, snapshot, write_shown};
 use sqlite_items::Items;
 use std::alloc::{AllocError, Global};
+use std::process::Abort;
 use std::test::Fail;
 use text_edits::{Edit, Text};
 
@@ -18,19 +19,23 @@ enum Change {
     Remove(usize, &'static str),
 }
 
+fn edit(alloc: Global, change: Change) -> Result<Edit, AllocError> {
+    Ok(match change {
+        Change::Insert(start, text) => Edit::Insert {
+            start,
+            text: Text::from_str(alloc, text)?,
+        },
+        Change::Remove(start, text) => Edit::Remove {
+            start,
+            text: Text::from_str(alloc, text)?,
+        },
+    })
+}
+
 fn edits(alloc: Global, changes: &[Change]) -> Result<Vec<Edit>, AllocError> {
     let mut edits = Vec::new(alloc);
     for change in changes {
-        edits.push(match change {
-            Change::Insert(start, text) => Edit::Insert {
-                start: *start,
-                text: Text::from_str(alloc, text)?,
-            },
-            Change::Remove(start, text) => Edit::Remove {
-                start: *start,
-                text: Text::from_str(alloc, text)?,
-            },
-        })?;
+        edits.push(edit(alloc, *change)?)?;
     }
     Ok(edits)
 }
@@ -66,33 +71,69 @@ fn parts<'a>(
     Ok(parts)
 }
 
-/// What a snapshot shows, as YXML, and its pending executions and whether it is outdated, as text.
-fn summary(alloc: Global, snapshot: &Snapshot<'_>) -> Result<(String, String), Fail> {
-    let mut shown = String::new(alloc);
-    write_shown(&mut shown, snapshot.reports.as_slice())?;
+/// What is shown, as YXML.
+pub(crate) fn shown_yxml(alloc: Global, shown: &[Shown<'_>]) -> Result<String, AllocError> {
+    let mut out = String::new(alloc);
+    write_shown(&mut out, shown)?;
+    Ok(out)
+}
+
+fn push_pending(alloc: Global, text: &mut String, exec: ExecId) -> Result<(), AllocError> {
+    text.push_str(format!(in alloc; "{} ", exec.number())?.as_str())
+}
+
+/// The pending executions, and whether the snapshot is outdated.
+fn rest_told(alloc: Global, snapshot: &Snapshot<'_>) -> Result<String, AllocError> {
     let mut rest = String::new(alloc);
     for exec in &snapshot.pending {
-        rest.push_str(format!(in alloc; "{} ", exec.number())?.as_str())?;
+        push_pending(alloc, &mut rest, *exec)?;
     }
     rest.push_str(if snapshot.outdated { "outdated" } else { "" })?;
+    Ok(rest)
+}
+
+/// What a snapshot shows, as YXML, and its pending executions and whether it is outdated, as text.
+fn summary(alloc: Global, snapshot: &Snapshot<'_>) -> Result<(String, String), AllocError> {
+    let shown = shown_yxml(alloc, snapshot.reports.as_slice())?;
+    let rest = rest_told(alloc, snapshot)?;
     Ok((shown, rest))
 }
 
-fn taken(alloc: Global, rows: &[Row], changes: &[Change]) -> Result<(String, String), Fail> {
-    let found = found(alloc, rows)?;
-    let parts = parts(alloc, rows, found.as_slice())?;
-    let edits = edits(alloc, changes)?;
-    if !are_movable(parts.as_slice(), edits.as_slice()) {
+/// What is shown of the parts after the edits.
+fn edited(
+    alloc: Global,
+    parts: &[AssignedPart<'_>],
+    edits: &[Edit],
+) -> Result<(String, String), AllocError> {
+    if !are_movable(parts, edits) {
         return Ok((String::new(alloc), String::from_str(alloc, "not movable")?));
     }
-    let snapshot = snapshot(alloc, parts.as_slice(), edits.as_slice())?;
-    summary(alloc, &snapshot)
+    summary(alloc, &snapshot(alloc, parts, edits)?)
 }
 
-pub(crate) fn yxml(alloc: Global, sketches: &[Sketch]) -> Result<String, Fail> {
+/// What is shown of the parts after the changes.
+fn changed(
+    alloc: Global,
+    parts: &[AssignedPart<'_>],
+    changes: &[Change],
+) -> Result<(String, String), AllocError> {
+    edited(alloc, parts, &edits(alloc, changes)?)
+}
+
+fn taken(alloc: Global, rows: &[Row], changes: &[Change]) -> Result<(String, String), AllocError> {
+    let found = found(alloc, rows)?;
+    let parts = parts(alloc, rows, found.as_slice())?;
+    changed(alloc, parts.as_slice(), changes)
+}
+
+fn reports_yxml(alloc: Global, reports: &[Report]) -> Result<String, AllocError> {
     let mut out = String::new(alloc);
-    write_reports(&mut out, reports(alloc, sketches)?.as_slice())?;
+    write_reports(&mut out, reports)?;
     Ok(out)
+}
+
+pub(crate) fn yxml(alloc: Global, sketches: &[Sketch]) -> Result<String, AllocError> {
+    reports_yxml(alloc, &reports(alloc, sketches)?)
 }
 
 /// `theory A begin lemma l: "P --> P" by (impI h h) end`, all finished.
@@ -192,31 +233,42 @@ fn joined(alloc: Global, lists: &[&'static [Sketch]]) -> Result<Vec<Sketch>, All
 #[test]
 fn a_theory_and_edits_of_it(rt: HostRuntime) -> Result<(), Fail> {
     for (changes, shown, rest) in EDITED {
-        let taken = taken(rt.alloc(), &PROVED, changes)?;
         let shown = joined(rt.alloc(), shown)?;
-        assert_eq!(rt; taken.0.as_str(), yxml(rt.alloc(), &shown)?.as_str());
-        assert_eq!(rt; taken.1.as_str(), *rest);
+        check_edited(&rt, rt.alloc(), &PROVED, changes, (&shown, *rest))?;
     }
+    Ok(())
+}
+
+/// The parts, changes, and what is shown then and the rest.
+fn check_edited(
+    rt: &impl Abort,
+    alloc: Global,
+    rows: &[Row],
+    changes: &[Change],
+    wanted: (&[Sketch], &str),
+) -> Result<(), Fail> {
+    let (shown, rest) = wanted;
+    let want = yxml(alloc, shown)?;
+    let taken = taken(alloc, rows, changes)?;
+    assert_eq!(rt; taken.0.as_str(), want.as_str());
+    assert_eq!(rt; taken.1.as_str(), rest);
     Ok(())
 }
 
 /// The parts, what is shown of them, and which executions are pending.
 fn check(
-    rt: &impl std::process::Abort,
+    rt: &impl Abort,
     alloc: Global,
     rows: &[Row],
     shown: &[Sketch],
     rest: &str,
 ) -> Result<(), Fail> {
-    let taken = taken(alloc, rows, &[])?;
-    assert_eq!(rt; taken.0.as_str(), yxml(alloc, shown)?.as_str());
-    assert_eq!(rt; taken.1.as_str(), rest);
-    Ok(())
+    check_edited(rt, alloc, rows, &[], (shown, rest))
 }
 
 #[test]
 fn nothing_is_finished(rt: HostRuntime) -> Result<(), Fail> {
-    let rows = [
+    const ROWS: [Row; 6] = [
         (3, (28, 32), None),
         (1, (0, 14), None),
         (2, (15, 27), None),
@@ -224,7 +276,7 @@ fn nothing_is_finished(rt: HostRuntime) -> Result<(), Fail> {
         (4, (33, 45), None),
         (6, (51, 54), None),
     ];
-    check(&rt, rt.alloc(), &rows, &[], "1 2 3 4 5 6 ")
+    check(&rt, rt.alloc(), &ROWS, &[], "1 2 3 4 5 6 ")
 }
 
 #[test]
@@ -240,7 +292,7 @@ fn a_wrong_proof_and_a_right_one(rt: HostRuntime) -> Result<(), Fail> {
         ),
         (6, (51, 54), Some(&[named!(0, 3, Command, "end")])),
     ];
-    let shown = [
+    const SHOWN: &[Sketch] = &[
         told!(28, 32, Error, "unknown name x"),
         named!(28, 30, Command, "by"),
         bare!(46, 50, Proved),
@@ -248,7 +300,7 @@ fn a_wrong_proof_and_a_right_one(rt: HostRuntime) -> Result<(), Fail> {
         of_fact!(49, 50, Ref, "l"),
         named!(51, 54, Command, "end"),
     ];
-    check(&rt, rt.alloc(), &ROWS, &shown, "")
+    check(&rt, rt.alloc(), &ROWS, SHOWN, "")
 }
 
 #[test]
@@ -271,7 +323,7 @@ fn states_that_are_printed(rt: HostRuntime) -> Result<(), Fail> {
         ),
         (4, (15, 27), Some(&[told!(0, 12, State, "theory A")])),
     ];
-    let shown = [
+    const SHOWN: &[Sketch] = &[
         told!(0, 14, State, "theory A"),
         named!(0, 6, Command, "theory"),
         named!(7, 8, Theory, "A"),
@@ -280,7 +332,7 @@ fn states_that_are_printed(rt: HostRuntime) -> Result<(), Fail> {
         of_fact!(21, 22, Def, "a"),
         told!(24, 27, Formula, "P"),
     ];
-    check(&rt, rt.alloc(), &ROWS, &shown, "")
+    check(&rt, rt.alloc(), &ROWS, SHOWN, "")
 }
 
 #[test]
@@ -291,12 +343,12 @@ fn an_open_fork_is_pending_beside_what_its_evaluation_shows(rt: HostRuntime) -> 
         (3, (34, 47), None),
         (4, (48, 51), Some(&[named!(0, 3, Command, "end")])),
     ];
-    let shown = [
+    const SHOWN: &[Sketch] = &[
         named!(15, 20, Command, "lemma"),
         named!(34, 36, Command, "by"),
         named!(48, 51, Command, "end"),
     ];
-    check(&rt, rt.alloc(), &ROWS, &shown, "3 ")
+    check(&rt, rt.alloc(), &ROWS, SHOWN, "3 ")
 }
 
 /// Two nested ranges become equal, so their kinds decide, and a third becomes empty.
@@ -312,12 +364,11 @@ fn an_edit_that_changes_the_order(rt: HostRuntime) -> Result<(), Fail> {
             bare!(2, 9, Error),
         ]),
     )];
-    let shown = [
+    const SHOWN: &[Sketch] = &[
         bare!(10, 17, Command),
         bare!(10, 17, Error),
         bare!(10, 17, Ref),
     ];
-    let taken = taken(rt.alloc(), &ROWS, &[Change::Remove(10, "ab")])?;
-    assert_eq!(rt; taken.0.as_str(), yxml(rt.alloc(), &shown)?.as_str());
-    Ok(())
+    const CHANGES: &[Change] = &[Change::Remove(10, "ab")];
+    check_edited(&rt, rt.alloc(), &ROWS, CHANGES, (SHOWN, "outdated"))
 }

@@ -17,13 +17,12 @@ fn add(
     markup.add(alloc, report(alloc, bare!(start, stop, kind))?)
 }
 
+/// A range, and the one that it crosses.
+type Added = ((usize, usize), Option<(usize, usize)>);
+
 /// How many of the ranges, added in turn, are answered so: None where they are kept, else the range
 /// that they cross.
-fn count_added(
-    alloc: Global,
-    markup: &mut MarkupTree,
-    rows: &[((usize, usize), Option<(usize, usize)>)],
-) -> usize {
+fn count_added(alloc: Global, markup: &mut MarkupTree, rows: &[Added]) -> usize {
     let mut count = 0usize;
     for ((start, stop), crossed) in rows {
         let told = match add(alloc, markup, ReportKind::Command, *start, *stop) {
@@ -44,11 +43,15 @@ fn are_ranges(reports: &[&Report], ranges: &[(usize, usize)]) -> bool {
         return false;
     }
     for (report, range) in reports.iter().zip(ranges) {
-        if report.range.start != range.0 || report.range.stop != range.1 {
+        if !is_at(report, *range) {
             return false;
         }
     }
     true
+}
+
+fn is_at(report: &Report, range: (usize, usize)) -> bool {
+    report.range.start == range.0 && report.range.stop == range.1
 }
 
 fn are_around(
@@ -66,20 +69,28 @@ fn are_around(
 fn a_range_that_crosses_a_kept_one_is_refused(rt: HostRuntime) -> Result<(), Fail> {
     let alloc = rt.alloc();
     let mut markup = MarkupTree::new();
-    let rows = [((0, 5), None), ((1, 2), None), ((4, 6), Some((0, 5)))];
-    assert_eq!(rt; count_added(alloc, &mut markup, &rows), 3);
-    assert!(rt; are_around(alloc, &markup, (1, 2), &[(0, 5), (1, 2)])?);
-    assert!(rt; are_around(alloc, &markup, (4, 5), &[(0, 5)])?);
-    assert!(rt; are_around(alloc, &markup, (4, 6), &[])?);
-    assert!(rt; are_ranges(markup.list(alloc)?.as_slice(), &[(0, 5), (1, 2)]));
+    const ROWS: &[Added] = &[((0, 5), None), ((1, 2), None), ((4, 6), Some((0, 5)))];
+    assert_eq!(rt; count_added(alloc, &mut markup, ROWS), 3);
+    assert!(rt; has_two(alloc, &markup)?);
     Ok(())
+}
+
+/// A range of 0 to 5, with one of 1 to 2 in it.
+fn has_two(alloc: Global, markup: &MarkupTree) -> Result<bool, AllocError> {
+    const BOTH: &[(usize, usize)] = &[(0, 5), (1, 2)];
+    Ok(
+        are_around(alloc, markup, (1, 2), BOTH)?
+            && are_around(alloc, markup, (4, 5), &[(0, 5)])?
+            && are_around(alloc, markup, (4, 6), &[])?
+            && are_ranges(markup.list(alloc)?.as_slice(), BOTH),
+    )
 }
 
 #[test]
 fn the_first_range_that_is_crossed_is_told(rt: HostRuntime) -> Result<(), Fail> {
     let alloc = rt.alloc();
     let mut markup = MarkupTree::new();
-    let rows = [
+    const ROWS: &[Added] = &[
         ((6, 9), None),
         ((0, 20), None),
         ((1, 9), None),
@@ -96,8 +107,8 @@ fn the_first_range_that_is_crossed_is_told(rt: HostRuntime) -> Result<(), Fail> 
         ((8, 9), None),
         ((20, 20), None),
     ];
-    assert_eq!(rt; count_added(alloc, &mut markup, &rows), 15);
-    let all = [
+    assert_eq!(rt; count_added(alloc, &mut markup, ROWS), 15);
+    const ALL: &[(usize, usize)] = &[
         (0, 20),
         (1, 9),
         (6, 9),
@@ -110,24 +121,24 @@ fn the_first_range_that_is_crossed_is_told(rt: HostRuntime) -> Result<(), Fail> 
         (10, 14),
         (20, 20),
     ];
-    assert!(rt; are_ranges(markup.list(alloc)?.as_slice(), &all));
-    assert!(rt;
-        are_around(
-            alloc,
-            &markup,
-            (7, 7),
-            &[(0, 20), (1, 9), (6, 9), (6, 9), (6, 8)]
-        )?
-    );
-    assert!(rt;
-        are_around(
-            alloc,
-            &markup,
-            (9, 9),
-            &[(0, 20), (1, 9), (6, 9), (6, 9), (8, 9), (9, 10), (9, 9)]
-        )?
-    );
+    assert!(rt; lists(alloc, &markup, ALL)?);
+    assert!(rt; has_around(alloc, &markup)?);
     Ok(())
+}
+
+fn lists(
+    alloc: Global,
+    markup: &MarkupTree,
+    ranges: &[(usize, usize)],
+) -> Result<bool, AllocError> {
+    Ok(are_ranges(markup.list(alloc)?.as_slice(), ranges))
+}
+
+/// What is around two empty ranges.
+fn has_around(alloc: Global, markup: &MarkupTree) -> Result<bool, AllocError> {
+    const SEVEN: &[(usize, usize)] = &[(0, 20), (1, 9), (6, 9), (6, 9), (6, 8)];
+    const NINE: &[(usize, usize)] = &[(0, 20), (1, 9), (6, 9), (6, 9), (8, 9), (9, 10), (9, 9)];
+    Ok(are_around(alloc, markup, (7, 7), SEVEN)? && are_around(alloc, markup, (9, 9), NINE)?)
 }
 
 #[test]

@@ -1,7 +1,8 @@
 //! How many commands of each node are wanted (`doc_nodes`), by name.
 use crate::written::{Written, nodes_of};
-use doc_nodes::{ImportGraph, wanted_counts, wanted_prefix};
+use doc_nodes::{ImportGraph, Node, Nodes, wanted_counts, wanted_prefix};
 use std::alloc::Global;
+use std::process::Abort;
 use std::test::Fail;
 
 const SEEN: &[bool] = &[false, true, false];
@@ -29,14 +30,25 @@ fn told(alloc: Global, written: &[Written]) -> Result<Vec<usize>, Fail> {
     Ok(wanted_counts(alloc, &nodes, &graph)?)
 }
 
+/// The nodes, and how many commands of each are wanted.
+fn wants(
+    rt: &impl Abort,
+    alloc: Global,
+    written: &[Written],
+    counts: &[usize],
+) -> Result<(), Fail> {
+    let told = told(alloc, written)?;
+    assert_eq!(rt; told.as_slice(), counts);
+    Ok(())
+}
+
 #[test]
 fn nothing_seen_wants_nothing(rt: HostRuntime) -> Result<(), Fail> {
     let hidden = [
         node("A", &[], UNSEEN, false),
         node("B", &["A"], UNSEEN, false),
     ];
-    assert_eq!(rt; told(rt.alloc(), &hidden)?.as_slice(), [0, 0].as_slice());
-    Ok(())
+    wants(&rt, rt.alloc(), &hidden, &[0, 0])
 }
 
 #[test]
@@ -47,11 +59,7 @@ fn a_visible_command_wants_those_before_it_and_all_imports(rt: HostRuntime) -> R
         node("C", &[], UNSEEN, false),
         node("D", &[], UNSEEN, false),
     ];
-    assert_eq!(rt;
-        told(rt.alloc(), &visible)?.as_slice(),
-        [2, 3, 3, 0].as_slice()
-    );
-    Ok(())
+    wants(&rt, rt.alloc(), &visible, &[2, 3, 3, 0])
 }
 
 #[test]
@@ -61,11 +69,7 @@ fn a_required_node_wants_all_and_all_imports(rt: HostRuntime) -> Result<(), Fail
         node("B", &["A"], UNSEEN, true),
         node("C", &["B"], UNSEEN, false),
     ];
-    assert_eq!(rt;
-        told(rt.alloc(), &required)?.as_slice(),
-        [3, 3, 0].as_slice()
-    );
-    Ok(())
+    wants(&rt, rt.alloc(), &required, &[3, 3, 0])
 }
 
 #[test]
@@ -78,12 +82,8 @@ fn a_node_without_commands_wants_no_imports_unless_it_is_reached(
         node("B", &["A"], &[], false),
         node("C", &["B"], SEEN, false),
     ];
-    assert_eq!(rt; told(rt.alloc(), &empty)?.as_slice(), [0, 0].as_slice());
-    assert_eq!(rt;
-        told(rt.alloc(), &between)?.as_slice(),
-        [3, 0, 2].as_slice()
-    );
-    Ok(())
+    wants(&rt, rt.alloc(), &empty, &[0, 0])?;
+    wants(&rt, rt.alloc(), &between, &[3, 0, 2])
 }
 
 #[test]
@@ -92,18 +92,25 @@ fn a_node_that_is_not_ordered_wants_its_own_alone(rt: HostRuntime) -> Result<(),
         node("A", &[], UNSEEN, false),
         node("B", &["A", "X"], SEEN, true),
     ];
-    assert_eq!(rt; told(rt.alloc(), &unordered)?.as_slice(), [0, 3].as_slice());
-    Ok(())
+    wants(&rt, rt.alloc(), &unordered, &[0, 3])
 }
 
 #[test]
 fn a_copy_of_a_node_has_its_commands(rt: HostRuntime) -> Result<(), Fail> {
     let nodes = nodes_of(rt.alloc(), &[node("A", &[], SEEN, true)])?;
-    if let Some((_, node)) = nodes.at(0) {
-        let copy = node.copy()?;
-        assert_eq!(rt; copy.entries.get().len(), 3);
-        assert_eq!(rt; wanted_prefix(copy.entries.get().as_slice()), 2);
-        assert!(rt; copy.required);
-    }
+    let copy = first_copied(&nodes)?;
+    is_whole(&rt, &copy);
     Ok(())
+}
+
+fn first_copied(nodes: &Nodes) -> Result<Node, Fail> {
+    let (_, node) = nodes.at(0).ok_or("none")?;
+    Ok(node.copy()?)
+}
+
+fn is_whole(rt: &impl Abort, node: &Node) {
+    let entries = node.entries.get().as_slice();
+    assert!(rt; entries.len() == 3);
+    assert!(rt; wanted_prefix(entries) == 2);
+    assert!(rt; node.required);
 }

@@ -48,13 +48,17 @@ fn imports(alloc: Global, written: &Written) -> Result<Items<Items<char>>, Alloc
     Ok(imports)
 }
 
+fn pair(alloc: Global, name: &str, target: &str) -> Result<KeywordPair, AllocError> {
+    Ok(KeywordPair {
+        name: word(alloc, name)?,
+        target: word(alloc, target)?,
+    })
+}
+
 fn keywords(alloc: Global, written: &Written) -> Result<Items<KeywordPair>, AllocError> {
     let mut keywords = Items::new(alloc);
     for (name, target) in written.keywords {
-        keywords.push(KeywordPair {
-            name: word(alloc, name)?,
-            target: word(alloc, target)?,
-        })?;
+        keywords.push(pair(alloc, name, target)?)?;
     }
     Ok(keywords)
 }
@@ -75,24 +79,52 @@ fn entries(alloc: Global, written: &Written) -> Result<Items<Entry>, Fail> {
     Ok(entries)
 }
 
+fn shared_entries(alloc: Global, written: &Written) -> Result<Shared<Items<Entry>>, Fail> {
+    Ok(shared(alloc, entries(alloc, written)?)?)
+}
+
+fn shared_imports(
+    alloc: Global,
+    written: &Written,
+) -> Result<Shared<Items<Items<char>>>, AllocError> {
+    shared(alloc, imports(alloc, written)?)
+}
+
+fn shared_keywords(
+    alloc: Global,
+    written: &Written,
+) -> Result<Shared<Items<KeywordPair>>, AllocError> {
+    shared(alloc, keywords(alloc, written)?)
+}
+
 fn node(alloc: Global, written: &Written) -> Result<Node, Fail> {
     Ok(Node {
         text: shared(alloc, Text::new(alloc))?,
-        entries: shared(alloc, entries(alloc, written)?)?,
+        entries: shared_entries(alloc, written)?,
         required: written.required,
-        imports: shared(alloc, imports(alloc, written)?)?,
-        keywords: shared(alloc, keywords(alloc, written)?)?,
+        imports: shared_imports(alloc, written)?,
+        keywords: shared_keywords(alloc, written)?,
     })
+}
+
+fn node_name(alloc: Global, name: &str) -> Result<NodeName, Fail> {
+    match NodeName::new(String::from_str(alloc, name)?) {
+        Ok(name) => Ok(name),
+        Err(_) => Err(Fail::new("name")),
+    }
+}
+
+fn put(alloc: Global, nodes: &mut Nodes, written: &Written) -> Result<(), Fail> {
+    let node = node(alloc, written)?;
+    nodes.set(alloc, node_name(alloc, written.name)?, node)?;
+    Ok(())
 }
 
 /// The nodes, by name.
 pub(crate) fn nodes_of(alloc: Global, written: &[Written]) -> Result<Nodes, Fail> {
     let mut nodes = SharedMap::new();
     for one in written {
-        let name = NodeName::new(String::from_str(alloc, one.name)?)
-            .ok()
-            .ok_or("name")?;
-        nodes.set(alloc, name, node(alloc, one)?)?;
+        put(alloc, &mut nodes, one)?;
     }
     Ok(nodes)
 }
