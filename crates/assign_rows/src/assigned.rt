@@ -3,13 +3,14 @@
 ghost use Rattle.std.specs.Prelude.{◌≡◌, ◌≤◌, ◌∷◌, [], IfOk};
 ghost use Rattle.pide_base.specs.Ids.{IsId, id_end};
 ghost use Rattle.exec_assign.specs.Fitting.{RowsFit};
+ghost use Rattle.exec_assign.specs.Telling.{made_by};
 
 use crate::drawn::{Drawn, nodes_of};
 use doc_nodes::Nodes;
 use exec_assign::{
     AssignFault, Assignment, Cancelled, ToldCommand, ToldNode, Update, cancelled_law,
 };
-use exec_rules::{Row, Version, numbers_law};
+use exec_rules::{Blobs, Row, Version, numbers_law};
 use pide_base::ExecId;
 use shared_map::SharedMap;
 use sqlite_items::Items;
@@ -58,7 +59,60 @@ fn start(alloc: Global) -> Made
     }
 }
 
-/// What an update to these nodes makes, where nothing is known to be untouched.
+/// What the update assigns and tells, from this number on.
+fn listed_by(
+    alloc: Global,
+    update: &Update<'_, Only>,
+    next: u64,
+) -> Result<(Assignment, Vec<ToldNode>), AssignFault>
+    requires first { 1 ≤ next }
+    requires next { next ≤ id_end }
+    ensures rows { IfOk result (λ pair. RowsFit (made_by update.now pair.0.assigned)) }
+    ensures first { IfOk result (λ pair. 1 ≤ pair.0.next) }
+    ensures next { IfOk result (λ pair. pair.0.next ≤ id_end) }
+{
+    numbers_law();
+    let assignment = update.assign(alloc, next)?;
+    let told = update.listed(alloc, &assignment)?;
+    Ok((assignment, told))
+}
+
+/// What an update to these nodes assigns and tells, where nothing is known to be untouched.
+fn assigned_to(
+    alloc: Global,
+    before: &Made,
+    nodes: &Nodes,
+    blobs: &Blobs,
+    cancelled: &Only,
+) -> Result<(Assignment, Vec<ToldNode>), AssignFault>
+    requires rows { RowsFit before.now.version }
+    requires blobs { before.now.version.blobs ≡ [] }
+    requires none { blobs.now ≡ [] }
+    requires first { 1 ≤ before.now.next }
+    requires next { before.now.next ≤ id_end }
+    ensures rows { IfOk result (λ pair. RowsFit (record {
+      nodes = nodes.now;
+      blobs = blobs.now;
+      assigned = pair.0.assigned;
+    })) }
+    ensures first { IfOk result (λ pair. 1 ≤ pair.0.next) }
+    ensures next { IfOk result (λ pair. pair.0.next ≤ id_end) }
+{
+    cancelled_law();
+    let changed = SharedMap::new();
+    let update = Update::of(
+        alloc,
+        &before.version,
+        nodes,
+        blobs,
+        cancelled,
+        &changed,
+        &[],
+    )?;
+    listed_by(alloc, &update, before.next)
+}
+
+/// What the update to these nodes makes.
 fn updated(
     alloc: Global,
     before: &Made,
@@ -74,24 +128,9 @@ fn updated(
     ensures first { IfOk result (λ made. 1 ≤ made.next) }
     ensures next { IfOk result (λ made. made.next ≤ id_end) }
 {
-    numbers_law();
-    cancelled_law();
     let blobs = SharedMap::new();
-    let changed = SharedMap::new();
-    let (assignment, told) = {
-        let update = Update::of(
-            alloc,
-            &before.version,
-            &nodes,
-            &blobs,
-            cancelled,
-            &changed,
-            &[],
-        )?;
-        let assignment = update.assign(alloc, before.next)?;
-        let told = update.listed(alloc, &assignment)?;
-        (assignment, told)
-    };
+    let pair = assigned_to(alloc, before, &nodes, &blobs, cancelled)?;
+    let (assignment, told) = pair;
     let Assignment { assigned, next, .. } = assignment;
     Ok(Made {
         version: Version {
@@ -102,6 +141,24 @@ fn updated(
         next,
         told,
     })
+}
+
+/// What the update to these nodes makes, where an execution is cancelled before it.
+fn made_of(alloc: Global, before: &Made, drawn: &[Drawn], cancelled: u64) -> Result<Made, Fail>
+    requires rows { RowsFit before.now.version }
+    requires blobs { before.now.version.blobs ≡ [] }
+    requires first { 1 ≤ before.now.next }
+    requires next { before.now.next ≤ id_end }
+    ensures rows { IfOk result (λ made. RowsFit made.version) }
+    ensures blobs { IfOk result (λ made. made.version.blobs ≡ []) }
+    ensures first { IfOk result (λ made. 1 ≤ made.next) }
+    ensures next { IfOk result (λ made. made.next ≤ id_end) }
+{
+    let nodes = nodes_of(alloc, drawn)?;
+    match updated(alloc, before, nodes, &Only { number: cancelled }) {
+        Ok(made) => Ok(made),
+        Err(_) => Err(Fail::new("limit")),
+    }
 }
 
 fn push_row(alloc: Global, text: &mut String, row: &Row) -> Result<(), AllocError> {
@@ -129,18 +186,6 @@ fn told(alloc: Global, version: &Version) -> Result<String, AllocError> {
     Ok(text)
 }
 
-/// The second of two updates, where an execution is cancelled between them.
-fn second_of(
-    alloc: Global,
-    first: Nodes,
-    cancelled: u64,
-    second: Nodes,
-) -> Result<Made, AssignFault> {
-    let nothing = Only { number: 0 };
-    let one = updated(alloc, &start(alloc), first, &nothing)?;
-    updated(alloc, &one, second, &Only { number: cancelled })
-}
-
 fn push_command(alloc: Global, text: &mut String, one: &ToldCommand) -> Result<(), AllocError> {
     let command = format!(in alloc; "{} ", one.command.number())?;
     text.push_str(command.as_str())?;
@@ -159,13 +204,8 @@ struct Two<'a>(&'a [Drawn], u64, &'a [Drawn]);
 /// What the second makes.
 fn made_by_two(alloc: Global, two: Two<'_>) -> Result<Made, Fail> {
     let Two(first, cancelled, second) = two;
-    let first = nodes_of(alloc, first)?;
-    let second = nodes_of(alloc, second)?;
-    Ok(
-        second_of(alloc, first, cancelled, second)
-            .ok()
-            .ok_or("limit")?,
-    )
+    let one = made_of(alloc, &start(alloc), first, 0)?;
+    made_of(alloc, &one, second, cancelled)
 }
 
 /// What it assigns.
@@ -174,19 +214,28 @@ fn after_two(alloc: Global, two: Two<'_>) -> Result<String, Fail> {
     Ok(told(alloc, &made.version)?)
 }
 
+/// A node with its commands.
+fn push_told(alloc: Global, text: &mut String, node: &ToldNode) -> Result<(), AllocError> {
+    text.push_str(node.node.as_str())?;
+    text.push(' ')?;
+    for one in node.commands.as_slice() {
+        push_command(alloc, text, one)?;
+    }
+    text.push('|')
+}
+
+fn nodes_told(alloc: Global, nodes: &[ToldNode]) -> Result<String, AllocError> {
+    let mut text = String::new(alloc);
+    for node in nodes {
+        push_told(alloc, &mut text, node)?;
+    }
+    Ok(text)
+}
+
 /// What it tells: each node with its commands.
 fn told_by_two(alloc: Global, two: Two<'_>) -> Result<String, Fail> {
     let made = made_by_two(alloc, two)?;
-    let mut text = String::new(alloc);
-    for node in made.told.as_slice() {
-        text.push_str(node.node.as_str())?;
-        text.push(' ')?;
-        for one in node.commands.as_slice() {
-            push_command(alloc, &mut text, one)?;
-        }
-        text.push('|')?;
-    }
-    Ok(text)
+    Ok(nodes_told(alloc, made.told.as_slice())?)
 }
 
 /// A required node without imports.
@@ -362,28 +411,38 @@ fn a_node_is_told_with_the_commands_that_have_no_executions(rt: HostRuntime) -> 
     )
 }
 
-fn number_of(id: u64) -> Result<u64, Fail>
-    ensures { IfOk result (λ number. IsId number) }
+/// The version before any update, where the next execution is this.
+fn late(alloc: Global, next: ExecId) -> Made
+    ensures rows { RowsFit result.version }
+    ensures blobs { result.version.blobs ≡ [] }
+    ensures range { IsId result.next }
 {
-    Ok(ExecId::new(id).ok_or("id")?.number())
+    let mut before = start(alloc);
+    before.next = next.number();
+    before
 }
 
-/// Whether an update to these commands passes the greatest id, where four numbers are left.
-fn is_past_the_limit(alloc: Global, commands: &'static [u64]) -> Result<bool, Fail> {
-    let mut before = start(alloc);
-    before.next = number_of(999_999_999_999_999_996)?;
-    let nodes = nodes_of(alloc, &[required("A", commands)])?;
-    match updated(alloc, &before, nodes, &Only { number: 0 }) {
-        Ok(_) => Ok(false),
-        Err(AssignFault::Limit) => Ok(true),
-        Err(AssignFault::NoMemory) => Err(AllocError)?,
+fn outcome(made: Result<Made, AssignFault>) -> &'static str {
+    match made {
+        Ok(_) => "made",
+        Err(AssignFault::Limit) => "the limit",
+        Err(AssignFault::NoMemory) => "no memory",
     }
+}
+
+/// What becomes of an update to these commands, where four numbers are left.
+fn outcome_of(alloc: Global, commands: &'static [u64]) -> Result<&'static str, Fail> {
+    let next = ExecId::new(999_999_999_999_999_996).ok_or("id")?;
+    let nodes = nodes_of(alloc, &[required("A", commands)])?;
+    let before = late(alloc, next);
+    let nothing = Only { number: 0 };
+    Ok(outcome(updated(alloc, &before, nodes, &nothing)))
 }
 
 #[test]
 fn a_number_past_the_greatest_id_is_the_limit(rt: HostRuntime) -> Result<(), Fail> {
     let alloc = rt.alloc();
-    assert!(rt; !is_past_the_limit(alloc, &[1, 2, 3, 4])?);
-    assert!(rt; is_past_the_limit(alloc, &[1, 2, 3, 4, 5])?);
+    assert_eq!(rt; outcome_of(alloc, &[1, 2, 3, 4])?, "made");
+    assert_eq!(rt; outcome_of(alloc, &[1, 2, 3, 4, 5])?, "the limit");
     Ok(())
 }

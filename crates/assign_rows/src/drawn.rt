@@ -41,28 +41,50 @@ fn entries(alloc: Global, drawn: &Drawn) -> Result<Items<Entry>, Fail> {
     Ok(entries)
 }
 
-fn node(alloc: Global, drawn: &Drawn) -> Result<Node, Fail> {
+fn imports(alloc: Global, drawn: &Drawn) -> Result<Items<Items<char>>, AllocError> {
     let mut imports = Items::new(alloc);
     for name in drawn.imports {
         imports.push(Items::from_vec(name.chars().collect(alloc)?))?;
     }
+    Ok(imports)
+}
+
+fn shared_entries(alloc: Global, drawn: &Drawn) -> Result<Shared<Items<Entry>>, Fail> {
+    Ok(shared(alloc, entries(alloc, drawn)?)?)
+}
+
+fn shared_imports(alloc: Global, drawn: &Drawn) -> Result<Shared<Items<Items<char>>>, AllocError> {
+    shared(alloc, imports(alloc, drawn)?)
+}
+
+fn node(alloc: Global, drawn: &Drawn) -> Result<Node, Fail> {
     Ok(Node {
         text: shared(alloc, Text::new(alloc))?,
-        entries: shared(alloc, entries(alloc, drawn)?)?,
+        entries: shared_entries(alloc, drawn)?,
         required: drawn.required,
-        imports: shared(alloc, imports)?,
+        imports: shared_imports(alloc, drawn)?,
         keywords: shared(alloc, Items::new(alloc))?,
     })
+}
+
+fn node_name(alloc: Global, name: &str) -> Result<NodeName, Fail> {
+    match NodeName::new(String::from_str(alloc, name)?) {
+        Ok(name) => Ok(name),
+        Err(_) => Err(Fail::new("name")),
+    }
+}
+
+fn put(alloc: Global, nodes: &mut Nodes, drawn: &Drawn) -> Result<(), Fail> {
+    let node = node(alloc, drawn)?;
+    nodes.set(alloc, node_name(alloc, drawn.name)?, node)?;
+    Ok(())
 }
 
 /// The nodes, by name.
 pub(crate) fn nodes_of(alloc: Global, drawn: &[Drawn]) -> Result<Nodes, Fail> {
     let mut nodes = SharedMap::new();
     for one in drawn {
-        let name = NodeName::new(String::from_str(alloc, one.name)?)
-            .ok()
-            .ok_or("name")?;
-        nodes.set(alloc, name, node(alloc, one)?)?;
+        put(alloc, &mut nodes, one)?;
     }
     Ok(nodes)
 }
