@@ -4,7 +4,7 @@ use crate::asking::Of;
 use crate::running::Step::{
     Cancel, Claim, End, Finish, GiveUp, Remove, Settled, Shown, Update, Work,
 };
-use crate::running::{Script, Step, first_other};
+use crate::running::{Script, Step, follow};
 use std::test::Fail;
 
 /// A theory of one lemma: four commands, of which the third forks.
@@ -269,36 +269,20 @@ const TOLD: &[Script] = &[
 
 #[test]
 fn a_worker_is_given_the_first_ready_part(rt: HostRuntime) -> Result<(), Fail> {
-    for Script(shows, steps) in CLAIMED {
-        let other = first_other(rt.alloc(), steps)?;
-        assert!(rt; other.is_none(), "{shows}: {other:?}");
-    }
-    Ok(())
+    follow(&rt, rt.alloc(), CLAIMED)
 }
 
 #[test]
 fn nothing_of_a_cancelled_execution_is_kept(rt: HostRuntime) -> Result<(), Fail> {
-    for Script(shows, steps) in CANCELLED {
-        let other = first_other(rt.alloc(), steps)?;
-        assert!(rt; other.is_none(), "{shows}: {other:?}");
-    }
-    Ok(())
+    follow(&rt, rt.alloc(), CANCELLED)
 }
 
 #[test]
 fn a_removal_leaves_what_another_version_has(rt: HostRuntime) -> Result<(), Fail> {
-    for Script(shows, steps) in REMOVED {
-        let other = first_other(rt.alloc(), steps)?;
-        assert!(rt; other.is_none(), "{shows}: {other:?}");
-    }
-    Ok(())
+    follow(&rt, rt.alloc(), REMOVED)
 }
 
 #[test]
 fn it_is_told_how_far_a_version_is(rt: HostRuntime) -> Result<(), Fail> {
-    for Script(shows, steps) in TOLD {
-        let other = first_other(rt.alloc(), steps)?;
-        assert!(rt; other.is_none(), "{shows}: {other:?}");
-    }
-    Ok(())
+    follow(&rt, rt.alloc(), TOLD)
 }

@@ -10,7 +10,7 @@ use text_edits::{Edit, Text};
 pub(crate) type Ranges = &'static [(usize, usize)];
 
 /// What is asked of a node.
-#[derive(Clone, Copy, Debug)]
+#[derive(Clone, Copy)]
 pub(crate) enum Asked {
     /// A text goes in here.
     Insert(usize, &'static str),
@@ -28,7 +28,7 @@ pub(crate) enum Asked {
 }
 
 /// A node's name, and what is asked of it.
-#[derive(Clone, Copy, Debug)]
+#[derive(Clone, Copy)]
 pub(crate) struct Of(pub(crate) &'static str, pub(crate) Asked);
 
 fn insert(alloc: Global, edits: &mut Items<Edit>, start: usize, text: &str) -> Result<(), Fail> {

@@ -2,7 +2,7 @@
 use crate::asking::Asked::{Change, Insert, Opens, OpensSeen, Remove, Shows};
 use crate::asking::Of;
 use crate::running::Step::{Blobs, Settled, Shown, Update, Work};
-use crate::running::{Script, first_other};
+use crate::running::{Script, follow};
 use row_updates::Blob;
 use std::test::Fail;
 
@@ -238,27 +238,15 @@ const SEEN: &[Script] = &[
 
 #[test]
 fn an_edit_leaves_what_stands_before_it(rt: HostRuntime) -> Result<(), Fail> {
-    for Script(shows, steps) in EDITED {
-        let other = first_other(rt.alloc(), steps)?;
-        assert!(rt; other.is_none(), "{shows}: {other:?}");
-    }
-    Ok(())
+    follow(&rt, rt.alloc(), EDITED)
 }
 
 #[test]
 fn what_is_imported_or_loaded_is_taken_up(rt: HostRuntime) -> Result<(), Fail> {
-    for Script(shows, steps) in IMPORTED {
-        let other = first_other(rt.alloc(), steps)?;
-        assert!(rt; other.is_none(), "{shows}: {other:?}");
-    }
-    Ok(())
+    follow(&rt, rt.alloc(), IMPORTED)
 }
 
 #[test]
 fn what_is_seen_is_worked_on_first_and_printed(rt: HostRuntime) -> Result<(), Fail> {
-    for Script(shows, steps) in SEEN {
-        let other = first_other(rt.alloc(), steps)?;
-        assert!(rt; other.is_none(), "{shows}: {other:?}");
-    }
-    Ok(())
+    follow(&rt, rt.alloc(), SEEN)
 }

@@ -92,19 +92,29 @@ fn put(path: &mut Vec<usize>, place: usize, number: usize) -> Result<(), Fail> {
     Ok(())
 }
 
-/// Follows a path from the beginning, but for its last step, in place of which the first one is
-/// done that has its number or a greater one; and goes on by the first steps that can be done. None
-/// where the last step has no such one: then the path ends before it.
-fn walked(alloc: Global, orders: &Orders, path: &mut Vec<usize>) -> Result<Option<Run>, Fail> {
+/// A document in which the first version was made.
+fn opened(alloc: Global, open: Step) -> Result<Run, Fail> {
     let mut run = Run::new(alloc)?;
-    run.step(alloc, orders.open)?;
-    let mut between = orders.between;
+    run.step(alloc, open)?;
+    Ok(run)
+}
+
+/// Follows a path, but for its last step, in place of which the first one is done that has its
+/// number or a greater one; and goes on by the first steps that can be done. False where the last
+/// step has no such one: then the path ends before it.
+fn goes_on(
+    alloc: Global,
+    run: &mut Run,
+    between: Option<Step>,
+    path: &mut Vec<usize>,
+) -> Result<bool, Fail> {
+    let mut between = between;
     for place in 0..MOST_STEPS {
         let from = path.get(place).copied().unwrap_or(0);
-        match next(alloc, &mut run, between, from)? {
+        match next(alloc, run, between, from)? {
             None => {
                 path.truncate(place);
-                return Ok(if from == 0 { Some(run) } else { None });
+                return Ok(from == 0);
             }
             Some(number) => {
                 put(path, place, number)?;
@@ -115,6 +125,14 @@ fn walked(alloc: Global, orders: &Orders, path: &mut Vec<usize>) -> Result<Optio
         }
     }
     Err(Fail::new("too long"))
+}
+
+/// Follows a path from the beginning, as far as it can be followed. None where its last step has no
+/// other one.
+fn walked(alloc: Global, orders: &Orders, path: &mut Vec<usize>) -> Result<Option<Run>, Fail> {
+    let mut run = opened(alloc, orders.open)?;
+    let is_whole = goes_on(alloc, &mut run, orders.between, path)?;
+    Ok(if is_whole { Some(run) } else { None })
 }
 
 /// What was counted of orders.
@@ -158,6 +176,19 @@ fn count(alloc: Global, run: &Run, orders: &Orders, counts: &mut Counts) -> Resu
     Ok(())
 }
 
+/// Counts the order of the path, where it is one.
+fn count_next(
+    alloc: Global,
+    orders: &Orders,
+    path: &mut Vec<usize>,
+    counts: &mut Counts,
+) -> Result<(), Fail> {
+    match walked(alloc, orders, path)? {
+        Some(run) => count(alloc, &run, orders, counts),
+        None => Ok(()),
+    }
+}
+
 /// Counts all orders: the next path after each differs from it at the last place where it can.
 fn counted(alloc: Global, orders: &Orders) -> Result<Counts, Fail> {
     let mut counts = Counts {
@@ -167,9 +198,7 @@ fn counted(alloc: Global, orders: &Orders) -> Result<Counts, Fail> {
     };
     let mut path = Vec::new(alloc);
     for _ in 0..1_000_000 {
-        if let Some(run) = walked(alloc, orders, &mut path)? {
-            count(alloc, &run, orders, &mut counts)?;
-        }
+        count_next(alloc, orders, &mut path, &mut counts)?;
         let Some(last) = path.pop() else {
             return Ok(counts);
         };

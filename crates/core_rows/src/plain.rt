@@ -8,7 +8,7 @@ use outer_tokens::scalars;
 use report_markup::Report;
 use row_language::Never;
 use sqlite_items::Items;
-use std::alloc::Global;
+use std::alloc::{AllocError, Global};
 use std::test::Fail;
 
 /// What is reported of a command, by the place where its span begins.
@@ -63,20 +63,30 @@ fn imports_of(
     let names = node.imports.get().as_slice();
     let mut imports = Items::new(alloc);
     for (name, aim) in names.iter().zip(graph.aims(place)) {
-        let name = Items::from_slice(alloc, name.as_slice())?;
-        let end = match aim {
-            Some(aim) if graph.is_ordered(*aim) => ends.get(*aim),
-            _ => None,
-        };
-        match end {
-            None => return Ok(Imports::Bad(name)),
-            Some(end) => imports.push(Imported {
-                name,
-                state: shared(alloc, *end)?,
-            })?,
+        match end_of(graph, *aim, ends) {
+            None => return bad(alloc, name.as_slice()),
+            Some(end) => imports.push(imported(alloc, name.as_slice(), end)?)?,
         }
     }
     Ok(Imports::Ordered(imports))
+}
+
+/// The state behind an import that comes before its importers.
+fn end_of(graph: &ImportGraph, aim: Option<usize>, ends: &Ends) -> Option<u64> {
+    match aim {
+        Some(aim) if graph.is_ordered(aim) => ends.get(aim).copied(),
+        _ => None,
+    }
+}
+
+fn bad(alloc: Global, name: &[char]) -> Result<Imports<u64>, Fail> {
+    Ok(Imports::Bad(Items::from_slice(alloc, name)?))
+}
+
+fn imported(alloc: Global, name: &[char], end: u64) -> Result<Imported<u64>, Fail> {
+    let state = shared(alloc, end)?;
+    let name = Items::from_slice(alloc, name)?;
+    Ok(Imported { name, state })
 }
 
 /// What is reported of a command; the state behind it is answered.
@@ -138,6 +148,14 @@ struct Checking<'a> {
     aliases: Vec<NodeAliases>,
 }
 
+/// The state that the node at a place begins with.
+fn begun_at(alloc: Global, version: &Checking<'_>, place: usize, ends: &Ends) -> Result<u64, Fail> {
+    let (name, node) = version.nodes.at(place).ok_or("node")?;
+    let aliases = version.aliases.get(place).ok_or("aliases")?;
+    let imports = imports_of(alloc, &version.graph, place, node, ends)?;
+    Ok(Tally.start(alloc, name, &imports, aliases)?)
+}
+
 /// The node at a place; the state behind it goes in among the others.
 fn check_node(
     alloc: Global,
@@ -146,11 +164,8 @@ fn check_node(
     ends: &mut Ends,
 ) -> Result<Checked, Fail> {
     let (name, node) = version.nodes.at(place).ok_or("node")?;
-    let aliases = version.aliases.get(place).ok_or("aliases")?;
-    let imports = imports_of(alloc, &version.graph, place, node, ends)?;
-    let begun = Tally.start(alloc, name, &imports, aliases)?;
-    let mut said = Vec::new(alloc);
-    let end = commands(alloc, node, version.blobs, begun, &mut said)?;
+    let begun = begun_at(alloc, version, place, ends)?;
+    let (said, end) = said_of(alloc, node, version.blobs, begun)?;
     if let Some(there) = ends.get_mut(place) {
         *there = end;
     }
@@ -158,23 +173,53 @@ fn check_node(
     Ok(Checked { name, said })
 }
 
-/// All nodes, in the order of imports.
-pub(crate) fn check(alloc: Global, nodes: &Nodes, blobs: &Blobs) -> Result<Vec<Checked>, Fail> {
+/// All that is reported of a node, and the state behind it.
+fn said_of(
+    alloc: Global,
+    node: &Node,
+    blobs: &Blobs,
+    begun: u64,
+) -> Result<(Vec<Said>, u64), Fail> {
+    let mut said = Vec::new(alloc);
+    let end = commands(alloc, node, blobs, begun, &mut said)?;
+    Ok((said, end))
+}
+
+fn begin_check<'a>(
+    alloc: Global,
+    nodes: &'a Nodes,
+    blobs: &'a Blobs,
+) -> Result<Checking<'a>, AllocError> {
     let graph = ImportGraph::of(alloc, nodes)?;
     let aliases = aliases_of(alloc, nodes, &graph)?;
-    let version = Checking {
+    Ok(Checking {
         nodes,
         blobs,
         graph,
         aliases,
-    };
+    })
+}
+
+/// States for as many nodes, none of which is checked yet.
+fn no_ends(alloc: Global, count: usize) -> Result<Ends, AllocError> {
     let mut ends = Vec::new(alloc);
-    for _ in 0..nodes.len() {
+    for _ in 0..count {
         ends.push(0)?;
     }
+    Ok(ends)
+}
+
+fn check_all(alloc: Global, version: &Checking<'_>, ends: &mut Ends) -> Result<Vec<Checked>, Fail> {
     let mut all = Vec::new(alloc);
     for place in version.graph.order() {
-        all.push(check_node(alloc, &version, *place, &mut ends)?)?;
+        all.push(check_node(alloc, version, *place, ends)?)?;
     }
     Ok(all)
+}
+
+/// All nodes, in the order of imports.
+pub(crate) fn check(alloc: Global, nodes: &Nodes, blobs: &Blobs) -> Result<Vec<Checked>, Fail> {
+    let version = begin_check(alloc, nodes, blobs)?;
+    let mut ends = no_ends(alloc, nodes.len())?;
+    check_all(alloc, &version, &mut ends)
 }

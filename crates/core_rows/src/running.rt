@@ -10,10 +10,11 @@ use prover_core::Settled;
 use row_updates::{Blob, blobs_of, named};
 use sqlite_items::Items;
 use std::alloc::Global;
+use std::process::Abort;
 use std::test::Fail;
 
 /// What is done next. Versions and executions are told by their numbers.
-#[derive(Clone, Copy, Debug)]
+#[derive(Clone, Copy)]
 pub(crate) enum Step {
     /// A version is made by these changes of nodes.
     Update(u64, &'static [Of]),
@@ -69,17 +70,31 @@ impl Run {
         nodes: &[Of],
         blobs: &[Blob],
     ) -> Result<String, Fail> {
-        let items = items_of(alloc, nodes)?;
-        let blobs = blobs_of(alloc, blobs)?;
-        let updated = self
-            .desk
-            .update(alloc, version_id(version)?, &items, &blobs)?;
+        let updated = self.updated(alloc, version_id(version)?, nodes, blobs)?;
         if matches!(updated, Updated::Told(_)) {
-            let buffer = self.desk.buffer();
-            let nodes = check(alloc, buffer.nodes(), buffer.blobs())?;
-            self.plain.push(Plain { version, nodes })?;
+            self.keep(alloc, version)?;
         }
         Ok(of_update(alloc, &updated)?)
+    }
+
+    fn updated(
+        &mut self,
+        alloc: Global,
+        id: VersionId,
+        nodes: &[Of],
+        blobs: &[Blob],
+    ) -> Result<Updated, Fail> {
+        let items = items_of(alloc, nodes)?;
+        let blobs = blobs_of(alloc, blobs)?;
+        Ok(self.desk.update(alloc, id, &items, &blobs)?)
+    }
+
+    /// The newest version goes in as it is checked from nothing.
+    fn keep(&mut self, alloc: Global, version: u64) -> Result<(), Fail> {
+        let buffer = self.desk.buffer();
+        let nodes = check(alloc, buffer.nodes(), buffer.blobs())?;
+        self.plain.push(Plain { version, nodes })?;
+        Ok(())
     }
 
     fn remove(&mut self, alloc: Global, versions: &[u64]) -> Result<String, Fail> {
@@ -220,11 +235,16 @@ pub(crate) struct Script(
 );
 
 /// The first step that comes to something else, and what it comes to.
-pub(crate) fn first_other(
+fn first_other(alloc: Global, steps: &[(Step, &'static str)]) -> Result<Option<String>, Fail> {
+    let mut run = Run::new(alloc)?;
+    first_other_of(alloc, &mut run, steps)
+}
+
+fn first_other_of(
     alloc: Global,
+    run: &mut Run,
     steps: &[(Step, &'static str)],
 ) -> Result<Option<String>, Fail> {
-    let mut run = Run::new(alloc)?;
     for (step, want) in steps {
         let told = run.step(alloc, *step)?;
         if told.as_str() != *want {
@@ -232,4 +252,13 @@ pub(crate) fn first_other(
         }
     }
     Ok(None)
+}
+
+/// Follows the scripts. Each step has to come to what is said of it.
+pub(crate) fn follow(rt: &impl Abort, alloc: Global, scripts: &[Script]) -> Result<(), Fail> {
+    for Script(shows, steps) in scripts {
+        let other = first_other(alloc, steps)?;
+        assert!(rt; other.is_none(), "{shows}: {other:?}");
+    }
+    Ok(())
 }

@@ -43,6 +43,13 @@ fn push_node(alloc: Global, text: &mut String, told: &ToldNode) -> Result<(), Al
     text.push_str("; ")
 }
 
+fn push_nodes(alloc: Global, text: &mut String, nodes: &[ToldNode]) -> Result<(), AllocError> {
+    for node in nodes {
+        push_node(alloc, text, node)?;
+    }
+    Ok(())
+}
+
 /// The nodes that are told with their commands, or why there is no version.
 pub(crate) fn of_update(alloc: Global, updated: &Updated) -> Result<String, AllocError> {
     let mut text = String::new(alloc);
@@ -52,11 +59,7 @@ pub(crate) fn of_update(alloc: Global, updated: &Updated) -> Result<String, Allo
             text.push_str("refused ")?;
             push_number(alloc, &mut text, refusal.number())?;
         }
-        Updated::Told(nodes) => {
-            for node in nodes {
-                push_node(alloc, &mut text, node)?;
-            }
-        }
+        Updated::Told(nodes) => push_nodes(alloc, &mut text, nodes)?,
     }
     Ok(text)
 }
@@ -171,7 +174,7 @@ fn are_among(parts: &[PartResult<'_>], said: &[Said]) -> bool {
 }
 
 /// How what is shown of a node stands to what is reported of it from nothing.
-#[derive(Clone, Copy, Debug)]
+#[derive(Clone, Copy)]
 pub(crate) enum Shown {
     /// It is all of that.
     All,
