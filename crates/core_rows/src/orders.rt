@@ -127,14 +127,6 @@ fn goes_on(
     Err(Fail::new("too long"))
 }
 
-/// Follows a path from the beginning, as far as it can be followed. None where its last step has no
-/// other one.
-fn walked(alloc: Global, orders: &Orders, path: &mut Vec<usize>) -> Result<Option<Run>, Fail> {
-    let mut run = opened(alloc, orders.open)?;
-    let is_whole = goes_on(alloc, &mut run, orders.between, path)?;
-    Ok(if is_whole { Some(run) } else { None })
-}
-
 /// What was counted of orders.
 #[derive(Clone, Copy)]
 struct Counts {
@@ -176,17 +168,29 @@ fn count(alloc: Global, run: &Run, orders: &Orders, counts: &mut Counts) -> Resu
     Ok(())
 }
 
-/// Counts the order of the path, where it is one.
+/// Follows the path, and counts its order where it is one.
+fn count_followed(
+    alloc: Global,
+    run: &mut Run,
+    orders: &Orders,
+    path: &mut Vec<usize>,
+    counts: &mut Counts,
+) -> Result<(), Fail> {
+    if goes_on(alloc, run, orders.between, path)? {
+        count(alloc, run, orders, counts)?;
+    }
+    Ok(())
+}
+
+/// Counts the order of the path from the beginning, where it is one.
 fn count_next(
     alloc: Global,
     orders: &Orders,
     path: &mut Vec<usize>,
     counts: &mut Counts,
 ) -> Result<(), Fail> {
-    match walked(alloc, orders, path)? {
-        Some(run) => count(alloc, &run, orders, counts),
-        None => Ok(()),
-    }
+    let mut run = opened(alloc, orders.open)?;
+    count_followed(alloc, &mut run, orders, path, counts)
 }
 
 /// Counts all orders: the next path after each differs from it at the last place where it can.
