@@ -30,6 +30,12 @@ pub stepped : (left : ℕ) (t : Term) (goal : Formula) (scope : Scoped) (step : 
 stepped left t goal scope step result e told =
     subst (λ w. Gives result w (meaning goal)) (sym (checked_is left t goal scope step e (within_of left (out-Term t) goal step e))) told
 
+-- the same of an equal step
+pub stepped_as : (left : ℕ) (t : Term) (goal : Formula) (scope : Scoped) (step got : Step) (result : Result Thm Halt) → got ≡ step → step_within left (out-Term t) goal ≡ Ok step
+    → Gives result (of_step (checked_within (left - 1)) scope goal got) (meaning goal) → Gives result (checked_within left t goal scope) (meaning goal)
+stepped_as left t goal scope step got result same e told =
+    stepped left t goal scope step result e (subst (λ s. Gives result (of_step (checked_within (left - 1)) scope goal s) (meaning goal)) same told)
+
 -- an answer to the same term in the same scope is handed on
 pub gives_as : (left : ℕ) (term other : Term) (goal : Formula) (scope here : Scoped) (given result : Result Thm Halt) → result ≡ given → term ≡ other → scope ≡ here
     → Gives given (checked_within left term goal scope) (meaning goal) → Gives result (checked_within left other goal here) (meaning goal)

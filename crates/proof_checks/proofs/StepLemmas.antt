@@ -25,13 +25,13 @@ module _ (term : Term) (goal : Formula) (result : Result Step Halt) where
   unfolding step_of
   of_ConjI t u is told = along (Term-F.ConjI t u) (ap out-Term (is ∙ sym (T.rolls-ConjI t u)) ∙ out-roll-Term (Term-F.ConjI t u)) told
 
-  pub of_ConjE1 : (b : Formula) (t : Term) (b_got : Formula) → term ≡ T.ConjE1 b t → b_got ≡ b → Plans result (Ok (row.conj_e1 b_got t goal)) → Plans result (step_of (out-Term term) goal)
+  pub of_ConjE1 : (b : Formula) (t : Term) → term ≡ T.ConjE1 b t → Plans result (Ok (row.conj_e1 b t goal)) → Plans result (step_of (out-Term term) goal)
   unfolding step_of
-  of_ConjE1 b t b_got is b_is told = along (Term-F.ConjE1 b t) (ap out-Term (is ∙ sym (T.rolls-ConjE1 b t)) ∙ out-roll-Term (Term-F.ConjE1 b t)) (subst (λ q. Plans result (Ok (row.conj_e1 q t goal))) b_is told)
+  of_ConjE1 b t is told = along (Term-F.ConjE1 b t) (ap out-Term (is ∙ sym (T.rolls-ConjE1 b t)) ∙ out-roll-Term (Term-F.ConjE1 b t)) told
 
-  pub of_ConjE2 : (a : Formula) (t : Term) (a_got : Formula) → term ≡ T.ConjE2 a t → a_got ≡ a → Plans result (Ok (row.conj_e2 a_got t goal)) → Plans result (step_of (out-Term term) goal)
+  pub of_ConjE2 : (a : Formula) (t : Term) → term ≡ T.ConjE2 a t → Plans result (Ok (row.conj_e2 a t goal)) → Plans result (step_of (out-Term term) goal)
   unfolding step_of
-  of_ConjE2 a t a_got is a_is told = along (Term-F.ConjE2 a t) (ap out-Term (is ∙ sym (T.rolls-ConjE2 a t)) ∙ out-roll-Term (Term-F.ConjE2 a t)) (subst (λ q. Plans result (Ok (row.conj_e2 q t goal))) a_is told)
+  of_ConjE2 a t is told = along (Term-F.ConjE2 a t) (ap out-Term (is ∙ sym (T.rolls-ConjE2 a t)) ∙ out-roll-Term (Term-F.ConjE2 a t)) told
 
   pub of_DisjI1 : (t : Term) → term ≡ T.DisjI1 t → Plans result (row.disj_i1 t (out-Formula goal)) → Plans result (step_of (out-Term term) goal)
   unfolding step_of
@@ -41,25 +41,25 @@ module _ (term : Term) (goal : Formula) (result : Result Step Halt) where
   unfolding step_of
   of_DisjI2 t is told = along (Term-F.DisjI2 t) (ap out-Term (is ∙ sym (T.rolls-DisjI2 t)) ∙ out-roll-Term (Term-F.DisjI2 t)) told
 
-  pub of_DisjE : (a : Formula) (b : Formula) (t : Term) (x : List ℕ) (u : Term) (y : List ℕ) (v : Term) (a_got : Formula) (b_got : Formula) → term ≡ T.DisjE a b t x u y v → a_got ≡ a → b_got ≡ b → Plans result (Ok (row.disj_e a_got b_got t x u y v goal)) → Plans result (step_of (out-Term term) goal)
+  pub of_DisjE : (a : Formula) (b : Formula) (t : Term) (x : List ℕ) (u : Term) (y : List ℕ) (v : Term) → term ≡ T.DisjE a b t x u y v → Plans result (Ok (row.disj_e a b t x u y v goal)) → Plans result (step_of (out-Term term) goal)
   unfolding step_of
-  of_DisjE a b t x u y v a_got b_got is a_is b_is told = along (Term-F.DisjE a b t x u y v) (ap out-Term (is ∙ sym (T.rolls-DisjE a b t x u y v)) ∙ out-roll-Term (Term-F.DisjE a b t x u y v)) (subst (λ q. Plans result (Ok (row.disj_e a q t x u y v goal))) b_is (subst (λ q. Plans result (Ok (row.disj_e q b_got t x u y v goal))) a_is told))
+  of_DisjE a b t x u y v is told = along (Term-F.DisjE a b t x u y v) (ap out-Term (is ∙ sym (T.rolls-DisjE a b t x u y v)) ∙ out-roll-Term (Term-F.DisjE a b t x u y v)) told
 
   pub of_ImpI : (x : List ℕ) (t : Term) → term ≡ T.ImpI x t → Plans result (row.imp_i x t (out-Formula goal)) → Plans result (step_of (out-Term term) goal)
   unfolding step_of
   of_ImpI x t is told = along (Term-F.ImpI x t) (ap out-Term (is ∙ sym (T.rolls-ImpI x t)) ∙ out-roll-Term (Term-F.ImpI x t)) told
 
-  pub of_ImpE : (a : Formula) (t : Term) (u : Term) (a_got : Formula) → term ≡ T.ImpE a t u → a_got ≡ a → Plans result (Ok (row.imp_e a_got t u goal)) → Plans result (step_of (out-Term term) goal)
+  pub of_ImpE : (a : Formula) (t : Term) (u : Term) → term ≡ T.ImpE a t u → Plans result (Ok (row.imp_e a t u goal)) → Plans result (step_of (out-Term term) goal)
   unfolding step_of
-  of_ImpE a t u a_got is a_is told = along (Term-F.ImpE a t u) (ap out-Term (is ∙ sym (T.rolls-ImpE a t u)) ∙ out-roll-Term (Term-F.ImpE a t u)) (subst (λ q. Plans result (Ok (row.imp_e q t u goal))) a_is told)
+  of_ImpE a t u is told = along (Term-F.ImpE a t u) (ap out-Term (is ∙ sym (T.rolls-ImpE a t u)) ∙ out-roll-Term (Term-F.ImpE a t u)) told
 
   pub of_NotI : (x : List ℕ) (t : Term) → term ≡ T.NotI x t → Plans result (row.not_i x t (out-Formula goal)) → Plans result (step_of (out-Term term) goal)
   unfolding step_of
   of_NotI x t is told = along (Term-F.NotI x t) (ap out-Term (is ∙ sym (T.rolls-NotI x t)) ∙ out-roll-Term (Term-F.NotI x t)) told
 
-  pub of_NotE : (a : Formula) (t : Term) (u : Term) (a_got : Formula) → term ≡ T.NotE a t u → a_got ≡ a → Plans result (row.not_e a_got t u (out-Formula goal)) → Plans result (step_of (out-Term term) goal)
+  pub of_NotE : (a : Formula) (t : Term) (u : Term) → term ≡ T.NotE a t u → Plans result (row.not_e a t u (out-Formula goal)) → Plans result (step_of (out-Term term) goal)
   unfolding step_of
-  of_NotE a t u a_got is a_is told = along (Term-F.NotE a t u) (ap out-Term (is ∙ sym (T.rolls-NotE a t u)) ∙ out-roll-Term (Term-F.NotE a t u)) (subst (λ q. Plans result (row.not_e q t u (out-Formula goal))) a_is told)
+  of_NotE a t u is told = along (Term-F.NotE a t u) (ap out-Term (is ∙ sym (T.rolls-NotE a t u)) ∙ out-roll-Term (Term-F.NotE a t u)) told
 
   pub of_FalseE : (t : Term) → term ≡ T.FalseE t → Plans result (Ok (row.false_e t)) → Plans result (step_of (out-Term term) goal)
   unfolding step_of

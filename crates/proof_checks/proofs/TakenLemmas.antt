@@ -16,6 +16,13 @@ use Rattle.proof_checks.specs.Answers.{Gives, Asked}
 use Rattle.proof_checks.specs.Checks.{Found}
 use Rattle.proof_checks.specs.Fits.{Fits, FitsOne, FitsTwo, FitsThree, IsWithin}
 
+-- what an equal step asks
+pub got_within : (step got : Step) (left : ℕ) → got ≡ step → IsWithin step left → IsWithin got left
+got_within step got left same within = subst (λ s. IsWithin s left) (sym same) within
+
+pub got_fits : (step got : Step) (g : Statement) → got ≡ step → Fits step g → Fits got g
+got_fits step got g same fits = subst (λ s. Fits s g) (sym same) fits
+
 module _ (step : Step) (left : ℕ) where
   pub one_within : (rule : Unary) (p : Part) → step ≡ One rule p → IsWithin step left → 0 < left
   one_within rule p is within = subst (λ s. IsWithin s left) is within

@@ -1,16 +1,24 @@
 //! Rules that eliminate: their parts, by what they quote. Most of them fit each goal.
 
-ghost use Rattle.std.specs.Prelude.{◌≡◌, IfOk, Ok};
+ghost use Rattle.std.specs.Prelude.{◌≡◌, IfOk, IsTrue, Ok};
+ghost use Rattle.nj_formula.specs.declared.argument.Argument.TheVariants.{Free};
 ghost use Rattle.nj_formula.specs.declared.formula.Formula.{out-Formula};
-ghost use Rattle.nj_formula.specs.declared.formula.Formula.TheVariants.{Or};
+ghost use Rattle.nj_formula.specs.declared.formula.Formula.TheVariants.{Or, Implies, Not};
+ghost use Rattle.nj_formula.specs.Closed.{is_closed};
+ghost use Rattle.nj_formula.specs.FormulaInstance.{formula_instance};
+ghost use Rattle.nj_formula.specs.Meaning.{meaning};
+ghost use Rattle.proof_checks.specs.declared.step.Step.TheVariants.{One, Two, Three};
+ghost use Rattle.proof_checks.specs.declared.step.Binary.TheVariants as B;
+ghost use Rattle.proof_checks.specs.declared.step.Unary.TheVariants as U;
 ghost use Rattle.proof_checks.specs.Answers.{Plans};
 ghost use Rattle.proof_checks.specs.Parts.{part, under};
 ghost use Rattle.proof_checks.specs.Rows as row;
+ghost use Rattle.proof_checks.specs.Statements.{is_same};
 
 use crate::halt::{Halt, misfit};
-use crate::parts::{part, under, whole};
+use crate::parts::{assuming, at_name, part, under, whole};
 use crate::same::is_same;
-use crate::step::{Binary, Part, Step, Unary};
+use crate::step::{Binary, Part, Step, Unary, one, three, two};
 use nj_formula::{Formula, Name, ObjTerm, Shared};
 use nj_kernel::Rule;
 use proof_terms::Term;
@@ -19,67 +27,103 @@ use std::alloc::{AllocError, Global};
 /// `(conjE1 "B" t)`
 pub(crate) fn conj_e1(
     alloc: Global,
-    b: &Formula,
+    b: &Shared<Formula>,
     t: &Shared<Term>,
     goal: &Formula,
-) -> Result<Step, Halt>
+) -> Result<Shared<Step>, Halt>
     ensures { Plans result (Ok (row.conj_e1 b.now t.now goal.now)) }
 {
-    let both = Formula::and(alloc, goal.copy(alloc)?, b.copy(alloc)?)?;
-    Ok(Step::One(Unary::ConjE1, whole(t, both)?))
+    let t = t.copy()?;
+    let b = b.copy()?;
+    let goal = Shared::new(alloc, goal.copy(alloc)?)?;
+    Ok(one(alloc, Unary::ConjE1, whole(t, Formula::And(goal, b)))?)
 }
 
 /// `(conjE2 "A" t)`
 pub(crate) fn conj_e2(
     alloc: Global,
-    a: &Formula,
+    a: &Shared<Formula>,
     t: &Shared<Term>,
     goal: &Formula,
-) -> Result<Step, Halt>
+) -> Result<Shared<Step>, Halt>
     ensures { Plans result (Ok (row.conj_e2 a.now t.now goal.now)) }
 {
-    let both = Formula::and(alloc, a.copy(alloc)?, goal.copy(alloc)?)?;
-    Ok(Step::One(Unary::ConjE2, whole(t, both)?))
+    let t = t.copy()?;
+    let a = a.copy()?;
+    let goal = Shared::new(alloc, goal.copy(alloc)?)?;
+    Ok(one(alloc, Unary::ConjE2, whole(t, Formula::And(a, goal)))?)
 }
 
 /// `(impE "A" t u)`
 pub(crate) fn imp_e(
     alloc: Global,
-    a: &Formula,
+    a: &Shared<Formula>,
     t: &Shared<Term>,
     u: &Shared<Term>,
     goal: &Formula,
-) -> Result<Step, Halt>
+) -> Result<Shared<Step>, Halt>
     ensures { Plans result (Ok (row.imp_e a.now t.now u.now goal.now)) }
 {
-    let implied = Formula::implies(alloc, a.copy(alloc)?, goal.copy(alloc)?)?;
-    Ok(Step::Two(Binary::ImpE, whole(t, implied)?, part(alloc, u, a)?))
+    let t = t.copy()?;
+    let u = u.copy()?;
+    let implies = implied(alloc, a, goal)?;
+    let holds = a.get().copy(alloc)?;
+    Ok(two(alloc, Binary::ImpE, whole(t, implies), whole(u, holds))?)
+}
+
+/// The implication of the goal.
+fn implied(alloc: Global, a: &Shared<Formula>, goal: &Formula) -> Result<Formula, AllocError>
+    ensures { IfOk result (λ f. f ≡ Implies a.now goal.now) }
+{
+    let a = a.copy()?;
+    let goal = Shared::new(alloc, goal.copy(alloc)?)?;
+    Ok(Formula::Implies(a, goal))
 }
 
 /// `(notE "A" t u)`
 pub(crate) fn not_e(
     alloc: Global,
-    a: &Formula,
+    a: &Shared<Formula>,
     t: &Shared<Term>,
     u: &Shared<Term>,
     goal: &Formula,
-) -> Result<Step, Halt>
+) -> Result<Shared<Step>, Halt>
     ensures { Plans result (row.not_e a.now t.now u.now (out-Formula goal.now)) }
 {
     match goal {
-        Formula::False => {
-            let denied = Formula::not(alloc, a.copy(alloc)?)?;
-            Ok(Step::Two(Binary::NotE, whole(t, denied)?, part(alloc, u, a)?))
-        }
+        Formula::False => Ok(denied(alloc, a, t, u)?),
         _ => Err(misfit(Rule::NotE)),
     }
 }
 
+/// The parts of notE, which show the negation and what it denies.
+fn denied(
+    alloc: Global,
+    a: &Shared<Formula>,
+    t: &Shared<Term>,
+    u: &Shared<Term>,
+) -> Result<Shared<Step>, AllocError>
+    ensures { IfOk result (λ step. step
+        ≡ Two B.NotE (part t.now (Not a.now)) (part u.now a.now)) }
+{
+    let t = t.copy()?;
+    let u = u.copy()?;
+    let denied = a.copy()?;
+    let holds = a.get().copy(alloc)?;
+    two(
+        alloc,
+        Binary::NotE,
+        whole(t, Formula::Not(denied)),
+        whole(u, holds),
+    )
+}
+
 /// `(falseE t)`
-pub(crate) fn false_e(t: &Shared<Term>) -> Result<Step, Halt>
+pub(crate) fn false_e(alloc: Global, t: &Shared<Term>) -> Result<Shared<Step>, Halt>
     ensures { Plans result (Ok (row.false_e t.now)) }
 {
-    Ok(Step::One(Unary::FalseE, whole(t, Formula::False)?))
+    let t = t.copy()?;
+    Ok(one(alloc, Unary::FalseE, whole(t, Formula::False))?)
 }
 
 /// `(allE "ALL y. P" "s" t)`
@@ -89,14 +133,14 @@ pub(crate) fn all_e(
     s: &Shared<ObjTerm>,
     t: &Shared<Term>,
     goal: &Formula,
-) -> Result<Step, Halt>
+) -> Result<Shared<Step>, Halt>
     ensures { Plans result (row.all_e quoted.now s.now t.now goal.now (out-Formula quoted.now)) }
 {
     match quoted {
         Formula::All(_, body) => {
-            let at_s = body.get().instance(alloc, s.get())?;
-            if is_same(goal, &at_s) {
-                Ok(Step::One(Unary::AllE(s.copy()?), part(alloc, t, quoted)?))
+            let fits = is_instance(alloc, goal, body, s)?;
+            if fits {
+                Ok(at_term(alloc, quoted, s, t)?)
             } else {
                 Err(misfit(Rule::AllE))
             }
@@ -105,45 +149,72 @@ pub(crate) fn all_e(
     }
 }
 
+/// Whether the goal is the body at the term.
+fn is_instance(
+    alloc: Global,
+    goal: &Formula,
+    body: &Shared<Formula>,
+    s: &Shared<ObjTerm>,
+) -> Result<bool, AllocError>
+    ensures same { IfOk result (λ is. is
+        ≡ is_same (meaning goal.now) (meaning (formula_instance s.now body.now))) }
+    ensures closed { IfOk result (λ _. IsTrue (is_closed s.now)) }
+{
+    let at_s = body.get().instance(alloc, s.get())?;
+    Ok(is_same(goal, &at_s))
+}
+
+/// The part of allE, which shows what is quoted.
+fn at_term(
+    alloc: Global,
+    quoted: &Formula,
+    s: &Shared<ObjTerm>,
+    t: &Shared<Term>,
+) -> Result<Shared<Step>, AllocError>
+    ensures { IfOk result (λ step. step ≡ One (U.AllE s.now) (part t.now quoted.now)) }
+{
+    let s = s.copy()?;
+    let shown = part(alloc, t, quoted)?;
+    one(alloc, Unary::AllE(s), shown)
+}
+
 /// `(disjE "A" "B" t x u y v)`
 pub(crate) fn disj_e(
     alloc: Global,
-    a: &Formula,
-    b: &Formula,
+    a: &Shared<Formula>,
+    b: &Shared<Formula>,
     t: &Shared<Term>,
     x: &Name,
     u: &Shared<Term>,
     y: &Name,
     v: &Shared<Term>,
     goal: &Formula,
-) -> Result<Step, Halt>
+) -> Result<Shared<Step>, Halt>
     ensures { Plans result (Ok (row.disj_e a.now b.now t.now x.now u.now y.now v.now goal.now)) }
 {
-    let whole = either(alloc, a, b, t)?;
-    let left = case(alloc, x, a, u, goal)?;
-    let right = case(alloc, y, b, v, goal)?;
-    Ok(Step::Three(whole, left, right))
+    let t = t.copy()?;
+    let a = a.copy()?;
+    let b = b.copy()?;
+    let left = under(alloc, x, a.get(), u, goal)?;
+    Ok(with_right(alloc, t, a, b, left, y, v, goal)?)
 }
 
-/// The part of disjE that shows one of the cases.
-fn either(alloc: Global, a: &Formula, b: &Formula, t: &Shared<Term>) -> Result<Part, AllocError>
-    ensures { IfOk result (λ p. p ≡ part t.now (Or a.now b.now)) }
-{
-    let either = Formula::or(alloc, a.copy(alloc)?, b.copy(alloc)?)?;
-    whole(t, either)
-}
-
-/// A case of disjE.
-fn case(
+/// The parts of disjE, of which the left case is handed in.
+fn with_right(
     alloc: Global,
-    x: &Name,
-    a: &Formula,
-    t: &Shared<Term>,
+    t: Shared<Term>,
+    a: Shared<Formula>,
+    b: Shared<Formula>,
+    left: Part,
+    y: &Name,
+    v: &Shared<Term>,
     goal: &Formula,
-) -> Result<Part, AllocError>
-    ensures { IfOk result (λ p. p ≡ under x.now a.now t.now goal.now) }
+) -> Result<Shared<Step>, AllocError>
+    ensures { IfOk result (λ step. step
+        ≡ Three (part t (Or a b)) left (under y.now b v.now goal.now)) }
 {
-    under(alloc, x, a.copy(alloc)?, t, goal)
+    let right = under(alloc, y, b.get(), v, goal)?;
+    three(alloc, whole(t, Formula::Or(a, b)), left, right)
 }
 
 /// `(exE "EX y. P" x h t u)`
@@ -155,21 +226,36 @@ pub(crate) fn ex_e(
     t: &Shared<Term>,
     u: &Shared<Term>,
     goal: &Formula,
-) -> Result<Step, Halt>
+) -> Result<Shared<Step>, Halt>
     ensures { Plans result (row.ex_e quoted.now x.now h.now t.now u.now goal.now
         (out-Formula quoted.now)) }
 {
     match quoted {
         Formula::Exists(_, body) => {
-            let at_x = body
-                .get()
-                .instance(alloc, &ObjTerm::name(alloc, x.as_str())?)?;
-            Ok(Step::Two(
-                Binary::ExE(x.copy(alloc)?),
-                part(alloc, t, quoted)?,
-                under(alloc, h, at_x, u, goal)?,
-            ))
+            let name = x.copy(alloc)?;
+            let t = t.copy()?;
+            let some = quoted.copy(alloc)?;
+            let rest = witnessed(alloc, x, h, body, u, goal)?;
+            Ok(two(alloc, Binary::ExE(name), whole(t, some), rest)?)
         }
         _ => Err(misfit(Rule::ExE)),
     }
+}
+
+/// The part of exE that shows the goal from the body at the name.
+fn witnessed(
+    alloc: Global,
+    x: &Name,
+    h: &Name,
+    body: &Shared<Formula>,
+    u: &Shared<Term>,
+    goal: &Formula,
+) -> Result<Part, AllocError>
+    ensures { IfOk result (λ p. p
+        ≡ under h.now (formula_instance (Free x.now) body.now) u.now goal.now) }
+{
+    let name = h.copy(alloc)?;
+    let u = u.copy()?;
+    let goal = goal.copy(alloc)?;
+    Ok(assuming(name, at_name(alloc, body.get(), x)?, u, goal))
 }

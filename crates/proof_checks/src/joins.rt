@@ -43,15 +43,15 @@ pub(crate) fn join_two(
     rule: &Binary,
     goal: &Formula,
     p: &Part,
-    t: Thm,
+    t: &Thm,
     q: &Part,
     last: Result<Thm, Halt>,
 ) -> Result<Thm, Halt>
-    requires first { shown t ≡ meaning p.now.goal }
+    requires first { shown t.now ≡ meaning p.now.goal }
     requires second { IfOk last (λ u. shown u ≡ meaning q.now.goal) }
     requires fits { FitsTwo rule.now p.now.own q.now.own (meaning p.now.goal)
         (meaning q.now.goal) (meaning goal.now) }
-    ensures gives { (a : List Statement) → Lists (assumed t) (members a)
+    ensures gives { (a : List Statement) → Lists (assumed t.now) (members a)
         → (found : Found) → Gives last found (meaning q.now.goal)
         → Gives result (and_then (discharged q.now.own found)
         (by_two rule.now (meaning p.now.goal) (meaning goal.now) (remaining p.now.own a)))
@@ -59,7 +59,7 @@ pub(crate) fn join_two(
     ensures hands { HandsOver last result }
 {
     let u = last?;
-    by_two(alloc, rule, goal, p, &t, q, &u)
+    by_two(alloc, rule, goal, p, t, q, &u)
 }
 
 /// By the rule disjE.
@@ -67,23 +67,24 @@ pub(crate) fn join_three(
     alloc: Global,
     goal: &Formula,
     p: &Part,
-    t: Thm,
+    t: &Thm,
     q: &Part,
-    u: Thm,
+    u: &Thm,
     r: &Part,
     last: Result<Thm, Halt>,
 ) -> Result<Thm, Halt>
-    requires first { shown t ≡ meaning p.now.goal }
-    requires second { shown u ≡ meaning q.now.goal }
+    requires first { shown t.now ≡ meaning p.now.goal }
+    requires second { shown u.now ≡ meaning q.now.goal }
     requires third { IfOk last (λ v. shown v ≡ meaning r.now.goal) }
     requires fits { FitsThree p.now.own q.now.own r.now.own (meaning p.now.goal)
         (meaning q.now.goal) (meaning r.now.goal) (meaning goal.now) }
-    ensures gives { (a b : List Statement) → Lists (assumed t) (members a)
-        → Lists (assumed u) (members b) → (found : Found) → Gives last found (meaning r.now.goal)
+    ensures gives { (a b : List Statement) → Lists (assumed t.now) (members a)
+        → Lists (assumed u.now) (members b)
+        → (found : Found) → Gives last found (meaning r.now.goal)
         → Gives result (and_then (discharged r.now.own found)
         (by_three (remaining p.now.own a) (remaining q.now.own b))) (meaning goal.now) }
     ensures hands { HandsOver last result }
 {
     let v = last?;
-    by_three(alloc, goal, p, &t, q, &u, r, &v)
+    by_three(alloc, goal, p, t, q, u, r, &v)
 }

@@ -17,7 +17,7 @@ use crate::halt::Halt;
 use crate::joins::{join_one, join_three, join_two};
 use crate::step::{Binary, Part, Step};
 use crate::steps::step_of;
-use nj_formula::Formula;
+use nj_formula::{Formula, Shared};
 use nj_kernel::Thm;
 use pide_base::Stop;
 use proof_terms::{Term, TermFault};
@@ -32,7 +32,7 @@ fn entered<P: Stop>(
     goal: &Formula,
     stop: &mut P,
     left: usize,
-) -> Result<Step, Halt>
+) -> Result<Shared<Step>, Halt>
     requires { (c : Cite) → term.now ≢ Fact c }
     ensures plans { Enters result (step_within left (out-Term term.now) goal.now) }
     ensures asked { Asked result (P.yeses stop.old) (P.yeses stop.new) }
@@ -77,7 +77,7 @@ pub(crate) fn proved<P: Stop>(
         return cited(alloc, cite, goal, scope);
     }
     let step = entered(alloc, term, goal, stop, left)?;
-    taken(alloc, &step, goal, scope, stop, left)
+    taken(alloc, step.get(), goal, scope, stop, left)
 }
 
 /// The theorem of what a term came to.
@@ -130,7 +130,7 @@ fn two<P: Stop>(
 {
     let t = premise(alloc, p, scope, stop, left)?;
     let last = premise(alloc, q, scope, stop, left);
-    join_two(alloc, rule, goal, p, t, q, last)
+    join_two(alloc, rule, goal, p, &t, q, last)
 }
 
 /// The theorem of the rule disjE.
@@ -155,7 +155,7 @@ fn three<P: Stop>(
     let t = premise(alloc, p, scope, stop, left)?;
     let u = premise(alloc, q, scope, stop, left)?;
     let last = premise(alloc, r, scope, stop, left);
-    join_three(alloc, goal, p, t, q, u, r, last)
+    join_three(alloc, goal, p, &t, q, &u, r, last)
 }
 
 /// The theorem of a part, for which it may cite its own assumption.

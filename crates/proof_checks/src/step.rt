@@ -1,7 +1,11 @@
 //! A rule as it is taken apart.
 
+ghost use Rattle.std.specs.Prelude.{◌≡◌, IfOk};
+ghost use Rattle.proof_checks.specs.declared.step.Step.TheVariants.{One, Two, Three};
+
 use nj_formula::{Formula, Name, ObjTerm, Shared};
 use proof_terms::{Cite, Term};
+use std::alloc::{AllocError, Global};
 use theory_ctx::Local;
 
 /// A part of a rule: a term, what it is to show, and the assumption that it alone may cite.
@@ -49,4 +53,25 @@ pub(crate) enum Step {
     Two(Binary, Part, Part),
     /// The rule disjE.
     Three(Part, Part, Part),
+}
+
+/// A rule of one premise and its part.
+pub(crate) fn one(alloc: Global, rule: Unary, p: Part) -> Result<Shared<Step>, AllocError>
+    ensures { IfOk result (λ step. step ≡ One rule p) }
+{
+    Shared::new(alloc, Step::One(rule, p))
+}
+
+/// A rule of two premises and its parts.
+pub(crate) fn two(alloc: Global, rule: Binary, p: Part, q: Part) -> Result<Shared<Step>, AllocError>
+    ensures { IfOk result (λ step. step ≡ Two rule p q) }
+{
+    Shared::new(alloc, Step::Two(rule, p, q))
+}
+
+/// The parts of disjE.
+pub(crate) fn three(alloc: Global, p: Part, q: Part, r: Part) -> Result<Shared<Step>, AllocError>
+    ensures { IfOk result (λ step. step ≡ Three p q r) }
+{
+    Shared::new(alloc, Step::Three(p, q, r))
 }

@@ -5,8 +5,8 @@ use Rattle.proof_checks.specs.Checks.{checked_within}
 use Rattle.theory_ctx.specs.Locals.{seen}
 use Rattle.proof_checks.proofs.JoinLemmas.{runs_asks}
 use Rattle.proof_checks.proofs.OwnLemmas.{none_inside, some_inside, handed_back, handed_asks}
-use Rattle.proof_checks.proofs.ReturnLemmas.{stepped, fact_told, gives_as, enter_halts, cited_taken, one_taken, same_taken, two_halts, three_halts, three_second_halts}
-use Rattle.proof_checks.proofs.TakenLemmas.{one_within, two_within, three_within, one_fits, two_fits, three_fits, given_shows, taken_shows, asked_then, taken_seen}
+use Rattle.proof_checks.proofs.ReturnLemmas.{stepped_as, fact_told, gives_as, enter_halts, cited_taken, one_taken, same_taken, two_halts, three_halts, three_second_halts}
+use Rattle.proof_checks.proofs.TakenLemmas.{got_within, got_fits, one_within, two_within, three_within, one_fits, two_fits, three_fits, given_shows, taken_shows, asked_then, taken_seen}
 use Rattle.proof_checks.proofs.CallLemmas.{halted, over, two_end, three_end}
 use Rattle.proof_checks.proofs.proving.+proved.Goals as goal
 
@@ -23,11 +23,11 @@ proved-returns-in_err-step g t c =
     record { gives = gives; scope = rest.0; asked = rest.1 }
 
 pub proved-taken-requires : goal.proved-taken-requires
-proved-taken-requires g t c κs within = search (rules, c.in_ok-step.ensures.deep, c.in_ok-step.ensures.fits)
+proved-taken-requires g t c κs within = search (rules, got_within c.in_ok-step.step c.get.result.now c.args.left c.get.ensures c.in_ok-step.ensures.deep, got_fits c.in_ok-step.step c.get.result.now (meaning c.args.goal.now) c.get.ensures c.in_ok-step.ensures.fits)
 
 pub proved-returns : goal.proved-returns
 proved-returns g t c =
-    let gives = stepped c.args.left c.args.term.now c.args.goal.now (seen c.args.scope.now) c.in_ok-step.step c.taken.result c.in_ok-step.ensures.plans c.taken.ensures.gives in
+    let gives = stepped_as c.args.left c.args.term.now c.args.goal.now (seen c.args.scope.now) c.in_ok-step.step c.get.result.now c.taken.result c.get.ensures c.in_ok-step.ensures.plans c.taken.ensures.gives in
     let asked = asked_then c.entered.result c.in_ok-step.step c.taken.result _ _ _ c.in_ok-step.was c.entered.ensures.asked c.taken.ensures.asked in
     record { gives = gives; scope = c.taken.ensures.scope; asked = asked }
 

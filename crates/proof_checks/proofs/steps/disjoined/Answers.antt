@@ -9,7 +9,7 @@ pub returns-in-DisjI2 : goal.returns-in-DisjI2
 returns-in-DisjI2 c = of_DisjI2 c.args.term.now c.args.goal.now c.disj_i2.result c.in-DisjI2.t c.in-DisjI2.is c.disj_i2.ensures
 
 pub returns-in-DisjE : goal.returns-in-DisjE
-returns-in-DisjE c = of_DisjE c.args.term.now c.args.goal.now c.disj_e.result c.in-DisjE.a c.in-DisjE.b c.in-DisjE.t c.in-DisjE.x c.in-DisjE.u c.in-DisjE.y c.in-DisjE.v c.get.result.now c.get-in-DisjE.result.now c.in-DisjE.is c.get.ensures c.get-in-DisjE.ensures c.disj_e.ensures
+returns-in-DisjE c = of_DisjE c.args.term.now c.args.goal.now c.disj_e.result c.in-DisjE.a c.in-DisjE.b c.in-DisjE.t c.in-DisjE.x c.in-DisjE.u c.in-DisjE.y c.in-DisjE.v c.in-DisjE.is c.disj_e.ensures
 
 pub implied-requires : goal.implied-requires
 implied-requires c = after_disjoined c.args.term.now c.requires c.in_default.not-DisjI1 c.in_default.not-DisjI2 c.in_default.not-DisjE
