@@ -6,10 +6,10 @@ ghost use Rattle.isar_rules.specs.Proofs.{with_formula, text_of_name};
 ghost use Rattle.command_reports.specs.Tries.{Tries};
 ghost use Rattle.proof_steps.specs.Ordered.{after_order};
 
-use crate::ordering::local_reports;
+use crate::ordering::{local_name, quoted_in};
 use crate::standing::{Lemma, concluded, forked};
 use crate::stepping::{assumed, begun_anew, claimed, closed, finished, fixed, opened, shown};
-use command_reports::{Halt, fixed_report, formula_in};
+use command_reports::{Halt, fixed_report};
 use isar_rules::Spot;
 use proof_state::Proof;
 use sqlite_items::Items;
@@ -66,9 +66,9 @@ pub(crate) fn assume_command(
     ensures { Tries (after_order lemma.now.theory.now lemma.now.name.now lemma.now.goal.now
         proof.now (with_formula (assume (text_of_name name.now)) name.now quoted.now)) result }
 {
-    let formula = formula_in(alloc, quoted.text.as_slice())?;
-    let reports = local_reports(alloc, name, quoted, &formula)?;
-    let after = assumed(alloc, proof, name, formula)?;
+    let text = local_name(alloc, name)?;
+    let (formula, reports) = quoted_in(alloc, name, quoted)?;
+    let after = assumed(alloc, proof, text.as_deref(), formula)?;
     Ok(concluded(alloc, lemma, after, reports)?)
 }
 
@@ -83,9 +83,9 @@ pub(crate) fn have_command(
     ensures { Tries (after_order lemma.now.theory.now lemma.now.name.now lemma.now.goal.now
         proof.now (with_formula (have (text_of_name name.now)) name.now quoted.now)) result }
 {
-    let formula = formula_in(alloc, quoted.text.as_slice())?;
-    let reports = local_reports(alloc, name, quoted, &formula)?;
-    let after = claimed(alloc, proof, name, formula)?;
+    let text = local_name(alloc, name)?;
+    let (formula, reports) = quoted_in(alloc, name, quoted)?;
+    let after = claimed(alloc, proof, text.as_deref(), formula)?;
     Ok(concluded(alloc, lemma, after, reports)?)
 }
 
@@ -99,8 +99,7 @@ pub(crate) fn show_command(
     ensures { Tries (after_order lemma.now.theory.now lemma.now.name.now lemma.now.goal.now
         proof.now (with_formula show None quoted.now)) result }
 {
-    let formula = formula_in(alloc, quoted.text.as_slice())?;
-    let reports = local_reports(alloc, &None, quoted, &formula)?;
+    let (formula, reports) = quoted_in(alloc, &None, quoted)?;
     let after = shown(alloc, proof, formula)?;
     Ok(concluded(alloc, lemma, after, reports)?)
 }

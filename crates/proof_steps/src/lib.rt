@@ -7,6 +7,7 @@
 #![tactic(auto)]
 
 mod commands;
+mod freeing;
 mod ordering;
 mod proving;
 mod refusing;

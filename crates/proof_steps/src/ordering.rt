@@ -1,9 +1,12 @@
 //! What is reported of a proof command, and the names that it gives.
 ghost use Rattle.std.specs.Prelude.{◌≡◌, ◌∷◌, IfOk, option_map, string_bytes};
+ghost use Rattle.std.specs.Result.{result_map_both};
+ghost use Rattle.isar_rules.specs.Errors.{formula_in};
 ghost use Rattle.isar_rules.specs.Proofs.{text_of_name};
 ghost use Rattle.isar_rules.specs.Reports.{formula_report, local_report};
+ghost use Rattle.command_reports.specs.Tries.{Tries};
 
-use command_reports::{ascii, formula_report, local_report};
+use command_reports::{Halt, ascii, formula_in, formula_report, local_report};
 use isar_rules::Spot;
 use nj_formula::Formula;
 use report_markup::Report;
@@ -11,7 +14,7 @@ use sqlite_items::Items;
 use std::alloc::{AllocError, Global};
 
 /// The reports of a quoted formula, and of the name that it has in the proof.
-pub(crate) fn local_reports(
+fn local_reports(
     alloc: Global,
     name: &Option<Spot>,
     quoted: &Spot,
@@ -24,6 +27,22 @@ pub(crate) fn local_reports(
     reports.push(formula_report(alloc, quoted, formula)?)?;
     reports.append(local_report(alloc, name)?)?;
     Ok(reports)
+}
+
+/// A quoted formula, unless it is bad, with its reports and those of its name in the proof.
+pub(crate) fn quoted_in(
+    alloc: Global,
+    name: &Option<Spot>,
+    quoted: &Spot,
+) -> Result<(Formula, Items<Report>), Halt>
+    ensures formula { Tries (formula_in quoted.now.text)
+        (result_map_both (λ both. both.0) (λ halt. halt) result) }
+    ensures reports { IfOk result (λ both. both.1
+        ≡ formula_report quoted.now both.0 ∷ local_report name.now) }
+{
+    let formula = formula_in(alloc, quoted.text.as_slice())?;
+    let reports = local_reports(alloc, name, quoted, &formula)?;
+    Ok((formula, reports))
 }
 
 /// The text of a name, where there is one. It has to be in ASCII.

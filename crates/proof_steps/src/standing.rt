@@ -6,6 +6,7 @@ ghost use Rattle.isar_rules.specs.Theories.{with_fact};
 ghost use Rattle.isar_rules.specs.declared.state.Place.TheVariants as place;
 ghost use Rattle.proof_state.specs.Answers.{is_closed};
 
+use crate::freeing::free;
 use isar_rules::{Place, Theory};
 use nj_formula::{Formula, Name};
 use proof_state::Proof;
@@ -58,11 +59,10 @@ fn held(alloc: Global, lemma: &Lemma) -> Result<OwnLemma, AllocError>
       goal = lemma.now.goal.now;
     }) }
 {
-    Ok(OwnLemma {
-        theory: lemma.theory.copy(alloc)?,
-        name: lemma.name.copy(alloc)?,
-        goal: lemma.goal.copy(alloc)?,
-    })
+    let name = lemma.name.copy(alloc)?;
+    let theory = lemma.theory.copy(alloc)?;
+    let goal = lemma.goal.copy(alloc)?;
+    Ok(OwnLemma { theory, name, goal })
 }
 
 /// The lemma, with its proof so far.
@@ -83,8 +83,13 @@ fn open(alloc: Global, lemma: &Lemma, proof: Proof) -> Result<Place, AllocError>
     ensures { IfOk result (λ p. p ≡ place.Proof
         lemma.now.theory.now lemma.now.name.now lemma.now.goal.now proof) }
 {
-    let held = held(alloc, lemma)?;
-    Ok(with_proof(held, proof))
+    match held(alloc, lemma) {
+        Ok(held) => Ok(with_proof(held, proof)),
+        Err(fault) => {
+            free(proof);
+            Err(fault)
+        }
+    }
 }
 
 /// Where the proof stands: once it is closed, the theory has the lemma.
@@ -93,6 +98,7 @@ fn stands(alloc: Global, lemma: &Lemma, proof: Proof) -> Result<Place, AllocErro
         ≡ stands lemma.now.theory.now lemma.now.name.now lemma.now.goal.now proof) }
 {
     if is_closed(&proof) {
+        free(proof);
         proved(alloc, lemma)
     } else {
         open(alloc, lemma, proof)

@@ -1,20 +1,20 @@
 //! A proof after each of its commands, or why the command is refused.
-ghost use Rattle.std.specs.Prelude.{Result};
+ghost use Rattle.std.specs.Prelude.{◌≡◌, IfOk, Result};
+ghost use Rattle.std.specs.Option.{option_copied};
 ghost use Rattle.proof_state.specs.Answers.{Gives, left};
 ghost use Rattle.proof_state.specs.declared.fault.ProofFault.{ProofFault};
 ghost use Rattle.proof_state.specs.declared.levels.Levels.{Levels};
 ghost use Rattle.proof_state.specs.Steps.{step, proof as opens, fix, assume, have, show};
 ghost use Rattle.proof_state.specs.Steps.{next, qed, by};
-ghost use Rattle.isar_rules.specs.Proofs.{levels_or, text_of_name};
+ghost use Rattle.isar_rules.specs.Proofs.{levels_or};
 ghost use Rattle.command_reports.specs.Tries.{Tries};
 
-use crate::ordering::local_name;
+use crate::freeing::free;
 use crate::refusing::refused;
 use command_reports::{Halt, ascii};
-use isar_rules::Spot;
 use nj_formula::Formula;
 use proof_state::{Proof, ProofFault};
-use std::alloc::Global;
+use std::alloc::{AllocError, Global};
 use theory_ctx::Ctx;
 
 /// What a command left of a proof, by its answer.
@@ -28,8 +28,23 @@ fn gone_on<T: Drop>(
 {
     match answer {
         Ok(_) => Ok(after),
-        Err(fault) => Err(refused(alloc, fault)),
+        Err(fault) => {
+            free(after);
+            Err(refused(alloc, fault))
+        }
     }
+}
+
+/// A copy of the proof, with the formula that a command gives to it.
+fn copied_for(
+    alloc: Global,
+    proof: &Proof,
+    formula: Formula,
+) -> Result<(Proof, Formula), AllocError>
+    ensures { IfOk result (λ both. both ≡ (proof.now, formula)) }
+{
+    let copy = proof.copy(alloc)?;
+    Ok((copy, formula))
 }
 
 /// `proof`
@@ -61,33 +76,31 @@ pub(crate) fn fixed(alloc: Global, proof: &Proof, facts: &Ctx, name: &[char]) ->
     gone_on(alloc, answer, after)
 }
 
-/// `assume`. The name has to be in ASCII.
+/// `assume`
 pub(crate) fn assumed(
     alloc: Global,
     proof: &Proof,
-    name: &Option<Spot>,
+    name: Option<&str>,
     formula: Formula,
 ) -> Result<Proof, Halt>
-    ensures { Tries (levels_or (step (assume (text_of_name name.now) formula) proof.now)) result }
+    ensures { Tries (levels_or (step (assume (option_copied name.entry) formula) proof.now)) result }
 {
-    let name = local_name(alloc, name)?;
-    let mut after = proof.copy(alloc)?;
-    let answer = after.assume(alloc, name.as_deref(), formula);
+    let (mut after, formula) = copied_for(alloc, proof, formula)?;
+    let answer = after.assume(alloc, name, formula);
     gone_on(alloc, answer, after)
 }
 
-/// `have`. The name has to be in ASCII.
+/// `have`
 pub(crate) fn claimed(
     alloc: Global,
     proof: &Proof,
-    name: &Option<Spot>,
+    name: Option<&str>,
     formula: Formula,
 ) -> Result<Proof, Halt>
-    ensures { Tries (levels_or (step (have (text_of_name name.now) formula) proof.now)) result }
+    ensures { Tries (levels_or (step (have (option_copied name.entry) formula) proof.now)) result }
 {
-    let name = local_name(alloc, name)?;
-    let mut after = proof.copy(alloc)?;
-    let answer = after.have(alloc, name.as_deref(), formula);
+    let (mut after, formula) = copied_for(alloc, proof, formula)?;
+    let answer = after.have(alloc, name, formula);
     gone_on(alloc, answer, after)
 }
 
@@ -95,7 +108,7 @@ pub(crate) fn claimed(
 pub(crate) fn shown(alloc: Global, proof: &Proof, formula: Formula) -> Result<Proof, Halt>
     ensures { Tries (levels_or (step (show formula) proof.now)) result }
 {
-    let mut after = proof.copy(alloc)?;
+    let (mut after, formula) = copied_for(alloc, proof, formula)?;
     let answer = after.show(alloc, formula);
     gone_on(alloc, answer, after)
 }
