@@ -6,6 +6,7 @@ ghost use Rattle.isar_rules.specs.Errors.{not_allowed};
 ghost use Rattle.isar_rules.specs.Steps.{acted, tried};
 ghost use Rattle.command_reports.specs.Tries.{Tries, Refuses};
 
+use crate::freeing::free;
 use command_reports::{Halt, refusal};
 use isar_rules::{Place, Shape, Theory};
 use proof_steps::{Lemma, proof_made};
@@ -73,8 +74,10 @@ pub(crate) fn tried(
 ) -> Result<Effect, Halt>
     ensures { Tries (tried (option_copied blob.entry) place.now shape) result }
 {
-    match &shape {
+    let ended = match &shape {
         Some(shape) => acted(alloc, blob, place, shape),
         None => Err(refusal(alloc, "malformed command")),
-    }
+    };
+    free(shape);
+    ended
 }

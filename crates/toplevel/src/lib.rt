@@ -9,6 +9,7 @@
 
 mod acting;
 mod forking;
+mod freeing;
 mod isar;
 mod made;
 mod printing;

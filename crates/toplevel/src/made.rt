@@ -1,5 +1,6 @@
 //! What a command makes of a state, by what was tried.
 ghost use Rattle.std.specs.Prelude.{◌≡◌, ◌∷◌, ◌++◌, [], Ok, Err, IfOk, string_bytes};
+ghost use Rattle.isar_rules.specs.declared.state.Place.TheVariants as place;
 ghost use Rattle.isar_rules.specs.Errors.{Tried};
 ghost use Rattle.isar_rules.specs.Effects.{Effect as Effects};
 ghost use Rattle.isar_rules.specs.Reports.{announced, error_report};
@@ -7,15 +8,45 @@ ghost use Rattle.isar_rules.specs.Steps.{after_error, made_by};
 ghost use Rattle.report_markup.specs.Sorting.{in_order};
 ghost use Rattle.command_reports.specs.Tries.{Tries};
 
+use crate::freeing::free;
 use command_reports::{Halt, announced, error_report};
-use isar_rules::{Place, State};
+use isar_rules::{Place, State, Theory};
 use language::Made;
+use nj_formula::{Formula, Name};
 use outer_tokens::Token;
+use proof_state::Proof;
 use report_markup::Report;
 use sorted_reports::in_order;
 use sqlite_items::Items;
 use std::alloc::{AllocError, Global};
 use theory_steps::Effect;
+
+/// The place in this proof of a lemma.
+fn in_proof(
+    alloc: Global,
+    theory: &Theory,
+    name: &Name,
+    goal: &Formula,
+    proof: &Proof,
+) -> Result<Place, AllocError>
+    ensures { IfOk result (λ p. p ≡ place.Proof theory.now name.now goal.now proof.now) }
+{
+    let name = name.copy(alloc)?;
+    let theory = theory.copy(alloc)?;
+    let goal = goal.copy(alloc)?;
+    match proof.copy(alloc) {
+        Ok(proof) => Ok(Place::Proof {
+            theory,
+            name,
+            goal,
+            proof,
+        }),
+        Err(fault) => {
+            free((theory, goal));
+            Err(fault)
+        }
+    }
+}
 
 /// The place behind an error.
 fn after_error(alloc: Global, place: &Place) -> Result<Place, AllocError>
@@ -29,12 +60,7 @@ fn after_error(alloc: Global, place: &Place) -> Result<Place, AllocError>
             name,
             goal,
             proof,
-        } => Ok(Place::Proof {
-            theory: theory.copy(alloc)?,
-            name: name.copy(alloc)?,
-            goal: goal.copy(alloc)?,
-            proof: proof.copy(alloc)?,
-        }),
+        } => in_proof(alloc, theory, name, goal, proof),
         Place::End(theory) => Ok(Place::End(theory.copy(alloc)?)),
     }
 }
@@ -76,12 +102,17 @@ fn made_at(
       forks = forks;
     }) }
 {
-    let aliases = before.aliases.copy()?;
-    Ok(Made {
-        state: State { place, aliases },
-        reports,
-        forks,
-    })
+    match before.aliases.copy() {
+        Ok(aliases) => Ok(Made {
+            state: State { place, aliases },
+            reports,
+            forks,
+        }),
+        Err(fault) => {
+            free(place);
+            Err(fault)
+        }
+    }
 }
 
 /// What an accepted command makes.
@@ -99,8 +130,13 @@ fn accepted(
         reports,
         forks,
     } = effect;
-    let all = reported(alloc, source, tokens, reports)?;
-    made_at(before, place, all, forks)
+    match reported(alloc, source, tokens, reports) {
+        Ok(all) => made_at(before, place, all, forks),
+        Err(fault) => {
+            free(place);
+            Err(fault)
+        }
+    }
 }
 
 /// What a command makes that is refused with this text.

@@ -2,6 +2,7 @@
 ghost use Rattle.std.specs.Prelude.{◌≡◌, ◌++◌, IfOk, OnOk, map, codes, string_bytes};
 ghost use Rattle.isar_rules.specs.Shown.{place_text, suggested_at, suggestion, print};
 
+use crate::freeing::free;
 use command_reports::{state_report, suggest_report};
 use doc_nodes::Aliases;
 use isar_rules::{Place, State};
@@ -48,7 +49,9 @@ fn suggested_at(alloc: Global, aliases: &Aliases, place: &Place) -> Result<Optio
         return Ok(None);
     };
     let scope = proof.scope(alloc, theory.name.as_str(), &theory.facts)?;
-    suggest(alloc, goal, &scope, aliases.names())
+    let term = suggest(alloc, goal, &scope, aliases.names());
+    free(scope);
+    term
 }
 
 /// Adds the report of a suggested proof, where there is one.
@@ -80,7 +83,9 @@ fn suggest_behind(
         (suggested_at (map (λ pair. pair.0) behind.now.aliases) behind.now.place)) }
 {
     let term = suggested_at(alloc, behind.aliases.get(), &behind.place)?;
-    add_suggestion(alloc, source, &term, reports)
+    let added = add_suggestion(alloc, source, &term, reports);
+    free(term);
+    added
 }
 
 /// What is printed of a command, by the state behind it.
@@ -92,8 +97,9 @@ pub(crate) fn print(
     ensures { IfOk result (λ reports. reports ≡ print source.now behind.now) }
 {
     let text = place_text(alloc, &behind.place)?;
+    let report = state_report(alloc, source, text)?;
     let mut reports = Items::new(alloc);
-    reports.push(state_report(alloc, source, text)?)?;
+    reports.push(report)?;
     suggest_behind(alloc, source, behind, &mut reports)?;
     Ok(reports)
 }
