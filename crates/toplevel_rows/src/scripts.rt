@@ -1,8 +1,9 @@
 //! Scripts of the node `A` (`toplevel`).
-use crate::running::{made, started, told};
-use language::Made;
+use crate::running::{started, tell_made};
+use language::Language;
 use std::alloc::Global;
 use std::test::Fail;
+use toplevel::Isar;
 
 /// What is shown, commands, and what is told of the last one.
 pub(crate) struct Row(
@@ -127,19 +128,45 @@ pub(crate) const ROWS: &[Row] = &[
     ),
 ];
 
+/// Tells of a command, and the state is then the one behind it.
+fn tell_command<L: Language>(
+    lang: &L,
+    alloc: Global,
+    text: &mut String,
+    source: &str,
+    state: &mut L::State,
+) -> Result<(), Fail> {
+    let source: Vec<char> = source.chars().collect(alloc)?;
+    let blob: Vec<char> = BLOB.chars().collect(alloc)?;
+    tell_made(lang, alloc, text, &source, Some(&blob), state)
+}
+
+/// Tells of each command in place of the one before.
+fn tell_commands<L: Language>(
+    lang: &L,
+    alloc: Global,
+    text: &mut String,
+    sources: &[&'static str],
+    state: &mut L::State,
+) -> Result<(), Fail> {
+    for source in sources {
+        text.clear();
+        tell_command(lang, alloc, text, source, state)?;
+    }
+    Ok(())
+}
+
+/// What a language tells of the last of the commands.
+fn told_by<L: Language>(lang: &L, alloc: Global, sources: &[&'static str]) -> Result<String, Fail> {
+    let mut text = String::new(alloc);
+    let mut state = started(lang, alloc)?;
+    tell_commands(lang, alloc, &mut text, sources, &mut state)?;
+    Ok(text)
+}
+
 /// What is told of the last of the commands.
 fn told_of_last(alloc: Global, sources: &[&'static str]) -> Result<String, Fail> {
-    let blob: Vec<char> = BLOB.chars().collect(alloc)?;
-    let mut state = started(alloc)?;
-    let mut last = String::new(alloc);
-    for source in sources {
-        let source: Vec<char> = source.chars().collect(alloc)?;
-        let after = made(alloc, &source, Some(&blob), &state)?;
-        last = told(alloc, &source, &state, &after)?;
-        let Made { state: next, .. } = after;
-        state = next;
-    }
-    Ok(last)
+    told_by(&Isar, alloc, sources)
 }
 
 #[test]

@@ -6,13 +6,15 @@
 //! is only tried.
 use crate::errors::ERRORS;
 use crate::proof_places::PROOF_PLACES;
-use crate::running::{begun, made, started, told};
+use crate::running::{started, tell_made, tell_tried};
 use crate::theory_places::THEORY_PLACES;
-use isar_rules::State;
-use language::{Imports, Made};
+use language::{Imports, Language};
+use row_language::begun;
 use sqlite_items::Items;
 use std::alloc::{AllocError, Global};
+use std::process::Abort;
 use std::test::Fail;
+use toplevel::Isar;
 
 /// A transcript in parts: how a place is reached, and what commands come to there.
 pub(crate) type Transcript = &'static [&'static str];
@@ -34,97 +36,147 @@ fn parted(command: &str) -> (&str, Option<&str>) {
     }
 }
 
-/// The state behind a command.
-fn behind(made: Made<State>) -> State {
-    let Made { state, .. } = made;
-    state
-}
-
-/// What a command makes; behind `@` stands the text of the blob that it asks for.
-fn tried(alloc: Global, command: &str, before: &State) -> Result<Made<State>, Fail> {
-    let (source, blob) = parted(command);
-    let source = scalars(alloc, source)?;
+/// The scalars of a blob's text, where there is one.
+fn blob_scalars(alloc: Global, blob: Option<&str>) -> Result<Option<Vec<char>>, AllocError> {
     match blob {
-        Some(blob) => made(alloc, &source, Some(&scalars(alloc, blob)?), before),
-        None => made(alloc, &source, None, before),
+        Some(blob) => Ok(Some(scalars(alloc, blob)?)),
+        None => Ok(None),
     }
 }
 
-/// Adds what is told of a command.
-fn tell_made(
+/// Adds what is told of a command, which is only tried.
+fn try_command<L: Language>(
+    lang: &L,
     alloc: Global,
     text: &mut String,
     command: &str,
-    before: &State,
-    made: &Made<State>,
+    state: &L::State,
 ) -> Result<(), Fail> {
-    let (source, _) = parted(command);
+    let (source, blob) = parted(command);
     let source = scalars(alloc, source)?;
-    text.push_str(told(alloc, &source, before, made)?.as_str())?;
+    let blob = blob_scalars(alloc, blob)?;
+    tell_tried(lang, alloc, text, &source, blob.as_deref(), state)
+}
+
+/// Adds what is told of a command, and the state is then the one behind it.
+fn make_command<L: Language>(
+    lang: &L,
+    alloc: Global,
+    text: &mut String,
+    command: &str,
+    state: &mut L::State,
+) -> Result<(), Fail> {
+    let (source, blob) = parted(command);
+    let source = scalars(alloc, source)?;
+    let blob = blob_scalars(alloc, blob)?;
+    tell_made(lang, alloc, text, &source, blob.as_deref(), state)
+}
+
+/// Adds a command's line. The state is then the one in which the next one stands.
+fn tell_line<L: Language>(
+    lang: &L,
+    alloc: Global,
+    text: &mut String,
+    line: &str,
+    state: &mut L::State,
+) -> Result<(), Fail> {
+    text.push_str(line)?;
+    text.push_str("|")?;
+    match line.strip_prefix('+') {
+        Some(command) => make_command(lang, alloc, text, command, state)?,
+        None => try_command(lang, alloc, text, line, state)?,
+    }
+    Ok(text.push_str("\n")?)
+}
+
+/// Whether the line has the scalar.
+fn names(line: &str, wanted: char) -> bool {
+    for scalar in line.chars() {
+        if scalar == wanted {
+            return true;
+        }
+    }
+    false
+}
+
+/// The imports of the node: where the line names it, an import `C` is bad.
+fn imports_of<S: Drop>(alloc: Global, line: &str) -> Result<Imports<S>, AllocError> {
+    if !names(line, 'C') {
+        return Ok(Imports::Ordered(Items::new(alloc)));
+    }
+    Ok(Imports::Bad(Items::from_vec(scalars(alloc, "C")?)))
+}
+
+/// The bad keyword of the node: `k`, where the line names it.
+fn bad_keyword_of(alloc: Global, line: &str) -> Result<Option<Items<char>>, AllocError> {
+    if !names(line, 'k') {
+        return Ok(None);
+    }
+    Ok(Some(Items::from_vec(scalars(alloc, "k")?)))
+}
+
+/// The beginning of the node.
+fn beginning<L: Language>(lang: &L, alloc: Global, line: &str) -> Result<L::State, Fail> {
+    let bad = bad_keyword_of(alloc, line)?;
+    begun(lang, alloc, &imports_of(alloc, line)?, bad)
+}
+
+/// Adds the line of a beginning. The state is then the node's first.
+fn tell_beginning<L: Language>(
+    lang: &L,
+    alloc: Global,
+    text: &mut String,
+    line: &str,
+    state: &mut L::State,
+) -> Result<(), Fail> {
+    text.push_str(line)?;
+    text.push_str("\n")?;
+    *state = beginning(lang, alloc, line)?;
     Ok(())
 }
 
-/// Adds what is told of a command, and gives the state behind it.
-fn tell_command(
+/// Adds a line of a transcript. The state is then the one in which the next line stands.
+fn tell_any<L: Language>(
+    lang: &L,
     alloc: Global,
     text: &mut String,
-    command: &str,
-    before: &State,
-) -> Result<State, Fail> {
-    let made = tried(alloc, command, before)?;
-    tell_made(alloc, text, command, before, &made)?;
-    Ok(behind(made))
-}
-
-/// Adds a command's line, and gives the state in which the next one stands.
-fn tell_line(alloc: Global, text: &mut String, line: &str, before: State) -> Result<State, Fail> {
-    text.push_str(line)?;
-    text.push_str("|")?;
-    let command = line.strip_prefix('+').unwrap_or(line);
-    let after = tell_command(alloc, text, command, &before)?;
-    text.push_str("\n")?;
-    Ok(if line.starts_with('+') { after } else { before })
-}
-
-/// The beginning of the node: where the line names them, an import `C` and a keyword `k` are bad.
-fn beginning(alloc: Global, line: &str) -> Result<State, Fail> {
-    let imports = match line.find('C') {
-        Some(_) => Imports::Bad(Items::from_vec(scalars(alloc, "C")?)),
-        None => Imports::Ordered(Items::new(alloc)),
-    };
-    let bad = match line.find('k') {
-        Some(_) => Some(Items::from_vec(scalars(alloc, "k")?)),
-        None => None,
-    };
-    begun(alloc, &imports, bad)
-}
-
-/// Adds the line of a beginning, and gives the node's first state.
-fn tell_beginning(alloc: Global, text: &mut String, line: &str) -> Result<State, Fail> {
-    text.push_str(line)?;
-    text.push_str("\n")?;
-    beginning(alloc, line)
-}
-
-/// Adds a line of a transcript, and gives the state in which the next one stands.
-fn tell_any(alloc: Global, text: &mut String, line: &str, before: State) -> Result<State, Fail> {
+    line: &str,
+    state: &mut L::State,
+) -> Result<(), Fail> {
     if line.starts_with('*') {
-        return tell_beginning(alloc, text, line);
+        return tell_beginning(lang, alloc, text, line, state);
     }
     match line.split_once('|') {
-        Some((command, _)) => tell_line(alloc, text, command, before),
-        None => Ok(before),
+        Some((command, _)) => tell_line(lang, alloc, text, command, state),
+        None => Ok(()),
     }
+}
+
+/// Adds the lines of a transcript.
+fn tell_lines<L: Language>(
+    lang: &L,
+    alloc: Global,
+    text: &mut String,
+    transcript: &str,
+    state: &mut L::State,
+) -> Result<(), Fail> {
+    for line in transcript.split('\n') {
+        tell_any(lang, alloc, text, line, state)?;
+    }
+    Ok(())
+}
+
+/// The transcript, with what a language tells of its commands.
+fn told_by<L: Language>(lang: &L, alloc: Global, transcript: &str) -> Result<String, Fail> {
+    let mut text = String::new(alloc);
+    let mut state = started(lang, alloc)?;
+    tell_lines(lang, alloc, &mut text, transcript, &mut state)?;
+    Ok(text)
 }
 
 /// The transcript, with what is told of its commands.
 fn told_again(alloc: Global, transcript: &str) -> Result<String, Fail> {
-    let mut text = String::new(alloc);
-    let mut state = started(alloc)?;
-    for line in transcript.split('\n') {
-        state = tell_any(alloc, &mut text, line, state)?;
-    }
-    Ok(text)
+    told_by(&Isar, alloc, transcript)
 }
 
 /// The text of a transcript.
@@ -136,13 +188,19 @@ fn text_of(alloc: Global, transcript: Transcript) -> Result<String, AllocError> 
     Ok(text)
 }
 
+/// Sees that what is told of the commands is what the transcript says.
+fn sees(rt: &impl Abort, alloc: Global, transcript: Transcript) -> Result<(), Fail> {
+    let text = text_of(alloc, transcript)?;
+    let told = told_again(alloc, text.as_str())?;
+    assert_eq!(rt; told.as_str(), text.as_str());
+    Ok(())
+}
+
 #[test]
 fn commands_come_to_what_their_transcripts_say(rt: HostRuntime) -> Result<(), Fail> {
     for transcripts in [THEORY_PLACES, PROOF_PLACES, ERRORS] {
         for transcript in transcripts {
-            let text = text_of(rt.alloc(), *transcript)?;
-            let told = told_again(rt.alloc(), text.as_str())?;
-            assert_eq!(rt; told.as_str(), text.as_str());
+            sees(&rt, rt.alloc(), *transcript)?;
         }
     }
     Ok(())
