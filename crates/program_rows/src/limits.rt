@@ -5,6 +5,7 @@ ghost use Rattle.reply_outbox.specs.declared.item.Item.TheVariants.{Opened};
 ghost use Rattle.session_rules.specs.Services.{free_workers};
 
 use crate::example::{SENT, WRITTEN};
+use crate::looked::sink_of;
 use document_serve::serve;
 use document_session::Session;
 use past_items::Kept;
@@ -13,6 +14,7 @@ use pide_io::{MemSink, MemSource};
 use reply_outbox::Item;
 use session_rules::{Entry, Service};
 use std::alloc::Global;
+use std::process::Abort;
 use std::test::Fail;
 use toplevel::Isar;
 
@@ -70,27 +72,43 @@ fn begun(alloc: Global, service: Service, past: Past) -> Result<Session<Isar, Pa
     }
 }
 
-/// Serves the worked example up to this limit: how that ends, and the sink.
-fn served_within(alloc: Global, limit: usize) -> Result<(Status, MemSink), Fail> {
-    let bytes = Vec::from_slice(alloc, SENT)?;
-    let mut source = MemSource::new(bytes, 50, Vec::new(alloc));
-    let Ok(sink) = MemSink::new(alloc, 4096, Vec::new(alloc)) else {
-        return Err(Fail::new("no sink"));
-    };
-    let mut sink = sink;
+/// Serves the source up to this limit, into the sink: how that ends.
+fn served(
+    alloc: Global,
+    source: &mut MemSource,
+    sink: &mut MemSink,
+    limit: usize,
+) -> Result<Status, Fail> {
     let service = Service::Workers { count: 0 };
     let mut session = begun(alloc, service, Past::new(alloc))?;
-    let status = serve(alloc, &Isar, &mut source, &mut sink, &mut session, limit);
-    Ok((status, sink))
+    let status = serve(alloc, &Isar, source, sink, &mut session, limit);
+    Ok(status)
+}
+
+/// Serves the worked example up to this limit, into the sink: how that ends.
+fn served_within(alloc: Global, sink: &mut MemSink, limit: usize) -> Result<Status, Fail> {
+    let bytes = Vec::from_slice(alloc, SENT)?;
+    let mut source = MemSource::new(bytes, 50, Vec::new(alloc));
+    served(alloc, &mut source, sink, limit)
+}
+
+fn has_written(rt: &impl Abort, sink: &MemSink, row: &Row) {
+    let replies = &WRITTEN[..row.replies.min(WRITTEN.len())];
+    assert!(rt; sink.contents() == replies, "{}", row.shows);
+}
+
+fn holds(rt: &impl Abort, alloc: Global, row: &Row) -> Result<(), Fail> {
+    let mut sink = sink_of(alloc, 0)?;
+    let status = served_within(alloc, &mut sink, row.limit)?;
+    assert!(rt; status == row.status, "{}", row.shows);
+    has_written(rt, &sink, row);
+    Ok(())
 }
 
 #[test]
 fn no_more_than_the_limit_is_taken(rt: HostRuntime) -> Result<(), Fail> {
     for row in ROWS {
-        let (status, sink) = served_within(rt.alloc(), row.limit)?;
-        let replies = &WRITTEN[..row.replies.min(WRITTEN.len())];
-        assert_eq!(rt; status, row.status, "{}", row.shows);
-        assert_eq!(rt; sink.contents(), replies, "{}", row.shows);
+        holds(&rt, rt.alloc(), row)?;
     }
     Ok(())
 }

@@ -2,16 +2,11 @@
 ghost use Rattle.std.specs.Prelude.{◌<◌};
 
 use crate::example::{MORE, REFUSALS, SENT, WRITTEN};
-use crate::looked::watched;
-use document_session::Session;
-use past_items::Kept;
+use crate::looked::{Seen, run_program, sink_of, source_of};
 use pide_base::Status;
-use pide_io::{MemSink, MemSource};
-use reply_outbox::Item;
-use session_rules::{Entry, Service};
+use pide_io::MemSource;
 use std::alloc::{AllocError, Global};
 use std::test::Fail;
-use toplevel::Isar;
 
 /// Runs of the program, one for each of the pieces.
 #[derive(Clone, Copy)]
@@ -44,38 +39,35 @@ impl Row {
         spliced(alloc, WRITTEN, self.replies, self.then)
     }
 
+    fn source(&self, alloc: Global, piece: usize) -> Result<MemSource, AllocError>
+        requires { 0 < piece }
+    {
+        source_of(alloc, self.input(alloc)?, piece, self.failing_pull)
+    }
+
+    fn run(&self, alloc: Global, piece: usize) -> Result<Seen, Fail>
+        requires { 0 < piece }
+    {
+        let source = self.source(alloc, piece)?;
+        let sink = sink_of(alloc, self.failing_push)?;
+        Ok(run_program(alloc, self.words, source, sink))
+    }
+
+    /// Whether a run is as the row says, where its output is this.
+    fn says(&self, run: &Seen, output: &[u8]) -> bool {
+        run.status == self.status
+            && run.sink.contents() == output
+            && self.entries.unwrap_or(run.entries) == run.entries
+    }
+
     /// Whether a run with this piece is as the row says.
     fn holds(&self, alloc: Global, piece: usize) -> Result<bool, Fail>
         requires { 0 < piece }
     {
-        let fails = Vec::from_slice(alloc, &[self.failing_pull])?;
-        let source = MemSource::new(self.input(alloc)?, piece, fails);
-        let fails = Vec::from_slice(alloc, &[self.failing_push])?;
-        let Ok(sink) = MemSink::new(alloc, 4096, fails) else {
-            return Err(Fail::new("no sink"));
-        };
-        let outcome = watched(alloc, self.words, source, sink).outcome;
         let output = self.output(alloc)?;
-        Ok(
-            outcome.status == self.status
-                && outcome.sink.contents() == output.as_slice()
-                && self
-                    .entries
-                    .is_none_or(|count| count == entries_in(outcome.session.as_ref().ok())),
-        )
+        let run = self.run(alloc, piece)?;
+        Ok(self.says(&run, output.as_slice()))
     }
-}
-
-/// How many entries the session's list has: none where no session was begun.
-fn entries_in(session: Option<&Session<Isar, Kept<Item<Service, Entry>>>>) -> usize {
-    let Some(session) = session else {
-        return 0;
-    };
-    let items = session.past().as_slice();
-    items
-        .iter()
-        .filter(|item| matches!(item, Item::Made(_)))
-        .count()
 }
 
 /// The first bytes, so many at most, and what comes after them.

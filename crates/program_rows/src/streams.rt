@@ -1,44 +1,61 @@
 //! Sources, sinks and gates, over memory and over readers and writers (`pide_io`).
 use pide_base::{ExecId, Gate, Part, PartKind, Point, Pulled, Pushed, Sink, Source};
 use pide_io::{MemSink, MemSource, NoGate, StdSink, StdSource};
+use std::alloc::{AllocError, Global};
 use std::io;
 use std::io::{Read, Write};
+use std::process::Abort;
 use std::test::Fail;
 
-fn pull_from<S: Source>(source: &mut S, buffer: &mut [u8; 4]) -> Pulled {
-    source.pull(buffer)
+fn pulls<S: Source>(rt: &impl Abort, source: &mut S, buffer: &mut [u8; 4], want: Pulled) {
+    let pulled = source.pull(buffer);
+    assert_eq!(rt; pulled, want);
 }
 
-fn push_to<K: Sink>(sink: &mut K, piece: &[u8; 3]) -> Pushed {
-    sink.push(piece)
+fn pushes<K: Sink>(rt: &impl Abort, sink: &mut K, piece: &[u8; 3], want: Pushed) {
+    let pushed = sink.push(piece);
+    assert_eq!(rt; pushed, want);
+}
+
+fn source(alloc: Global) -> Result<MemSource, AllocError> {
+    const FAILS: &[u64] = &[2, 6];
+    let bytes = Vec::from_slice(alloc, b"abcdef")?;
+    let fails = Vec::from_slice(alloc, FAILS)?;
+    Ok(MemSource::new(bytes, 3, fails))
+}
+
+fn gives_two_pieces(rt: &impl Abort, source: &mut MemSource, buffer: &mut [u8; 4]) {
+    pulls(rt, source, buffer, Pulled::Bytes(3));
+    assert!(rt; &*buffer == b"abc\0");
+    pulls(rt, source, buffer, Pulled::Failed);
+    pulls(rt, source, buffer, Pulled::Bytes(3));
+    assert!(rt; &*buffer == b"def\0");
 }
 
 #[test]
 fn a_source_over_memory_gives_pieces_and_fails_where_it_is_to(rt: HostRuntime) -> Result<(), Fail> {
-    let bytes = Vec::from_slice(rt.alloc(), b"abcdef")?;
-    let fails = Vec::from_slice(rt.alloc(), &[2, 6])?;
-    let mut source = MemSource::new(bytes, 3, fails);
+    let mut source = source(rt.alloc())?;
     let mut buffer = [0; 4];
-    assert_eq!(rt; pull_from(&mut source, &mut buffer), Pulled::Bytes(3));
-    assert_eq!(rt; buffer, *b"abc\0");
-    assert_eq!(rt; pull_from(&mut source, &mut buffer), Pulled::Failed);
-    assert_eq!(rt; pull_from(&mut source, &mut buffer), Pulled::Bytes(3));
-    assert_eq!(rt; buffer, *b"def\0");
-    assert_eq!(rt; pull_from(&mut source, &mut buffer), Pulled::End);
-    assert_eq!(rt; pull_from(&mut source, &mut buffer), Pulled::End);
-    assert_eq!(rt; pull_from(&mut source, &mut buffer), Pulled::Failed);
+    gives_two_pieces(&rt, &mut source, &mut buffer);
+    pulls(&rt, &mut source, &mut buffer, Pulled::End);
+    pulls(&rt, &mut source, &mut buffer, Pulled::End);
+    pulls(&rt, &mut source, &mut buffer, Pulled::Failed);
     Ok(())
+}
+
+fn sink(alloc: Global) -> Result<MemSink, Fail> {
+    let fails = Vec::from_slice(alloc, &[2])?;
+    Ok(MemSink::new(alloc, 5, fails).ok().ok_or("room")?)
 }
 
 #[test]
 fn a_sink_over_memory_takes_what_it_has_room_for(rt: HostRuntime) -> Result<(), Fail> {
-    let fails = Vec::from_slice(rt.alloc(), &[2])?;
-    let mut sink = MemSink::new(rt.alloc(), 5, fails).ok().ok_or("room")?;
-    assert_eq!(rt; push_to(&mut sink, b"abc"), Pushed::Took(3));
-    assert_eq!(rt; push_to(&mut sink, b"xyz"), Pushed::Failed);
-    assert_eq!(rt; push_to(&mut sink, b"def"), Pushed::Took(2));
-    assert_eq!(rt; push_to(&mut sink, b"ghi"), Pushed::Failed);
-    assert_eq!(rt; sink.contents(), b"abcde".as_slice());
+    let mut sink = sink(rt.alloc())?;
+    pushes(&rt, &mut sink, b"abc", Pushed::Took(3));
+    pushes(&rt, &mut sink, b"xyz", Pushed::Failed);
+    pushes(&rt, &mut sink, b"def", Pushed::Took(2));
+    pushes(&rt, &mut sink, b"ghi", Pushed::Failed);
+    assert!(rt; sink.contents() == b"abcde".as_slice());
     Ok(())
 }
 
@@ -86,17 +103,17 @@ impl Write for Fitful {
 fn a_reader_s_error_is_a_failed_pull(rt: HostRuntime) {
     let mut source = StdSource::new(Fitful { calls: 0 });
     let mut buffer = [0; 4];
-    assert_eq!(rt; pull_from(&mut source, &mut buffer), Pulled::Bytes(1));
-    assert_eq!(rt; pull_from(&mut source, &mut buffer), Pulled::Failed);
-    assert_eq!(rt; pull_from(&mut source, &mut buffer), Pulled::End);
+    pulls(&rt, &mut source, &mut buffer, Pulled::Bytes(1));
+    pulls(&rt, &mut source, &mut buffer, Pulled::Failed);
+    pulls(&rt, &mut source, &mut buffer, Pulled::End);
 }
 
 #[test]
 fn a_writer_s_error_and_a_write_of_nothing_are_failed_pushes(rt: HostRuntime) {
     let mut sink = StdSink::new(Fitful { calls: 0 });
-    assert_eq!(rt; push_to(&mut sink, b"abc"), Pushed::Took(1));
-    assert_eq!(rt; push_to(&mut sink, b"abc"), Pushed::Failed);
-    assert_eq!(rt; push_to(&mut sink, b"abc"), Pushed::Failed);
+    pushes(&rt, &mut sink, b"abc", Pushed::Took(1));
+    pushes(&rt, &mut sink, b"abc", Pushed::Failed);
+    pushes(&rt, &mut sink, b"abc", Pushed::Failed);
 }
 
 fn pass<G: Gate>(gate: &G, exec: ExecId) {

@@ -55,28 +55,34 @@ fn read<R: Wait>(
     lock.turn(rt, pass, Read { alloc })
 }
 
+fn has_notes(rt: &impl Abort, seen: &[Note], wanted: &[Note]) {
+    assert!(rt; seen == wanted);
+}
+
+const BOTH: &[Note] = &[
+    Note {
+        by: 0,
+        number: 0,
+        text: 7,
+    },
+    Note {
+        by: 0,
+        number: 1,
+        text: 5,
+    },
+];
+
 #[test]
 fn a_look_sees_both_notes_in_order(rt: HostRuntime) -> Result<(), Fail> {
     let (lock, mut pass) = new_book(rt.alloc())?;
     let first = write(&rt, &lock, &mut pass, 0, 7);
     let second = write(&rt, &lock, &mut pass, 0, 5);
-    let seen = read(&rt, &lock, &mut pass, rt.alloc())?;
+    let seen = read(&rt, &lock, &mut pass, rt.alloc());
     let book = lock.close(pass);
-    let notes = [
-        Note {
-            by: 0,
-            number: 0,
-            text: 7,
-        },
-        Note {
-            by: 0,
-            number: 1,
-            text: 5,
-        },
-    ];
-    assert_eq!(rt; (first, second), (Some(0), Some(1)));
-    assert_eq!(rt; seen.as_slice(), notes.as_slice());
-    assert_eq!(rt; book.notes.as_slice(), notes.as_slice());
+    assert!(rt; first == Some(0));
+    assert!(rt; second == Some(1));
+    has_notes(&rt, seen?.as_slice(), BOTH);
+    has_notes(&rt, book.notes.as_slice(), BOTH);
     Ok(())
 }
 
@@ -155,6 +161,54 @@ fn texts_of(alloc: Global, notes: &[Note], by: u32) -> Result<Vec<u64>, AllocErr
     Ok(texts)
 }
 
+// The texts 0, 1, 2 and so on, so many.
+fn first_texts(alloc: Global, times: u64) -> Result<Vec<u64>, AllocError> {
+    let mut texts = Vec::new(alloc);
+    for text in 0..times {
+        texts.push(text)?;
+    }
+    Ok(texts)
+}
+
+fn has_texts(
+    rt: &impl Abort,
+    alloc: Global,
+    notes: &[Note],
+    by: u32,
+    wanted: &[u64],
+) -> Result<(), Fail> {
+    let texts = texts_of(alloc, notes, by)?;
+    assert!(rt; texts.as_slice() == wanted, "caller {by}");
+    Ok(())
+}
+
+fn all_have_texts(
+    rt: &impl Abort,
+    alloc: Global,
+    notes: &[Note],
+    others: u32,
+    wanted: &[u64],
+) -> Result<(), Fail> {
+    for by in 0..others {
+        has_texts(rt, alloc, notes, by, wanted)?;
+    }
+    has_texts(rt, alloc, notes, others, wanted)
+}
+
+// The book that the first caller and so many others wrote.
+fn book_of<R: Threads + Wait + Sync>(
+    rt: &R,
+    alloc: Global,
+    others: u32,
+    times: u64,
+) -> Result<Book, AllocError>
+    requires { others + 1 < 2 ^ 32 }
+{
+    let (lock, first) = new_book(alloc)?;
+    let first = crew(rt, &lock, first, 0, others, times);
+    Ok(lock.close(first))
+}
+
 // Each caller's notes stand in the book once and in order, and the book has no others.
 fn works_in_threads<R: Threads + Wait + Abort + Sync>(
     rt: &R,
@@ -164,25 +218,12 @@ fn works_in_threads<R: Threads + Wait + Abort + Sync>(
 ) -> Result<(), Fail>
     requires { others + 1 < 2 ^ 32 }
 {
-    let (lock, first) = new_book(alloc)?;
-    let first = crew(rt, &lock, first, 0, others, times);
-    let book = lock.close(first);
+    let book = book_of(rt, alloc, others, times)?;
     let notes = book.notes.as_slice();
-    let mut wanted = Vec::new(alloc);
-    for text in 0..times {
-        wanted.push(text)?;
-    }
-    for by in 0..others {
-        let texts = texts_of(alloc, notes, by)?;
-        assert_eq!(rt; texts.as_slice(), wanted.as_slice(), "caller {by}");
-    }
-    let last = texts_of(alloc, notes, others)?;
-    assert_eq!(rt; last.as_slice(), wanted.as_slice(), "the last caller");
-    assert_eq!(rt;
-        notes.len() as u64,
-        (u64::from(others) + 1).wrapping_mul(times)
-    );
-    Ok(())
+    let count = (u64::from(others) + 1).wrapping_mul(times);
+    assert!(rt; notes.len() as u64 == count);
+    let wanted = first_texts(alloc, times)?;
+    all_have_texts(rt, alloc, notes, others, wanted.as_slice())
 }
 
 #[test]
@@ -238,6 +279,19 @@ fn answer<R: Wait>(rt: &R, lock: &Shared<Book>, mut pass: Pass<Book>) -> Pass<Bo
     pass
 }
 
+const ANSWERED: &[Note] = &[
+    Note {
+        by: 0,
+        number: 0,
+        text: 1,
+    },
+    Note {
+        by: 1,
+        number: 1,
+        text: 2,
+    },
+];
+
 #[test]
 fn a_wait_ends_with_another_threads_note(rt: HostRuntime) -> Result<(), Fail> {
     let (lock, mut first) = new_book(rt.alloc())?;
@@ -260,18 +314,6 @@ fn a_wait_ends_with_another_threads_note(rt: HostRuntime) -> Result<(), Fail> {
     );
     lock.join(&mut first, next);
     let book = lock.close(first);
-    let notes = [
-        Note {
-            by: 0,
-            number: 0,
-            text: 1,
-        },
-        Note {
-            by: 1,
-            number: 1,
-            text: 2,
-        },
-    ];
-    assert_eq!(rt; book.notes.as_slice(), notes.as_slice());
+    has_notes(&rt, book.notes.as_slice(), ANSWERED);
     Ok(())
 }

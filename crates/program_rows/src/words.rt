@@ -5,6 +5,7 @@ use pide_base::{
     CommandId, ExecId, NodeName, Pushed, Sink, Status, VersionId, is_node_name, push_whole,
 };
 use std::alloc::{AllocError, Global};
+use std::process::Abort;
 use std::test::Fail;
 
 /// Texts, and whether each is a node's name.
@@ -17,12 +18,15 @@ const NAMES: &[(&str, bool)] = &[
     ("_", false),
 ];
 
+fn is_accepted(alloc: Global, text: &str) -> Result<bool, AllocError> {
+    Ok(NodeName::new(String::from_str(alloc, text)?).is_ok())
+}
+
 #[test]
 fn a_node_name_is_an_identifier(rt: HostRuntime) -> Result<(), Fail> {
     for (text, accepted) in NAMES {
-        let name = NodeName::new(String::from_str(rt.alloc(), text)?);
-        assert_eq!(rt; name.is_ok(), *accepted, "{text}");
-        assert_eq!(rt; is_node_name(text.as_bytes()), *accepted, "{text}");
+        assert!(rt; is_accepted(rt.alloc(), text)? == *accepted, "{text}");
+        assert!(rt; is_node_name(text.as_bytes()) == *accepted, "{text}");
     }
     Ok(())
 }
@@ -36,14 +40,29 @@ fn letters(alloc: Global, count: usize) -> Result<String, AllocError> {
     Ok(text)
 }
 
+/// The name of so many letters.
+fn name_of(alloc: Global, count: usize) -> Result<Option<NodeName>, AllocError> {
+    Ok(NodeName::new(letters(alloc, count)?).ok())
+}
+
+fn has_letters(rt: &impl Abort, alloc: Global, name: &NodeName) -> Result<(), AllocError> {
+    let longest = letters(alloc, 64)?;
+    assert!(rt; name.as_str() == longest.as_str());
+    Ok(())
+}
+
+fn is_copied(rt: &impl Abort, name: &NodeName) -> Result<(), AllocError> {
+    let copy = name.clone()?;
+    assert!(rt; copy == *name);
+    Ok(())
+}
+
 #[test]
 fn a_node_name_has_at_most_64_characters(rt: HostRuntime) -> Result<(), Fail> {
-    let longest = letters(rt.alloc(), 64)?;
-    let name = NodeName::new(longest.clone()?).ok().ok_or("64 characters")?;
-    assert_eq!(rt; name.as_str(), longest.as_str());
-    let copy = name.clone()?;
-    assert!(rt; copy == name);
-    assert!(rt; NodeName::new(letters(rt.alloc(), 65)?).is_err());
+    let name = name_of(rt.alloc(), 64)?.ok_or("64 characters")?;
+    has_letters(&rt, rt.alloc(), &name)?;
+    is_copied(&rt, &name)?;
+    assert!(rt; name_of(rt.alloc(), 65)?.is_none());
     Ok(())
 }
 
@@ -52,7 +71,7 @@ fn ids_are_1_to_18_digits(rt: HostRuntime) {
     assert!(rt; VersionId::new(0).is_none());
     assert!(rt; CommandId::new(1_000_000_000_000_000_000).is_none());
     let last = ExecId::new(999_999_999_999_999_999).map(|id| id.number());
-    assert_eq!(rt; last, Some(999_999_999_999_999_999));
+    assert!(rt; last == Some(999_999_999_999_999_999));
 }
 
 /// Statuses, and the number that the process ends with.
@@ -71,7 +90,7 @@ const EXITS: &[(Status, u8)] = &[
 #[test]
 fn statuses_have_their_exit_numbers(rt: HostRuntime) {
     for (status, number) in EXITS {
-        assert_eq!(rt; status.exit_number(), *number);
+        assert!(rt; status.exit_number() == *number);
     }
 }
 
@@ -97,5 +116,5 @@ impl Sink for Pairs {
 fn a_whole_text_is_pushed_piece_by_piece(rt: HostRuntime) {
     let mut sink = Pairs { taken: 0 };
     assert!(rt; push_whole(&mut sink, b"seven b"));
-    assert_eq!(rt; sink.taken, 7);
+    assert!(rt; sink.taken == 7);
 }

@@ -83,6 +83,18 @@ fn task(alloc: Global, part: Part, is_stopped: bool) -> Result<Task, AllocError>
     Ok(Task { part, flag })
 }
 
+fn push_task(
+    alloc: Global,
+    open: &mut Vec<Task>,
+    number: u64,
+    is_stopped: bool,
+) -> Result<(), AllocError> {
+    if let Some(part) = part(number) {
+        open.push(task(alloc, part, is_stopped)?)?;
+    }
+    Ok(())
+}
+
 // A board of so many tasks, with the executions 1, 2 and so on. Those after `wanted` are to be
 // stopped.
 fn board_of(alloc: Global, tasks: u64, wanted: u64) -> Result<Board, AllocError>
@@ -90,9 +102,7 @@ fn board_of(alloc: Global, tasks: u64, wanted: u64) -> Result<Board, AllocError>
 {
     let mut open = Vec::new(alloc);
     for number in 1..=tasks {
-        if let Some(part) = part(number) {
-            open.push(task(alloc, part, wanted < number)?)?;
-        }
+        push_task(alloc, &mut open, number, wanted < number)?;
     }
     Ok(Board {
         marks: Vec::new(alloc),
@@ -196,14 +206,14 @@ fn all_of(tasks: usize) -> Tally {
 #[test]
 fn two_workers_finish_each_task_once(rt: HostRuntime) -> Result<(), Fail> {
     let tally = work_through(&rt, rt.alloc(), 100, 100, 2, &NoGate)?;
-    assert_eq!(rt; tally, all_of(100));
+    assert!(rt; tally == all_of(100));
     Ok(())
 }
 
 #[test]
 fn four_workers_finish_each_task_once(rt: HostRuntime) -> Result<(), Fail> {
     let tally = work_through(&rt, rt.alloc(), 100, 100, 4, &NoGate)?;
-    assert_eq!(rt; tally, all_of(100));
+    assert!(rt; tally == all_of(100));
     Ok(())
 }
 
@@ -211,8 +221,8 @@ fn four_workers_finish_each_task_once(rt: HostRuntime) -> Result<(), Fail> {
 fn a_held_worker_is_let_go_by_another(rt: HostRuntime) -> Result<(), Fail> {
     let gate = HoldGate::new(1, LOOKS);
     let tally = work_through(&rt, rt.alloc(), 3, 3, 2, &gate)?;
-    assert_eq!(rt; tally, all_of(3));
-    assert_eq!(rt; gate.let_go(), LetGo::ByOther);
+    assert!(rt; tally == all_of(3));
+    assert!(rt; gate.let_go() == LetGo::ByOther);
     Ok(())
 }
 
@@ -224,7 +234,7 @@ fn jobs_run_while_another_is_held(rt: HostRuntime) -> Result<(), Fail> {
         by_limit: AtomicBool::new(false),
     };
     let tally = work_through(&rt, rt.alloc(), 4, 4, 2, &gate)?;
-    assert_eq!(rt; tally, all_of(4));
+    assert!(rt; tally == all_of(4));
     assert!(rt; !gate.by_limit.load(Ordering::SeqCst));
     Ok(())
 }
@@ -232,10 +242,10 @@ fn jobs_run_while_another_is_held(rt: HostRuntime) -> Result<(), Fail> {
 #[test]
 fn a_gate_on_one_thread_lets_go_by_its_limit(rt: HostRuntime) -> Result<(), Fail> {
     let gate = HoldGate::new(1, 10);
-    assert_eq!(rt; gate.let_go(), LetGo::NotHeld);
+    assert!(rt; gate.let_go() == LetGo::NotHeld);
     let part = part(1).ok_or("an id")?;
     gate.at(1, Point::Claimed(part));
-    assert_eq!(rt; gate.let_go(), LetGo::ByLimit);
+    assert!(rt; gate.let_go() == LetGo::ByLimit);
     Ok(())
 }
 
@@ -248,6 +258,6 @@ fn stopped_jobs_are_dropped(rt: HostRuntime) -> Result<(), Fail> {
         finished: 3,
         dropped: 2,
     };
-    assert_eq!(rt; tally, wanted);
+    assert!(rt; tally == wanted);
     Ok(())
 }

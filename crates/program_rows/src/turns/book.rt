@@ -6,7 +6,7 @@ ghost use Rattle.std.specs.List.{All};
 use hist_lock::{State, Turn};
 use std::alloc::{AllocError, Global};
 
-#[derive(Clone, Copy, Debug, PartialEq, Eq)]
+#[derive(Clone, Copy, PartialEq, Eq)]
 pub(super) struct Note {
     pub(super) by: u32,
     pub(super) number: u64,

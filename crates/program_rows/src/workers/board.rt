@@ -10,7 +10,7 @@ use std::alloc::AllocFailed;
 use worker_loop::Said;
 
 /// An entry of the board.
-#[derive(Clone, Copy, Debug, PartialEq, Eq)]
+#[derive(Clone, Copy)]
 pub(super) struct Mark {
     pub(super) by: u32,
     pub(super) what: Said,
@@ -214,7 +214,7 @@ impl Turn<Board> for End {
 }
 
 /// What was made of the tasks.
-#[derive(Clone, Copy, Debug, PartialEq, Eq)]
+#[derive(Clone, Copy, PartialEq, Eq)]
 pub(super) struct Tally {
     pub(super) claimed: usize,
     pub(super) finished: usize,

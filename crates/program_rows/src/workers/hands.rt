@@ -59,7 +59,7 @@ pub(super) fn say<R: Wait>(
 pub(super) struct Hands;
 
 /// A part that is claimed.
-#[derive(Clone, Copy, Debug, PartialEq, Eq)]
+#[derive(Clone, Copy)]
 pub(super) struct Job {
     pub(super) part: Part,
 }

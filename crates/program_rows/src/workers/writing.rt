@@ -10,6 +10,7 @@ use super::{opened, part};
 use hist_lock::{Pass, Shared};
 use pide_io::{MemSink, NoGate};
 use std::alloc::{AllocError, Global};
+use std::process::Abort;
 use std::sync::Wait;
 use std::test::Fail;
 use worker_loop::{Said, Worked, Written, Wrote, work, write_out};
@@ -61,33 +62,43 @@ fn sink(alloc: Global, fails: Vec<u64>) -> Result<MemSink, AllocError> {
 fn written<R: Wait>(
     rt: &R,
     alloc: Global,
-    fails: Vec<u64>,
+    sink: MemSink,
 ) -> Result<Wrote<Board, MemSink>, AllocError> {
     let (lock, writer) = told_board(rt, alloc, 3, Said::Ended)?;
-    let sink = sink(alloc, fails)?;
     Ok(write_out(rt, &Pen { alloc }, &lock, writer, 1, sink))
+}
+
+fn has_written(rt: &impl Abort, wrote: &Wrote<Board, MemSink>, written: Written, bytes: &[u8]) {
+    assert!(rt; wrote.written == written);
+    assert!(rt; wrote.sink.contents() == bytes);
 }
 
 #[test]
 fn the_writer_writes_a_byte_for_each_task(rt: HostRuntime) -> Result<(), Fail> {
-    let wrote = written(&rt, rt.alloc(), Vec::new(rt.alloc()))?;
-    assert_eq!(rt; wrote.written, Written::Ended);
-    assert_eq!(rt; wrote.sink.contents(), b"xxx".as_slice());
+    let sink = sink(rt.alloc(), Vec::new(rt.alloc()))?;
+    let wrote = written(&rt, rt.alloc(), sink)?;
+    has_written(&rt, &wrote, Written::Ended, b"xxx");
     Ok(())
 }
 
 #[test]
 fn a_sink_that_fails_ends_the_writer(rt: HostRuntime) -> Result<(), Fail> {
-    let wrote = written(&rt, rt.alloc(), vec![in rt.alloc(); 3]?)?;
-    assert_eq!(rt; wrote.written, Written::WriteFault);
-    assert_eq!(rt; wrote.sink.contents(), b"xx".as_slice());
+    let sink = sink(rt.alloc(), vec![in rt.alloc(); 3]?)?;
+    let wrote = written(&rt, rt.alloc(), sink)?;
+    has_written(&rt, &wrote, Written::WriteFault, b"xx");
     Ok(())
+}
+
+// How a worker ends where the board says that the sink has failed.
+fn worked_without_sink<R: Wait>(rt: &R, alloc: Global) -> Result<Worked, AllocError> {
+    let (lock, worker) = told_board(rt, alloc, 0, Said::Lost)?;
+    let shift = work(rt, alloc, &Hands, &lock, worker, 1, &NoGate);
+    Ok(shift.worked)
 }
 
 #[test]
 fn a_worker_ends_where_the_sink_has_failed(rt: HostRuntime) -> Result<(), Fail> {
-    let (lock, worker) = told_board(&rt, rt.alloc(), 0, Said::Lost)?;
-    let shift = work(&rt, rt.alloc(), &Hands, &lock, worker, 1, &NoGate);
-    assert_eq!(rt; shift.worked, Worked::WriteFault);
+    let worked = worked_without_sink(&rt, rt.alloc())?;
+    assert!(rt; worked == Worked::WriteFault);
     Ok(())
 }

@@ -1,7 +1,7 @@
 -- A state of the language may go to other threads.
 use denote.Param.Send.{sendable}
 use Rattle.toplevel.proofs.Crossing.{crosses}
-use Rattle.program_rows.proofs.limits.served_within.Goals as goal
+use Rattle.program_rows.proofs.limits.served.Goals as goal
 
 pub serve-status-requires-send-L-State : goal.serve-status-requires-send-L-State
 serve-status-requires-send-L-State c κs = search (crosses, sendable)

@@ -1,7 +1,7 @@
 -- A state of the language may go to other threads.
 use denote.Param.Send.{sendable}
 use Rattle.toplevel.proofs.Crossing.{crosses}
-use Rattle.program_rows.proofs.runs.entries_in.Goals as goal
+use Rattle.program_rows.proofs.looked.entries_in.Goals as goal
 
 pub past-requires-send-L-State : goal.past-requires-send-L-State
 past-requires-send-L-State c κs = search (crosses, sendable)
