@@ -7,7 +7,6 @@
 #![tactic(auto)]
 
 mod commands;
-mod freeing;
 mod ordering;
 mod proving;
 mod refusing;

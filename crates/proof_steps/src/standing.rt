@@ -6,7 +6,6 @@ ghost use Rattle.isar_rules.specs.Theories.{with_fact};
 ghost use Rattle.isar_rules.specs.declared.state.Place.TheVariants as place;
 ghost use Rattle.proof_state.specs.Answers.{is_closed};
 
-use crate::freeing::free;
 use isar_rules::{Place, Theory};
 use nj_formula::{Formula, Name};
 use proof_state::Proof;
@@ -86,7 +85,7 @@ fn open(alloc: Global, lemma: &Lemma, proof: Proof) -> Result<Place, AllocError>
     match held(alloc, lemma) {
         Ok(held) => Ok(with_proof(held, proof)),
         Err(fault) => {
-            free(proof);
+            drop(proof);
             Err(fault)
         }
     }
@@ -98,7 +97,7 @@ fn stands(alloc: Global, lemma: &Lemma, proof: Proof) -> Result<Place, AllocErro
         ≡ stands lemma.now.theory.now lemma.now.name.now lemma.now.goal.now proof) }
 {
     if is_closed(&proof) {
-        free(proof);
+        drop(proof);
         proved(alloc, lemma)
     } else {
         open(alloc, lemma, proof)

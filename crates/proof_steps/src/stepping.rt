@@ -9,7 +9,6 @@ ghost use Rattle.proof_state.specs.Steps.{next, qed, by};
 ghost use Rattle.isar_rules.specs.Proofs.{levels_or};
 ghost use Rattle.command_reports.specs.Tries.{Tries};
 
-use crate::freeing::free;
 use crate::refusing::refused;
 use command_reports::{Halt, ascii};
 use nj_formula::Formula;
@@ -29,7 +28,7 @@ fn gone_on<T: Drop>(
     match answer {
         Ok(_) => Ok(after),
         Err(fault) => {
-            free(after);
+            drop(after);
             Err(refused(alloc, fault))
         }
     }

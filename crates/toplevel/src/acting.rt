@@ -6,7 +6,6 @@ ghost use Rattle.isar_rules.specs.Errors.{not_allowed};
 ghost use Rattle.isar_rules.specs.Steps.{acted, tried};
 ghost use Rattle.command_reports.specs.Tries.{Tries, Refuses};
 
-use crate::freeing::free;
 use command_reports::{Halt, refusal};
 use isar_rules::{Place, Shape, Theory};
 use proof_steps::{Lemma, proof_made};
@@ -78,6 +77,6 @@ pub(crate) fn tried(
         Some(shape) => acted(alloc, blob, place, shape),
         None => Err(refusal(alloc, "malformed command")),
     };
-    free(shape);
+    drop(shape);
     ended
 }

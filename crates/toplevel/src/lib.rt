@@ -9,7 +9,6 @@
 
 mod acting;
 mod forking;
-mod freeing;
 mod isar;
 mod made;
 mod printing;

@@ -8,7 +8,6 @@ ghost use Rattle.isar_rules.specs.Steps.{after_error, made_by};
 ghost use Rattle.report_markup.specs.Sorting.{in_order};
 ghost use Rattle.command_reports.specs.Tries.{Tries};
 
-use crate::freeing::free;
 use command_reports::{Halt, announced, error_report};
 use isar_rules::{Place, State, Theory};
 use language::Made;
@@ -42,7 +41,7 @@ fn in_proof(
             proof,
         }),
         Err(fault) => {
-            free((theory, goal));
+            drop((theory, goal));
             Err(fault)
         }
     }
@@ -109,7 +108,7 @@ fn made_at(
             forks,
         }),
         Err(fault) => {
-            free(place);
+            drop(place);
             Err(fault)
         }
     }
@@ -133,7 +132,7 @@ fn accepted(
     match reported(alloc, source, tokens, reports) {
         Ok(all) => made_at(before, place, all, forks),
         Err(fault) => {
-            free(place);
+            drop(place);
             Err(fault)
         }
     }

@@ -2,7 +2,6 @@
 ghost use Rattle.std.specs.Prelude.{◌≡◌, ◌++◌, IfOk, OnOk, map, codes, string_bytes};
 ghost use Rattle.isar_rules.specs.Shown.{place_text, suggested_at, suggestion, print};
 
-use crate::freeing::free;
 use command_reports::{state_report, suggest_report};
 use doc_nodes::Aliases;
 use isar_rules::{Place, State};
@@ -50,7 +49,7 @@ fn suggested_at(alloc: Global, aliases: &Aliases, place: &Place) -> Result<Optio
     };
     let scope = proof.scope(alloc, theory.name.as_str(), &theory.facts)?;
     let term = suggest(alloc, goal, &scope, aliases.names());
-    free(scope);
+    drop(scope);
     term
 }
 
@@ -84,7 +83,7 @@ fn suggest_behind(
 {
     let term = suggested_at(alloc, behind.aliases.get(), &behind.place)?;
     let added = add_suggestion(alloc, source, &term, reports);
-    free(term);
+    drop(term);
     added
 }
 
