@@ -38,6 +38,7 @@ pub fn read(alloc: Global, source: &[char], tokens: &[Token]) -> Result<Term, Te
     if reader.rest.is_empty() {
         Ok(term)
     } else {
+        drop(term);
         Err(malformed())
     }
 }
@@ -67,8 +68,13 @@ impl<'a> Reader<'a> {
             (read_rule (read_term left) rule (marks self.old.source.now self.old.rest.now)) }
     {
         let term = self.inside(rule, left)?;
-        self.close()?;
-        Ok(term)
+        match self.close() {
+            Ok(()) => Ok(term),
+            Err(fault) => {
+                drop(term);
+                Err(fault)
+            }
+        }
     }
 
     /// A term in a rule.
