@@ -213,8 +213,13 @@ fn with_right(
     ensures { IfOk result (λ step. step
         ≡ Three (part t (Or a b)) left (under y.now b v.now goal.now)) }
 {
-    let right = under(alloc, y, b.get(), v, goal)?;
-    three(alloc, whole(t, Formula::Or(a, b)), left, right)
+    match under(alloc, y, b.get(), v, goal) {
+        Ok(right) => three(alloc, whole(t, Formula::Or(a, b)), left, right),
+        Err(fault) => {
+            drop((t, left));
+            Err(fault)
+        }
+    }
 }
 
 /// `(exE "EX y. P" x h t u)`

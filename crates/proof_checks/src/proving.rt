@@ -130,7 +130,9 @@ fn two<P: Stop>(
 {
     let t = premise(alloc, p, scope, stop, left)?;
     let last = premise(alloc, q, scope, stop, left);
-    join_two(alloc, rule, goal, p, &t, q, last)
+    let joined = join_two(alloc, rule, goal, p, &t, q, last);
+    drop(t);
+    joined
 }
 
 /// The theorem of the rule disjE.
@@ -155,7 +157,9 @@ fn three<P: Stop>(
     let t = premise(alloc, p, scope, stop, left)?;
     let u = premise(alloc, q, scope, stop, left)?;
     let last = premise(alloc, r, scope, stop, left);
-    join_three(alloc, goal, p, &t, q, &u, r, last)
+    let joined = join_three(alloc, goal, p, &t, q, &u, r, last);
+    drop((t, u));
+    joined
 }
 
 /// The theorem of a part, for which it may cite its own assumption.

@@ -89,8 +89,8 @@ two-returns-in_err-t g t c =
     let rest = halted c.premise.result c.from_residual.result h _ _ _ c.in_err-t.was (search rules) c.premise.ensures.asked in
     record { gives = gives; scope = rest.0; asked = rest.1 }
 
-pub two-join_two-requires : goal.two-join_two-requires
-two-join_two-requires g t c = record {
+pub two-join_two-joined-requires : goal.two-join_two-joined-requires
+two-join_two-joined-requires g t c = record {
   first = taken_shows c.premise.result c.in_ok-t.t _ (meaning c.args.p.now.goal) c.in_ok-t.was c.premise.ensures.gives;
   second = given_shows c.premise-last.result _ (meaning c.args.q.now.goal) c.premise-last.ensures.gives;
   fits = c.requires;
@@ -98,9 +98,9 @@ two-join_two-requires g t c = record {
 
 pub two-returns : goal.two-returns
 two-returns g t c =
-    let all = two_end (checked_within c.args.left) c.args.goal.now c.args.scope.now c.args.rule.now c.args.p.now c.args.q.now c.premise.result c.premise-last.result c.join_two.result c.in_ok-t.t
+    let all = two_end (checked_within c.args.left) c.args.goal.now c.args.scope.now c.args.rule.now c.args.p.now c.args.q.now c.premise.result c.premise-last.result c.join_two-joined.result c.in_ok-t.t
     c.premise.new.scope c.premise-last.new.scope _ _ _ c.in_ok-t.was c.premise.ensures.gives c.premise.ensures.scope c.premise.ensures.asked
-    c.premise-last.ensures.scope c.premise-last.ensures.asked c.join_two.ensures.hands (λ a l. c.join_two.ensures.gives a l _ c.premise-last.ensures.gives) in
+    c.premise-last.ensures.scope c.premise-last.ensures.asked c.join_two-joined.ensures.hands (λ a l. c.join_two-joined.ensures.gives a l _ c.premise-last.ensures.gives) in
     record { gives = all.0; scope = all.1; asked = all.2 }
 
 pub three-returns-in_err-t : goal.three-returns-in_err-t
@@ -120,8 +120,8 @@ three-returns-in_err-u g t c =
     let asked = asked_then c.premise.result c.in_ok-t.t c.from_residual-in_err-u.result _ _ _ c.in_ok-t.was c.premise.ensures.asked rest.1 in
     record { gives = gives; scope = rest.0; asked = asked }
 
-pub three-join_three-requires : goal.three-join_three-requires
-three-join_three-requires g t c = record {
+pub three-join_three-joined-requires : goal.three-join_three-joined-requires
+three-join_three-joined-requires g t c = record {
   first = taken_shows c.premise.result c.in_ok-t.t _ (meaning c.args.p.now.goal) c.in_ok-t.was c.premise.ensures.gives;
   second = taken_shows c.premise-2.result c.in_ok-u.u _ (meaning c.args.q.now.goal) c.in_ok-u.was c.premise-2.ensures.gives;
   third = given_shows c.premise-last.result _ (meaning c.args.r.now.goal) c.premise-last.ensures.gives;
@@ -130,10 +130,10 @@ three-join_three-requires g t c = record {
 
 pub three-returns : goal.three-returns
 three-returns g t c =
-    let all = three_end (checked_within c.args.left) c.args.goal.now c.args.scope.now c.args.p.now c.args.q.now c.args.r.now c.premise.result c.premise-2.result c.premise-last.result c.join_three.result
+    let all = three_end (checked_within c.args.left) c.args.goal.now c.args.scope.now c.args.p.now c.args.q.now c.args.r.now c.premise.result c.premise-2.result c.premise-last.result c.join_three-joined.result
     c.in_ok-t.t c.in_ok-u.u c.premise.new.scope c.premise-2.new.scope c.premise-last.new.scope _ _ _ _ c.in_ok-t.was c.premise.ensures.gives c.premise.ensures.scope c.premise.ensures.asked
     c.in_ok-u.was c.premise-2.ensures.gives c.premise-2.ensures.scope c.premise-2.ensures.asked c.premise-last.ensures.scope c.premise-last.ensures.asked
-    c.join_three.ensures.hands (λ a b l m. c.join_three.ensures.gives a b l m _ c.premise-last.ensures.gives) in
+    c.join_three-joined.ensures.hands (λ a b l m. c.join_three-joined.ensures.gives a b l m _ c.premise-last.ensures.gives) in
     record { gives = all.0; scope = all.1; asked = all.2 }
 
 pub premise-returns-in-None-clause-gives : goal.premise-returns-in-None-clause-gives
