@@ -12,6 +12,7 @@ use crate::levels::Levels;
 use nj_formula::{Formula, Name};
 use std::alloc::{AllocError, Global};
 use std::marker::Model;
+use std::mem::replace;
 use theory_ctx::{Ctx, Scope};
 
 /// A proof of a goal, as far as its commands have come. Contracts see it as its levels: in mode
@@ -162,7 +163,8 @@ impl Proof {
         ensures taken { left result self.new ≡ made }
         ensures err { OnErr result (self.new ≡ self.old) }
     {
-        self.levels = made?;
+        let levels = made?;
+        drop(replace(&mut self.levels, levels));
         Ok(())
     }
 
