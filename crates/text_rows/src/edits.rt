@@ -39,14 +39,24 @@ const ROWS: &[Row] = &[
     ),
 ];
 
+/// Nothing, or the fault.
+fn answer_told(alloc: Global, answer: Result<(), EditFault>) -> Result<String, AllocError> {
+    match answer {
+        Ok(()) => Ok(String::new(alloc)),
+        Err(fault) => fault_told(alloc, fault),
+    }
+}
+
+/// Adds a colon and the text.
+fn push_text(alloc: Global, out: &mut String, text: &Text) -> Result<(), AllocError> {
+    out.push_str(": ")?;
+    out.push_str(text_of(alloc, text.as_slice())?.as_str())
+}
+
 /// The text after an edit, or the fault and the text.
 fn told(alloc: Global, answer: Result<(), EditFault>, text: &Text) -> Result<String, AllocError> {
-    let mut out = match answer {
-        Ok(()) => String::new(alloc),
-        Err(fault) => fault_told(alloc, fault)?,
-    };
-    out.push_str(": ")?;
-    out.push_str(text_of(alloc, text.as_slice())?.as_str())?;
+    let mut out = answer_told(alloc, answer)?;
+    push_text(alloc, &mut out, text)?;
     Ok(out)
 }
 
@@ -80,17 +90,22 @@ fn copy_made(alloc: Global, before: &str, edit: &Edit) -> Result<String, AllocEr
 }
 
 /// What the edit and a copy of it make.
-fn both_made(alloc: Global, before: &str, sketch: &Sketch) -> Result<String, AllocError> {
-    let edit = edit_of(alloc, sketch)?;
-    let one = made(alloc, before, &edit)?;
-    let other = copy_made(alloc, before, &edit)?;
+fn both_made(alloc: Global, before: &str, edit: &Edit) -> Result<String, AllocError> {
+    let one = made(alloc, before, edit)?;
+    let other = copy_made(alloc, before, edit)?;
     agreed(alloc, one.as_str(), other.as_str())
+}
+
+/// What the edit that a row writes makes.
+fn sketch_made(alloc: Global, before: &str, sketch: &Sketch) -> Result<String, AllocError> {
+    let edit = edit_of(alloc, sketch)?;
+    both_made(alloc, before, &edit)
 }
 
 #[test]
 fn edits_make_what_their_rows_say(rt: HostRuntime) -> Result<(), Fail> {
     for Row(shows, before, sketch, want) in ROWS {
-        let told = both_made(rt.alloc(), before, sketch)?;
+        let told = sketch_made(rt.alloc(), before, sketch)?;
         sees(&rt, shows, told.as_str(), want);
     }
     Ok(())

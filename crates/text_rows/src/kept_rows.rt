@@ -5,6 +5,7 @@ use crate::values::{Sketch, cut, edit_of, fault_told, names_of, sees};
 use crate::whole::counts_told;
 use sqlite_items::Items;
 use std::alloc::Global;
+use std::process::Abort;
 use std::test::Fail;
 use text_edits::Edit;
 
@@ -141,22 +142,34 @@ fn kept(
     }
 }
 
+/// How many tokens the edit keeps under the aliases.
+fn edit_kept(alloc: Global, before: &str, edit: &Edit, names: &Names) -> Result<String, Fail> {
+    let Names(under, over) = names;
+    let aliases = names_of(alloc, over)?;
+    let old = cut(alloc, before, under)?;
+    kept(alloc, &old, edit, &aliases)
+}
+
 /// How many tokens are kept under the aliases.
 fn kept_under(alloc: Global, before: &str, sketch: &Sketch, names: &Names) -> Result<String, Fail> {
-    let Names(under, over) = names;
-    let old = cut(alloc, before, under)?;
     let edit = edit_of(alloc, sketch)?;
-    let aliases = names_of(alloc, over)?;
-    kept(alloc, &old, &edit, &aliases)
+    edit_kept(alloc, before, &edit, names)
+}
+
+/// Sees what the row says under each of the aliases.
+fn see_row(rt: &(impl Abort + AllocGlobal), alloc: Global, row: &Row) -> Result<(), Fail> {
+    let Row(shows, before, sketch, want) = row;
+    for names in NAMES {
+        let told = kept_under(alloc, before, sketch, names)?;
+        sees(rt, shows, told.as_str(), want);
+    }
+    Ok(())
 }
 
 #[test]
 fn edits_keep_as_many_tokens_as_their_rows_say(rt: HostRuntime) -> Result<(), Fail> {
-    for Row(shows, before, sketch, want) in ROWS {
-        for names in NAMES {
-            let told = kept_under(rt.alloc(), before, sketch, names)?;
-            sees(&rt, shows, told.as_str(), want);
-        }
+    for row in ROWS {
+        see_row(&rt, rt.alloc(), row)?;
     }
     Ok(())
 }

@@ -1,5 +1,5 @@
 //! Texts under edits, made one after the other (`command_spans`).
-use crate::cut_text::CutText;
+use crate::cut_text::{CutText, Found};
 use crate::values::Sketch::{Insert, Remove};
 use crate::values::{Sketch, cut, edit_of, fault_told, names_of, spans_told, unless};
 use crate::whole::counts_told;
@@ -130,6 +130,19 @@ fn told(alloc: Global, text: &CutText) -> Result<String, AllocError> {
     format!(in alloc; "{len}, {aliases}, {marks},{spans}")
 }
 
+/// What is told of what was found, which is then the text.
+fn taken(
+    alloc: Global,
+    text: &mut CutText,
+    edit: &Edit,
+    aliases: &[Items<char>],
+    found: Found,
+) -> Result<String, Fail> {
+    let told = counts_told(alloc, text, edit, aliases, &found);
+    *text = found.cut;
+    told
+}
+
 /// What is told of the edit, which is made of the text.
 fn made(
     alloc: Global,
@@ -138,11 +151,7 @@ fn made(
     aliases: &[Items<char>],
 ) -> Result<String, Fail> {
     match text.edited(alloc, edit, aliases) {
-        Ok(found) => {
-            let told = counts_told(alloc, text, edit, aliases, &found)?;
-            *text = found.cut;
-            Ok(told)
-        }
+        Ok(found) => taken(alloc, text, edit, aliases, found),
         Err(fault) => Ok(fault_told(alloc, fault)?),
     }
 }
@@ -159,13 +168,18 @@ fn edited(
     made(alloc, text, &edit, &aliases)
 }
 
-/// What is told of the edit and of the text after it, where the step says something else.
-fn step_other(alloc: Global, text: &mut CutText, step: &Step) -> Result<Option<String>, Fail> {
-    let Step(sketch, names, want) = step;
+/// What is told of the edit and of the text after it.
+fn step_told(alloc: Global, text: &mut CutText, step: &Step) -> Result<String, Fail> {
+    let Step(sketch, names, _) = step;
     let made = edited(alloc, text, sketch, names)?;
     let then = told(alloc, text)?;
-    let both = format!(in alloc; "{made}: {then}")?;
-    Ok(unless(both, want))
+    Ok(format!(in alloc; "{made}: {then}")?)
+}
+
+/// What is told of the step, where it says something else.
+fn step_other(alloc: Global, text: &mut CutText, step: &Step) -> Result<Option<String>, Fail> {
+    let Step(_, _, want) = step;
+    Ok(unless(step_told(alloc, text, step)?, want))
 }
 
 /// The first step that comes to something else, and what it comes to.
@@ -179,15 +193,26 @@ fn first_other(alloc: Global, text: &mut CutText, steps: &[Step]) -> Result<Opti
     Ok(None)
 }
 
+/// What is told of the text, where the script says something else.
+fn text_other(alloc: Global, text: &CutText, script: &Script) -> Result<Option<String>, Fail> {
+    let Script(_, _, _, want, _) = script;
+    Ok(unless(told(alloc, text)?, want))
+}
+
+/// The first thing that is told of the text and of its edits otherwise than the script says.
+fn other_of(alloc: Global, text: &mut CutText, script: &Script) -> Result<Option<String>, Fail> {
+    let Script(_, _, _, _, steps) = script;
+    match text_other(alloc, text, script)? {
+        Some(other) => Ok(Some(other)),
+        None => first_other(alloc, text, steps),
+    }
+}
+
 /// The first thing that is told otherwise than the script says.
 fn script_other(alloc: Global, script: &Script) -> Result<Option<String>, Fail> {
-    let Script(_, text, names, want, steps) = script;
+    let Script(_, text, names, _, _) = script;
     let mut text = cut(alloc, text, names)?;
-    let first = unless(told(alloc, &text)?, want);
-    if first.is_some() {
-        return Ok(first);
-    }
-    first_other(alloc, &mut text, steps)
+    other_of(alloc, &mut text, script)
 }
 
 #[test]

@@ -1,6 +1,6 @@
 //! A walk of random edits, beside texts that are lexed as a whole.
 use crate::cut_text::{CutText, Found};
-use crate::values::names_of;
+use crate::values::{cut, names_of};
 use crate::whole::is_as_whole;
 use row_inputs::{below, next_of};
 use sqlite_items::Items;
@@ -63,40 +63,36 @@ fn some_aliases(alloc: Global, seed: u64) -> Result<Vec<Items<char>>, AllocError
     }
 }
 
-/// The text after an edit; none where it isn't as the whole text.
-fn edited(alloc: Global, old: &CutText, seed: u64) -> Result<Option<CutText>, Fail> {
-    let edit = some_edit(alloc, old.text().as_slice(), seed)?;
+/// Makes an edit of the text. False where it then isn't as the whole text.
+fn edited(alloc: Global, text: &mut CutText, seed: u64) -> Result<bool, Fail> {
+    let edit = some_edit(alloc, text.text().as_slice(), seed)?;
     let aliases = some_aliases(alloc, seed)?;
-    let Ok(found) = old.edited(alloc, &edit, &aliases) else {
-        return Ok(None);
-    };
-    kept(alloc, old, &edit, &aliases, found)
+    match text.edited(alloc, &edit, &aliases) {
+        Ok(found) => taken(alloc, text, &edit, &aliases, found),
+        Err(_) => Ok(false),
+    }
 }
 
-/// What was found, where it is as the whole text.
-fn kept(
+/// Whether what was found is as the whole text. It is then the text.
+fn taken(
     alloc: Global,
-    old: &CutText,
+    text: &mut CutText,
     edit: &Edit,
     aliases: &[Items<char>],
     found: Found,
-) -> Result<Option<CutText>, Fail> {
-    Ok(if is_as_whole(alloc, old, edit, aliases, &found)? {
-        Some(found.cut)
-    } else {
-        None
-    })
+) -> Result<bool, Fail> {
+    let whole = is_as_whole(alloc, text, edit, aliases, &found);
+    *text = found.cut;
+    whole
 }
 
 /// How many edits are as they are in whole texts, one after the other, of as many as that.
-fn walked(alloc: Global, text: &str, edits: usize) -> Result<usize, Fail> {
+fn walked(alloc: Global, text: &mut CutText, edits: usize) -> Result<usize, Fail> {
     let mut seed = 20260722;
-    let mut old = CutText::of(alloc, Text::from_str(alloc, text)?, &[])?;
     for step in 0..edits {
         seed = next_of(seed);
-        match edited(alloc, &old, seed)? {
-            Some(new) => old = new,
-            None => return Ok(step),
+        if !edited(alloc, text, seed)? {
+            return Ok(step);
         }
     }
     Ok(edits)
@@ -105,6 +101,7 @@ fn walked(alloc: Global, text: &str, edits: usize) -> Result<usize, Fail> {
 #[test]
 fn many_edits_keep_the_tokens_of_whole_texts(rt: HostRuntime) -> Result<(), Fail> {
     let text = "theory A begin lemma l: \"P --> P\" by (impI h h) end";
-    assert_eq!(rt; walked(rt.alloc(), text, 4000)?, 4000);
+    let mut text = cut(rt.alloc(), text, &[])?;
+    assert_eq!(rt; walked(rt.alloc(), &mut text, 4000)?, 4000);
     Ok(())
 }

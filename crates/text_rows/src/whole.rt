@@ -1,12 +1,12 @@
 //! What `reparse` must come to: the tokens and spans of the whole text, and how many tokens an edit
 //! leaves alone.
 use crate::cut_text::{CutText, Found};
-use command_spans::spans;
+use command_spans::{Span, spans};
 use outer_tokens::{Kind, Token};
 use sqlite_items::Items;
 use std::alloc::{AllocError, Global};
 use std::test::Fail;
-use text_edits::{Edit, apply};
+use text_edits::{Edit, Text, apply};
 
 /// Where an edit begins, where it ends in the old text, and in the new one.
 fn ends(edit: &Edit) -> (usize, usize, usize) {
@@ -48,6 +48,14 @@ fn back_of(edit: &Edit, old: &CutText, new: &CutText) -> usize {
     0
 }
 
+/// Whether both have the same text, tokens and spans, and the spans are these.
+fn same_spans(one: &CutText, whole: &CutText, spans: &[Span]) -> bool {
+    one.text().as_slice() == whole.text().as_slice()
+        && one.spans().tokens() == whole.spans().tokens()
+        && one.spans().spans() == whole.spans().spans()
+        && one.spans().spans() == spans
+}
+
 /// Whether both have the same text, tokens and spans, and the spans are those that `spans` finds.
 fn same(
     alloc: Global,
@@ -56,12 +64,7 @@ fn same(
     aliases: &[Items<char>],
 ) -> Result<bool, Fail> {
     let cut = spans(alloc, whole.text().as_slice(), aliases)?;
-    Ok(
-        one.text().as_slice() == whole.text().as_slice()
-            && one.spans().tokens() == whole.spans().tokens()
-            && one.spans().spans() == whole.spans().spans()
-            && one.spans().spans() == cut.as_slice(),
-    )
+    Ok(same_spans(one, whole, &cut))
 }
 
 /// Whether both numbers are those of the edit.
@@ -76,6 +79,78 @@ fn twin(alloc: Global, old: &CutText) -> Result<CutText, AllocError> {
     CutText::of(alloc, text, old.spans().aliases())
 }
 
+/// The text after the edit.
+fn edited_text(alloc: Global, old: &CutText, edit: &Edit) -> Result<Text, Fail> {
+    let mut text = old.text().copy(alloc)?;
+    match apply(&mut text, edit) {
+        Ok(()) => Ok(text),
+        Err(_) => Err(Fail::new("no edit of the text")),
+    }
+}
+
+/// The whole text after the edit.
+fn whole_of(
+    alloc: Global,
+    old: &CutText,
+    edit: &Edit,
+    aliases: &[Items<char>],
+) -> Result<CutText, Fail> {
+    let text = edited_text(alloc, old, edit)?;
+    Ok(CutText::of(alloc, text, aliases)?)
+}
+
+/// What is found where the memory of the old text is used.
+fn found_in_place(
+    alloc: Global,
+    old: &CutText,
+    edit: &Edit,
+    aliases: &[Items<char>],
+) -> Result<Found, Fail> {
+    match twin(alloc, old)?.edited_in_place(alloc, edit, aliases) {
+        Ok(found) => Ok(found),
+        Err(_) => Err(Fail::new("no edit in place")),
+    }
+}
+
+/// Whether what was found is as the whole text, with the numbers of the edit.
+fn is_whole(
+    alloc: Global,
+    old: &CutText,
+    edit: &Edit,
+    aliases: &[Items<char>],
+    whole: &CutText,
+    found: &Found,
+) -> Result<bool, Fail> {
+    Ok(same(alloc, &found.cut, whole, aliases)? && counts(old, edit, whole, found))
+}
+
+/// Whether what is found in place is as the whole text.
+fn is_whole_in_place(
+    alloc: Global,
+    old: &CutText,
+    edit: &Edit,
+    aliases: &[Items<char>],
+    whole: &CutText,
+) -> Result<bool, Fail> {
+    let found = found_in_place(alloc, old, edit, aliases)?;
+    is_whole(alloc, old, edit, aliases, whole, &found)
+}
+
+/// Whether what was found, and what is found in place, is as the whole text.
+fn are_whole(
+    alloc: Global,
+    old: &CutText,
+    edit: &Edit,
+    aliases: &[Items<char>],
+    whole: &CutText,
+    found: &Found,
+) -> Result<bool, Fail> {
+    Ok(
+        is_whole(alloc, old, edit, aliases, whole, found)?
+            && is_whole_in_place(alloc, old, edit, aliases, whole)?,
+    )
+}
+
 /// Whether the text, the tokens, the spans and both numbers are those of the whole text, whether
 /// the old text stays or its memory is used.
 pub(crate) fn is_as_whole(
@@ -85,20 +160,8 @@ pub(crate) fn is_as_whole(
     aliases: &[Items<char>],
     found: &Found,
 ) -> Result<bool, Fail> {
-    let mut text = old.text().copy(alloc)?;
-    if apply(&mut text, edit).is_err() {
-        return Ok(false);
-    }
-    let whole = CutText::of(alloc, text, aliases)?;
-    let Ok(other) = twin(alloc, old)?.edited_in_place(alloc, edit, aliases) else {
-        return Ok(false);
-    };
-    Ok(
-        same(alloc, &found.cut, &whole, aliases)?
-            && same(alloc, &other.cut, &whole, aliases)?
-            && counts(old, edit, &whole, found)
-            && counts(old, edit, &whole, &other),
-    )
+    let whole = whole_of(alloc, old, edit, aliases)?;
+    are_whole(alloc, old, edit, aliases, &whole, found)
 }
 
 /// How many tokens an edit kept at the front and at the back, where all is as in the whole text.
