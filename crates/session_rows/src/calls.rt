@@ -9,6 +9,7 @@ use language::Language;
 use reply_outbox::Item;
 use session_rules::{Entry, Service};
 use std::alloc::Global;
+use std::process::Abort;
 use std::test::Fail;
 use toplevel::Isar;
 
@@ -93,10 +94,15 @@ fn is_told<L: Language>(
     Ok(letters(alloc, session)?.as_str() == "omscfle")
 }
 
+/// A session of the language begins, and what is done in it is told.
+fn begins_and_is_told<L: Language>(rt: &impl Abort, alloc: Global, lang: &L) -> Result<(), Fail> {
+    let mut session = begun(alloc)?;
+    assert!(rt; session.service() == Service::Workers { count: WORKER });
+    assert!(rt; is_told(alloc, lang, &mut session)?);
+    Ok(())
+}
+
 #[test]
 fn what_is_done_in_a_session_is_told_in_order(rt: HostRuntime) -> Result<(), Fail> {
-    let mut session = begun(rt.alloc(), Past::new(rt.alloc()))?;
-    assert_eq!(rt; session.service(), Service::Workers { count: WORKER });
-    assert!(rt; is_told(rt.alloc(), &Isar, &mut session)?);
-    Ok(())
+    begins_and_is_told(&rt, rt.alloc(), &Isar)
 }

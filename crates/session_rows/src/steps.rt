@@ -1,5 +1,5 @@
 //! Steps of a session that has one worker, for the rows.
-ghost use Rattle.std.specs.Prelude.{◌≡◌, [], IfOk};
+ghost use Rattle.std.specs.Prelude.{◌≡◌, IfOk};
 ghost use Rattle.core_rules.specs.Standing.{held};
 ghost use Rattle.session_rules.specs.declared.service.Service.TheVariants as service_is;
 ghost use Rattle.session_lists.specs.Items.{session_in};
@@ -17,7 +17,6 @@ use session_jobs::{SessionJob, SessionRan};
 use session_rules::{Entry, Service};
 use std::alloc::Global;
 use std::test::Fail;
-use toplevel::Isar;
 
 /// The list of what has happened.
 pub(crate) type Past = Kept<Item<Service, Entry>>;
@@ -26,11 +25,10 @@ pub(crate) type Past = Kept<Item<Service, Entry>>;
 pub(crate) const WORKER: u32 = 1;
 
 /// A session in which nothing happened, with one worker.
-pub(crate) fn begun(alloc: Global, past: Past) -> Result<Session<Isar, Past>, Fail>
-    requires { past.0 ≡ [] }
+pub(crate) fn begun<L: Language>(alloc: Global) -> Result<Session<L, Past>, Fail>
     ensures service { IfOk result (λ session. session.service ≡ service_is.Workers 1) }
 {
-    match Session::new(alloc, Service::Workers { count: WORKER }, past) {
+    match Session::new(alloc, Service::Workers { count: WORKER }, Past::new(alloc)) {
         Ok(session) => Ok(session),
         Err(_) => Err(Fail::new("no session")),
     }

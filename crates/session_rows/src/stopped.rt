@@ -146,29 +146,35 @@ fn is_let_go<L: Language>(
     replied(session, LET_GO)
 }
 
+/// It goes on in a session that begins.
+fn goes_on_from_the_beginning<L: Language>(alloc: Global, lang: &L) -> Result<(), Fail> {
+    let mut session = begun(alloc)?;
+    goes_on(alloc, lang, &mut session)
+}
+
+/// It asks once in a session that begins.
+fn asks_once_from_the_beginning<L: Language>(alloc: Global, lang: &L) -> Result<(), Fail> {
+    let mut session = begun(alloc)?;
+    asks_once(alloc, lang, &mut session)
+}
+
+/// It is let go in a session that begins.
+fn is_let_go_from_the_beginning<L: Language>(alloc: Global, lang: &L) -> Result<(), Fail> {
+    let mut session = begun(alloc)?;
+    is_let_go(alloc, lang, &mut session)
+}
+
 #[test]
 fn a_part_that_is_still_wanted_goes_on_after_a_stop(rt: HostRuntime) -> Result<(), Fail> {
-    goes_on(
-        rt.alloc(),
-        &Isar,
-        &mut begun(rt.alloc(), Past::new(rt.alloc()))?,
-    )
+    goes_on_from_the_beginning(rt.alloc(), &Isar)
 }
 
 #[test]
 fn a_check_of_a_proof_asks_once_whether_to_stop(rt: HostRuntime) -> Result<(), Fail> {
-    asks_once(
-        rt.alloc(),
-        &Isar,
-        &mut begun(rt.alloc(), Past::new(rt.alloc()))?,
-    )
+    asks_once_from_the_beginning(rt.alloc(), &Isar)
 }
 
 #[test]
 fn a_part_that_is_cancelled_while_it_stops_is_let_go(rt: HostRuntime) -> Result<(), Fail> {
-    is_let_go(
-        rt.alloc(),
-        &Isar,
-        &mut begun(rt.alloc(), Past::new(rt.alloc()))?,
-    )
+    is_let_go_from_the_beginning(rt.alloc(), &Isar)
 }

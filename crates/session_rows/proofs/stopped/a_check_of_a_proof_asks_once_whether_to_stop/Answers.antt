@@ -3,8 +3,8 @@ use denote.Param.Send.{sendable}
 use Rattle.toplevel.proofs.Crossing.{crosses}
 use Rattle.session_rows.proofs.stopped.a_check_of_a_proof_asks_once_whether_to_stop.Goals as goal
 
-pub asks_once-requires-send-L-State : goal.asks_once-requires-send-L-State
-asks_once-requires-send-L-State c κs = search (crosses, sendable)
+pub asks_once_from_the_beginning-requires-send-L-State : goal.asks_once_from_the_beginning-requires-send-L-State
+asks_once_from_the_beginning-requires-send-L-State c κs = search (crosses, sendable)
 
-pub asks_once-requires-sync-L-State : goal.asks_once-requires-sync-L-State
-asks_once-requires-sync-L-State c κs = search (crosses, sendable)
+pub asks_once_from_the_beginning-requires-sync-L-State : goal.asks_once_from_the_beginning-requires-sync-L-State
+asks_once_from_the_beginning-requires-sync-L-State c κs = search (crosses, sendable)
