@@ -12,6 +12,7 @@ ghost use Rattle.isar_rules.specs.Cites.{refs};
 ghost use Rattle.isar_rules.specs.Forks.{verdict, judged, forked_at};
 
 use crate::citing::add_cites;
+use crate::freeing::free;
 use command_reports::{error_report, proved_report};
 use isar_rules::Place;
 use language::Answer;
@@ -53,14 +54,23 @@ fn accepted(
     sorted(alloc, reports)
 }
 
-/// What is reported of a fault.
-fn faulty(alloc: Global, source: &[char], fault: &TermFault) -> Result<Items<Report>, AllocError>
-    ensures { IfOk result (λ reports. reports
-        ≡ error_report source.now (fault_text fault.now) ∷ []) }
+/// The report of a fault.
+fn fault_report(alloc: Global, source: &[char], fault: &TermFault) -> Result<Report, AllocError>
+    ensures { IfOk result (λ report. report ≡ error_report source.now (fault_text fault.now)) }
 {
     let text = format!(in alloc; "{fault}")?;
+    error_report(alloc, source, text)
+}
+
+/// What is reported of a fault.
+fn faulty(alloc: Global, source: &[char], fault: TermFault) -> Result<Items<Report>, AllocError>
+    ensures { IfOk result (λ reports. reports
+        ≡ error_report source.now (fault_text fault) ∷ []) }
+{
+    let report = fault_report(alloc, source, &fault);
+    free(fault);
     let mut reports = Items::new(alloc);
-    reports.push(error_report(alloc, source, text)?)?;
+    reports.push(report?)?;
     Ok(reports)
 }
 
@@ -77,8 +87,11 @@ fn checked<P: Stop>(
         (checked term.now goal.now scope.now)) (P.yeses stop.old) (P.yeses stop.new) }
 {
     match check(alloc, term, goal, scope, stop) {
-        Checked::Proved(_) => given(accepted(alloc, source, scope, term)),
-        Checked::Wrong(fault) => given(faulty(alloc, source, &fault)),
+        Checked::Proved(theorem) => {
+            free(theorem);
+            given(accepted(alloc, source, scope, term))
+        }
+        Checked::Wrong(fault) => given(faulty(alloc, source, fault)),
         Checked::Stopped => Answer::Stopped,
         Checked::NoMemory => Answer::NoMemory,
     }
@@ -98,8 +111,12 @@ fn judged<P: Stop>(
 {
     one_answer();
     match read(alloc, source, tokens) {
-        Ok(term) => checked(alloc, source, goal, scope, &term, stop),
-        Err(TermError::Fault(fault)) => given(faulty(alloc, source, &fault)),
+        Ok(term) => {
+            let answer = checked(alloc, source, goal, scope, &term, stop);
+            free(term);
+            answer
+        }
+        Err(TermError::Fault(fault)) => given(faulty(alloc, source, fault)),
         Err(TermError::NoMemory) => Answer::NoMemory,
     }
 }
@@ -132,7 +149,11 @@ pub fn forked_at<P: Stop>(
         return Answer::Given(Items::new(alloc));
     };
     match proof.scope(alloc, theory.name.as_str(), &theory.facts) {
-        Ok(scope) => judged(alloc, source, behind_first(tokens), goal, &scope, stop),
+        Ok(scope) => {
+            let answer = judged(alloc, source, behind_first(tokens), goal, &scope, stop);
+            free(scope);
+            answer
+        }
         Err(_) => Answer::NoMemory,
     }
 }

@@ -8,5 +8,6 @@
 
 mod citing;
 mod forking;
+mod freeing;
 
 pub use forking::{forked_at, given};

@@ -8,9 +8,9 @@ use Rattle.fork_steps.proofs.forking.judged.Goals as goal
 
 pub returns-in-Ok : goal.returns-in-Ok
 returns-in-Ok g c =
-    subst (λ a. IsAnswer c.checked.result (judged c.args.source.now c.args.goal.now c.args.scope.now a) (g.P.Stop.yeses c.args.stop.now) (g.P.Stop.yeses c.checked.new.stop))
+    subst (λ a. IsAnswer c.checked-answer.result (judged c.args.source.now c.args.goal.now c.args.scope.now a) (g.P.Stop.yeses c.args.stop.now) (g.P.Stop.yeses c.checked-answer.new.stop))
     (c.one_answer.ensures.one (marks c.args.source.now c.args.tokens.now) (Ok c.in-Ok.term) c.in-Ok.ensures)
-    c.checked.ensures
+    c.checked-answer.ensures
 
 pub returns-in-Err-Fault : goal.returns-in-Err-Fault
 returns-in-Err-Fault g c =
