@@ -12,7 +12,6 @@ ghost use Rattle.isar_rules.specs.Cites.{refs};
 ghost use Rattle.isar_rules.specs.Forks.{verdict, judged, forked_at};
 
 use crate::citing::add_cites;
-use crate::freeing::free;
 use command_reports::{error_report, proved_report};
 use isar_rules::Place;
 use language::Answer;
@@ -68,7 +67,7 @@ fn faulty(alloc: Global, source: &[char], fault: TermFault) -> Result<Items<Repo
         ≡ error_report source.now (fault_text fault) ∷ []) }
 {
     let report = fault_report(alloc, source, &fault);
-    free(fault);
+    drop(fault);
     let mut reports = Items::new(alloc);
     reports.push(report?)?;
     Ok(reports)
@@ -88,7 +87,7 @@ fn checked<P: Stop>(
 {
     match check(alloc, term, goal, scope, stop) {
         Checked::Proved(theorem) => {
-            free(theorem);
+            drop(theorem);
             given(accepted(alloc, source, scope, term))
         }
         Checked::Wrong(fault) => given(faulty(alloc, source, fault)),
@@ -113,7 +112,7 @@ fn judged<P: Stop>(
     match read(alloc, source, tokens) {
         Ok(term) => {
             let answer = checked(alloc, source, goal, scope, &term, stop);
-            free(term);
+            drop(term);
             answer
         }
         Err(TermError::Fault(fault)) => given(faulty(alloc, source, fault)),
@@ -151,7 +150,7 @@ pub fn forked_at<P: Stop>(
     match proof.scope(alloc, theory.name.as_str(), &theory.facts) {
         Ok(scope) => {
             let answer = judged(alloc, source, behind_first(tokens), goal, &scope, stop);
-            free(scope);
+            drop(scope);
             answer
         }
         Err(_) => Answer::NoMemory,

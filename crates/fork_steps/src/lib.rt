@@ -8,6 +8,5 @@
 
 mod citing;
 mod forking;
-mod freeing;
 
 pub use forking::{forked_at, given};
