@@ -24,7 +24,7 @@ fn run(alloc: Global, front: usize, pull: u64, push: u64) -> Result<Seen, Fail> 
     Ok(run_program(alloc, &["serve"], source, sink))
 }
 
-/// How many calls of the source and of the sink failed.
+/// Whether so many calls of the source and of the sink failed.
 fn has_failed(run: &Seen, pulls: u64, pushes: u64) -> bool {
     run.pulls == pulls && run.pushes == pushes
 }

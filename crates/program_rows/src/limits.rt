@@ -1,9 +1,4 @@
 //! Inputs that are longer than a run may take (`document_serve`).
-ghost use Rattle.std.specs.Prelude.{◌≡◌, ◌≤◌, [], ◌∷◌, IfOk};
-ghost use Rattle.message_values.specs.Workers.{most_workers};
-ghost use Rattle.reply_outbox.specs.declared.item.Item.TheVariants.{Opened};
-ghost use Rattle.session_rules.specs.Services.{free_workers};
-
 use crate::example::{SENT, WRITTEN};
 use crate::looked::sink_of;
 use document_serve::serve;
@@ -59,20 +54,8 @@ const ROWS: &[Row] = &[
     },
 ];
 
-/// A session in which nothing happened.
-fn begun(alloc: Global, service: Service, past: Past) -> Result<Session<Isar, Past>, Fail>
-    requires empty { past.0 ≡ [] }
-    requires workers { free_workers service ≤ most_workers }
-    ensures service { IfOk result (λ session. session.service ≡ service) }
-    ensures items { IfOk result (λ session. session.items ≡ Opened service ∷ []) }
-{
-    match Session::new(alloc, service, past) {
-        Ok(session) => Ok(session),
-        Err(_) => Err(Fail::new("no session")),
-    }
-}
-
-/// Serves the source up to this limit, into the sink: how that ends.
+/// Serves the source up to this limit, into the sink, in a session in which nothing happened: how
+/// that ends.
 fn served(
     alloc: Global,
     source: &mut MemSource,
@@ -80,9 +63,14 @@ fn served(
     limit: usize,
 ) -> Result<Status, Fail> {
     let service = Service::Workers { count: 0 };
-    let mut session = begun(alloc, service, Past::new(alloc))?;
-    let status = serve(alloc, &Isar, source, sink, &mut session, limit);
-    Ok(status)
+    let past = Past::new(alloc);
+    match Session::new(alloc, service, past) {
+        Ok(mut session) => {
+            let status = serve(alloc, &Isar, source, sink, &mut session, limit);
+            Ok(status)
+        }
+        Err(_) => Err(Fail::new("no session")),
+    }
 }
 
 /// Serves the worked example up to this limit, into the sink: how that ends.

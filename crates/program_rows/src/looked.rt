@@ -16,10 +16,13 @@ use std::alloc::{AllocError, Global};
 use std::test::Fail;
 use toplevel::Isar;
 
+/// The list of what has happened.
+type Past = Kept<Item<Service, Entry>>;
+
 /// What a run hands back, and how many calls of its source and of its sink failed.
 #[derive(Drop)]
 pub(crate) struct Looked {
-    pub(crate) outcome: Outcome<MemSource, MemSink, Kept<Item<Service, Entry>>>,
+    pub(crate) outcome: Outcome<MemSource, MemSink, Past>,
     pub(crate) pulls: u64,
     pub(crate) pushes: u64,
 }
@@ -62,7 +65,7 @@ pub(crate) fn run_program(alloc: Global, words: &[&str], source: MemSource, sink
         pulls,
         pushes,
     } = watched(alloc, words, source, sink);
-    let entries = entries_in(outcome.session.as_ref().ok());
+    let entries = entries_in(&outcome.session);
     Seen {
         status: outcome.status,
         sink: outcome.sink,
@@ -73,11 +76,14 @@ pub(crate) fn run_program(alloc: Global, words: &[&str], source: MemSource, sink
 }
 
 /// How many entries the session's list has: none where no session was begun.
-fn entries_in(session: Option<&Session<Isar, Kept<Item<Service, Entry>>>>) -> usize {
-    let Some(session) = session else {
-        return 0;
-    };
-    let items = session.past().as_slice();
+fn entries_in(session: &Result<Session<Isar, Past>, Past>) -> usize {
+    match session {
+        Ok(session) => made_in(session.past().as_slice()),
+        Err(_) => 0,
+    }
+}
+
+fn made_in(items: &[Item<Service, Entry>]) -> usize {
     items
         .iter()
         .filter(|item| matches!(item, Item::Made(_)))

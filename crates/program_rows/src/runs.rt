@@ -6,6 +6,7 @@ use crate::looked::{Seen, run_program, sink_of, source_of};
 use pide_base::Status;
 use pide_io::MemSource;
 use std::alloc::{AllocError, Global};
+use std::process::Abort;
 use std::test::Fail;
 
 /// Runs of the program, one for each of the pieces.
@@ -314,13 +315,19 @@ const ROWS: &[Row] = &[
     },
 ];
 
+/// A run with each of the row's pieces is as the row says.
+fn check(rt: &impl Abort, alloc: Global, row: &Row) -> Result<(), Fail> {
+    for piece in row.pieces {
+        let piece = (*piece).max(1);
+        assert!(rt; row.holds(alloc, piece)?, "{}", row.shows);
+    }
+    Ok(())
+}
+
 #[test]
 fn runs_end_as_their_rows_say(rt: HostRuntime) -> Result<(), Fail> {
     for row in ROWS {
-        for piece in row.pieces {
-            let piece = (*piece).max(1);
-            assert!(rt; row.holds(rt.alloc(), piece)?, "{}", row.shows);
-        }
+        check(&rt, rt.alloc(), row)?;
     }
     Ok(())
 }

@@ -241,9 +241,9 @@ fn jobs_run_while_another_is_held(rt: HostRuntime) -> Result<(), Fail> {
 
 #[test]
 fn a_gate_on_one_thread_lets_go_by_its_limit(rt: HostRuntime) -> Result<(), Fail> {
+    let part = part(1).ok_or("an id")?;
     let gate = HoldGate::new(1, 10);
     assert!(rt; gate.let_go() == LetGo::NotHeld);
-    let part = part(1).ok_or("an id")?;
     gate.at(1, Point::Claimed(part));
     assert!(rt; gate.let_go() == LetGo::ByLimit);
     Ok(())
