@@ -1,5 +1,5 @@
 //! Aliases of commands.
-use crate::exchange::Row;
+use crate::exchange::{Row, follow};
 use crate::messages::THEORY_BEGUN;
 use std::test::Fail;
 
@@ -65,8 +65,5 @@ const ROWS: &[Row] = &[Row {
 
 #[test]
 fn aliases_are_as_their_rows_say(rt: HostRuntime) -> Result<(), Fail> {
-    for row in ROWS {
-        assert!(rt; row.holds(rt.alloc())?, "{}", row.shows);
-    }
-    Ok(())
+    follow(&rt, rt.alloc(), ROWS)
 }

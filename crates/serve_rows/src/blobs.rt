@@ -1,5 +1,5 @@
 //! Auxiliary blobs.
-use crate::exchange::Row;
+use crate::exchange::{Row, follow};
 use crate::messages::{THEORY_BEGUN, THREE_ASSIGNED};
 use std::test::Fail;
 
@@ -77,8 +77,5 @@ const ROWS: &[Row] = &[
 
 #[test]
 fn blobs_are_loaded_as_their_rows_say(rt: HostRuntime) -> Result<(), Fail> {
-    for row in ROWS {
-        assert!(rt; row.holds(rt.alloc())?, "{}", row.shows);
-    }
-    Ok(())
+    follow(&rt, rt.alloc(), ROWS)
 }

@@ -6,6 +6,7 @@ use pide_io::{MemSink, MemSource};
 use pide_program::pide;
 use sqlite_items::Items;
 use std::alloc::{AllocError, Global};
+use std::process::Abort;
 use std::test::Fail;
 
 /// How many bytes a pull gives at most.
@@ -17,7 +18,6 @@ const ROOM: usize = 16_384;
 /// Messages, and all that is replied. A message is a line, and goes on in the next ones that begin
 /// with `<`; a `|` stands between its chunks, and YXML is shown as XML, in which `</>` closes an
 /// element.
-#[derive(Clone, Copy)]
 pub(crate) struct Row {
     /// What the row shows.
     pub(crate) shows: &'static str,
@@ -29,27 +29,52 @@ pub(crate) struct Row {
 }
 
 impl Row {
-    /// Whether just that is replied.
-    pub(crate) fn holds(&self, alloc: Global) -> Result<bool, Fail> {
-        let sent = stream_of(alloc, self.sent)?;
-        let replied = replied_to(alloc, &[self.word], sent)?;
+    /// All that is to be replied.
+    fn wanted(&self, alloc: Global) -> Result<Vec<u8>, AllocError> {
         let mut lines = Vec::new(alloc);
         for run in self.replied {
             lines.extend_from_slice(run)?;
         }
-        Ok(replied.contents() == stream_of(alloc, &lines)?.as_slice())
+        stream_of(alloc, &lines)
     }
+
+    /// All that is replied.
+    fn replies(&self, alloc: Global) -> Result<MemSink, Fail> {
+        let sent = stream_of(alloc, self.sent)?;
+        replied_to(alloc, &[self.word], sent)
+    }
+
+    /// Whether just what is wanted is replied.
+    fn holds(&self, alloc: Global) -> Result<bool, Fail> {
+        let wanted = self.wanted(alloc)?;
+        let replied = self.replies(alloc)?;
+        Ok(replied.contents() == wanted.as_slice())
+    }
+}
+
+/// Each row has to hold.
+pub(crate) fn follow(rt: &impl Abort, alloc: Global, rows: &[Row]) -> Result<(), Fail> {
+    for row in rows {
+        assert!(rt; row.holds(alloc)?, "{}", row.shows);
+    }
+    Ok(())
+}
+
+/// Runs the program: how it ends, and the sink.
+fn ran(alloc: Global, words: &[&str], source: MemSource, sink: MemSink) -> (Status, MemSink) {
+    let outcome = pide(alloc, words, source, sink, Kept::new(alloc));
+    (outcome.status, outcome.sink)
 }
 
 /// What the program writes for these bytes, all of which it takes.
 pub(crate) fn replied_to(alloc: Global, words: &[&str], sent: Vec<u8>) -> Result<MemSink, Fail> {
-    let source = MemSource::new(sent, PIECE, Vec::new(alloc));
     let sink = MemSink::new(alloc, ROOM, Vec::new(alloc))
         .ok()
         .ok_or("a sink")?;
-    let outcome = pide(alloc, words, source, sink, Kept::new(alloc));
-    match outcome.status {
-        Status::Done => Ok(outcome.sink),
+    let source = MemSource::new(sent, PIECE, Vec::new(alloc));
+    let (status, sink) = ran(alloc, words, source, sink);
+    match status {
+        Status::Done => Ok(sink),
         _ => Err(Fail::new("not done")),
     }
 }
@@ -71,17 +96,23 @@ pub(crate) fn stream_of(alloc: Global, lines: &[&str]) -> Result<Vec<u8>, AllocE
     Ok(bytes)
 }
 
+/// The chunks of the message that is shown so.
+fn chunks_of(alloc: Global, message: &str) -> Result<Vec<Items<u8>>, AllocError> {
+    let mut chunks = Vec::new(alloc);
+    for chunk in message.split('|') {
+        chunks.push(Items::from_vec(bytes_of(alloc, chunk)?))?;
+    }
+    Ok(chunks)
+}
+
 /// Adds the message that is shown so.
 pub(crate) fn add_message(
     alloc: Global,
     bytes: &mut Vec<u8>,
     message: &str,
 ) -> Result<(), AllocError> {
-    let mut spelled = Vec::new(alloc);
-    for chunk in message.split('|') {
-        spelled.push(Items::from_vec(bytes_of(alloc, chunk)?))?;
-    }
-    append_message(bytes, &spelled)
+    let chunks = chunks_of(alloc, message)?;
+    append_message(bytes, &chunks)
 }
 
 /// The bytes of a chunk that is shown so. A `<` right behind a backslash is a text's own.

@@ -1,5 +1,5 @@
 //! What commands report, and what stands behind a wrong one.
-use crate::exchange::Row;
+use crate::exchange::{Row, follow};
 use crate::messages::{FOUR_ASSIGNED, LEMMA_CHECKED, ONE_LEMMA, THEORY_BEGUN};
 use std::test::Fail;
 
@@ -114,8 +114,5 @@ const ROWS: &[Row] = &[
 
 #[test]
 fn reports_are_as_their_rows_say(rt: HostRuntime) -> Result<(), Fail> {
-    for row in ROWS {
-        assert!(rt; row.holds(rt.alloc())?, "{}", row.shows);
-    }
-    Ok(())
+    follow(&rt, rt.alloc(), ROWS)
 }

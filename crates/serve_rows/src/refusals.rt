@@ -1,5 +1,5 @@
 //! Messages that are refused.
-use crate::exchange::{Row, add_message, replied_to, stream_of};
+use crate::exchange::{Row, add_message, follow, replied_to, stream_of};
 use crate::messages::{FOUR_ASSIGNED, ONE_LEMMA};
 use std::alloc::{AllocError, Global};
 use std::test::Fail;
@@ -65,18 +65,24 @@ const ROWS: &[Row] = &[
 
 #[test]
 fn refusals_are_as_their_rows_say(rt: HostRuntime) -> Result<(), Fail> {
-    for row in ROWS {
-        assert!(rt; row.holds(rt.alloc())?, "{}", row.shows);
-    }
-    Ok(())
+    follow(&rt, rt.alloc(), ROWS)
+}
+
+fn add_version(
+    alloc: Global,
+    bytes: &mut Vec<u8>,
+    name: &str,
+    version: u64,
+) -> Result<(), AllocError> {
+    let message = format!(in alloc; "{name}|{version}|")?;
+    add_message(alloc, bytes, message.as_str())
 }
 
 /// A message of this name, with an empty chunk, for each version from 1 to the one before the end.
 fn of_each_version(alloc: Global, name: &str, end: u64) -> Result<Vec<u8>, AllocError> {
     let mut bytes = Vec::new(alloc);
     for version in 1..end {
-        let message = format!(in alloc; "{name}|{version}|")?;
-        add_message(alloc, &mut bytes, message.as_str())?;
+        add_version(alloc, &mut bytes, name, version)?;
     }
     Ok(bytes)
 }
@@ -93,27 +99,58 @@ fn nested(alloc: Global, depth: u32) -> Result<String, AllocError> {
     Ok(shown)
 }
 
+/// Whether the replies to these bytes are these.
+fn is_replied(alloc: Global, sent: Vec<u8>, wanted: &[u8]) -> Result<bool, Fail> {
+    let replied = replied_to(alloc, &["serve"], sent)?;
+    Ok(replied.contents() == wanted)
+}
+
+/// A message with a chunk of so many elements, each in the one before, behind these words.
+fn with_nested(alloc: Global, words: &str, depth: u32) -> Result<String, AllocError> {
+    let shown = nested(alloc, depth)?;
+    format!(in alloc; "{words}{shown}")
+}
+
+/// An update that is nested as deep as it may be, one that is nested deeper, and a settle that is.
+fn nested_messages(alloc: Global) -> Result<Vec<u8>, AllocError> {
+    let mut bytes = Vec::new(alloc);
+    add_nested(alloc, &mut bytes, "Session.update|1|", 200)?;
+    add_nested(alloc, &mut bytes, "Session.update|1|", 201)?;
+    add_nested(alloc, &mut bytes, "Session.settle|", 201)?;
+    Ok(bytes)
+}
+
+fn add_nested(
+    alloc: Global,
+    bytes: &mut Vec<u8>,
+    words: &str,
+    depth: u32,
+) -> Result<(), AllocError> {
+    let message = with_nested(alloc, words, depth)?;
+    add_message(alloc, bytes, message.as_str())
+}
+
 #[test]
 fn at_most_200_elements_are_nested(rt: HostRuntime) -> Result<(), Fail> {
     let alloc = rt.alloc();
-    let (deep, deeper) = (nested(alloc, 200)?, nested(alloc, 201)?);
-    let taken = format!(in alloc; "Session.update|1|{deep}")?;
-    let refused = format!(in alloc; "Session.update|1|{deeper}")?;
-    let settled = format!(in alloc; "Session.settle|{deeper}")?;
-    let sent = stream_of(alloc, &[taken.as_str(), refused.as_str(), settled.as_str()])?;
-    let replied = replied_to(alloc, &["serve"], sent)?;
     let wanted = stream_of(alloc, &["refused|5", "refused|4", "refused|5"])?;
-    assert!(rt; replied.contents() == wanted.as_slice());
+    let sent = nested_messages(alloc)?;
+    assert!(rt; is_replied(alloc, sent, wanted.as_slice())?);
     Ok(())
+}
+
+/// An assignment of each of 64 versions, and the refusal of another one.
+fn assigned_64(alloc: Global) -> Result<Vec<u8>, AllocError> {
+    let mut bytes = of_each_version(alloc, "assign", 65)?;
+    add_message(alloc, &mut bytes, "refused|15")?;
+    Ok(bytes)
 }
 
 #[test]
 fn at_most_64_versions_are_live(rt: HostRuntime) -> Result<(), Fail> {
     let alloc = rt.alloc();
-    let mut wanted = of_each_version(alloc, "assign", 65)?;
-    add_message(alloc, &mut wanted, "refused|15")?;
+    let wanted = assigned_64(alloc)?;
     let sent = of_each_version(alloc, "Session.update", 66)?;
-    let replied = replied_to(alloc, &["serve"], sent)?;
-    assert!(rt; replied.contents() == wanted.as_slice());
+    assert!(rt; is_replied(alloc, sent, wanted.as_slice())?);
     Ok(())
 }

@@ -1,5 +1,5 @@
 //! Snapshots: over edits that are pending, with prints, by symbols.
-use crate::exchange::Row;
+use crate::exchange::{Row, follow};
 use crate::messages::{
     LEMMA_CHECKED, ONE_LEMMA, PARTLY_ASSIGNED, PARTLY_VISIBLE, THEORY_BEGUN, THREE_ASSIGNED,
 };
@@ -101,8 +101,5 @@ const ROWS: &[Row] = &[
 
 #[test]
 fn snapshots_show_what_their_rows_say(rt: HostRuntime) -> Result<(), Fail> {
-    for row in ROWS {
-        assert!(rt; row.holds(rt.alloc())?, "{}", row.shows);
-    }
-    Ok(())
+    follow(&rt, rt.alloc(), ROWS)
 }

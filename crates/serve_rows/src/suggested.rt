@@ -1,5 +1,5 @@
 //! Proofs that are suggested.
-use crate::exchange::Row;
+use crate::exchange::{Row, follow};
 use crate::messages::{END_REFUSED, LEMMA_PRINTED};
 use std::test::Fail;
 
@@ -79,8 +79,5 @@ const ROWS: &[Row] = &[
 
 #[test]
 fn proofs_are_suggested_as_their_rows_say(rt: HostRuntime) -> Result<(), Fail> {
-    for row in ROWS {
-        assert!(rt; row.holds(rt.alloc())?, "{}", row.shows);
-    }
-    Ok(())
+    follow(&rt, rt.alloc(), ROWS)
 }

@@ -1,5 +1,5 @@
 //! What updates assign.
-use crate::exchange::Row;
+use crate::exchange::{Row, follow};
 use crate::messages::{FOUR_ASSIGNED, ONE_LEMMA, OPENED_COMMENT, PARTLY_ASSIGNED, PARTLY_VISIBLE};
 use std::test::Fail;
 
@@ -113,8 +113,5 @@ const ROWS: &[Row] = &[
 
 #[test]
 fn updates_assign_what_their_rows_say(rt: HostRuntime) -> Result<(), Fail> {
-    for row in ROWS {
-        assert!(rt; row.holds(rt.alloc())?, "{}", row.shows);
-    }
-    Ok(())
+    follow(&rt, rt.alloc(), ROWS)
 }

@@ -1,5 +1,5 @@
 //! Workers whose steps the messages tell.
-use crate::exchange::Row;
+use crate::exchange::{Row, follow};
 use crate::messages::{FOUR_ASSIGNED, LEMMA_STATED, ONE_LEMMA, THEORY_BEGUN};
 use std::test::Fail;
 
@@ -100,8 +100,5 @@ const ROWS: &[Row] = &[
 
 #[test]
 fn steps_are_taken_as_they_are_told(rt: HostRuntime) -> Result<(), Fail> {
-    for row in ROWS {
-        assert!(rt; row.holds(rt.alloc())?, "{}", row.shows);
-    }
-    Ok(())
+    follow(&rt, rt.alloc(), ROWS)
 }
