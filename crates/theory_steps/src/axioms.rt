@@ -1,12 +1,15 @@
 //! Axioms, and the beginnings of lemmas.
 ghost use Rattle.std.specs.Prelude.{◌≡◌, ◌∷◌, [], IfOk};
+ghost use Rattle.isar_rules.specs.declared.state.Place.TheVariants as place;
 ghost use Rattle.isar_rules.specs.Reports.{def_report, formula_report};
 ghost use Rattle.isar_rules.specs.Theories.{axiom_made, lemma_made};
 ghost use Rattle.command_reports.specs.Tries.{Tries};
+ghost use Rattle.proof_state.specs.declared.levels.Levels.TheVariants.{Prove};
 ghost use Rattle.theory_steps.specs.Stated.{stated_formula};
 
 use crate::effect::{Effect, makes};
 use crate::facts::{has_fact, name_of, with_fact};
+use crate::freeing::free;
 use command_reports::{Halt, def_report, formula_in, formula_report, named_refusal};
 use isar_rules::{Place, Spot, Theory};
 use nj_formula::{Formula, Name};
@@ -25,9 +28,10 @@ fn stated(
 ) -> Result<(Name, Formula), Halt>
     ensures { Tries (stated_formula theory.now name.now quoted.now) result }
 {
-    let formula = formula_in(alloc, quoted.text.as_slice())?;
     let own = name_of(alloc, name.text.as_slice())?;
+    let formula = formula_in(alloc, quoted.text.as_slice())?;
     if has_fact(theory, own.as_str()) {
+        free(formula);
         let name = name.text.as_slice();
         return Err(named_refusal(alloc, "name taken ", name));
     }
@@ -64,9 +68,37 @@ pub fn axiom_made(
     ensures { Tries (axiom_made theory.now name.now quoted.now) result }
 {
     let (own, formula) = stated(alloc, theory, name, quoted)?;
-    let reports = stated_reports(alloc, theory, &own, name.range, quoted, &formula)?;
-    let more = with_fact(alloc, theory, &own, formula)?;
-    Ok(makes(Place::Theory(more), reports))
+    match stated_reports(alloc, theory, &own, name.range, quoted, &formula) {
+        Ok(reports) => {
+            let more = with_fact(alloc, theory, &own, formula)?;
+            Ok(makes(Place::Theory(more), reports))
+        }
+        Err(_) => {
+            free(formula);
+            Err(Halt::NoMemory)
+        }
+    }
+}
+
+/// The place where the proof of this goal begins.
+fn in_proof(alloc: Global, theory: &Theory, name: Name, goal: Formula) -> Result<Place, AllocError>
+    ensures { IfOk result (λ p. p ≡ place.Proof theory.now name goal (Prove goal [])) }
+{
+    let Ok(proved) = goal.copy(alloc) else {
+        free(goal);
+        return Err(AllocError);
+    };
+    let Ok(theory) = theory.copy(alloc) else {
+        free((goal, proved));
+        return Err(AllocError);
+    };
+    let proof = Proof::start(proved);
+    Ok(Place::Proof {
+        theory,
+        name,
+        goal,
+        proof,
+    })
 }
 
 /// `lemma`: its proof begins. The errors are those of `axiom`.
@@ -79,12 +111,11 @@ pub fn lemma_made(
     ensures { Tries (lemma_made theory.now name.now quoted.now) result }
 {
     let (own, goal) = stated(alloc, theory, name, quoted)?;
-    let reports = stated_reports(alloc, theory, &own, name.range, quoted, &goal)?;
-    let place = Place::Proof {
-        theory: theory.copy(alloc)?,
-        name: own,
-        proof: Proof::start(goal.copy(alloc)?),
-        goal,
-    };
-    Ok(makes(place, reports))
+    match stated_reports(alloc, theory, &own, name.range, quoted, &goal) {
+        Ok(reports) => Ok(makes(in_proof(alloc, theory, own, goal)?, reports)),
+        Err(_) => {
+            free(goal);
+            Err(Halt::NoMemory)
+        }
+    }
 }

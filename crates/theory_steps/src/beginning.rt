@@ -7,6 +7,7 @@ ghost use Rattle.command_reports.specs.Tries.{Tries};
 
 use crate::effect::{Effect, makes};
 use crate::facts::name_of;
+use crate::freeing::free;
 use command_reports::{Halt, import_report, named_refusal, refusal, theory_report};
 use isar_rules::{Given, Place, Spot, Theory};
 use nj_formula::Name;
@@ -57,16 +58,17 @@ fn begins(
     name: &Spot,
     imports: &[Spot],
     keyword: &Option<Items<char>>,
-    facts: Ctx,
+    facts: &Ctx,
 ) -> Result<Effect, Halt>
-    ensures { Tries (begins name.now imports.now keyword.now facts) result }
+    ensures { Tries (begins name.now imports.now keyword.now facts.now) result }
 {
     if let Some(keyword) = keyword {
         return Err(named_refusal(alloc, "bad keyword ", keyword.as_slice()));
     }
+    let own = name_of(alloc, name.text.as_slice())?;
     let reports = heading(alloc, name, imports)?;
-    let name = name_of(alloc, name.text.as_slice())?;
-    Ok(makes(Place::Theory(Theory { name, facts }), reports))
+    let facts = facts.copy()?;
+    Ok(makes(Place::Theory(Theory { name: own, facts }), reports))
 }
 
 /// `theory`, in the node of this name. The error is the first that holds: another name than the
@@ -86,5 +88,7 @@ pub fn begun(
         return Err(refusal(alloc, "theory name differs"));
     }
     let facts = facts_or(alloc, given)?;
-    begins(alloc, name, imports, keyword, facts)
+    let effect = begins(alloc, name, imports, keyword, &facts);
+    free(facts);
+    effect
 }

@@ -2,6 +2,7 @@
 ghost use Rattle.std.specs.Prelude.{◌≡◌, IfOk};
 ghost use Rattle.isar_rules.specs.Theories.{with_fact, has_fact};
 
+use crate::freeing::free;
 use command_reports::ascii;
 use isar_rules::Theory;
 use nj_formula::{Formula, Name};
@@ -32,6 +33,11 @@ pub fn with_fact(
     ensures { IfOk result (λ more. more ≡ with_fact name.now formula theory.now) }
 {
     let mut more = theory.copy(alloc)?;
-    more.facts.set(alloc, &theory.name, name, formula)?;
-    Ok(more)
+    match more.facts.set(alloc, &theory.name, name, formula) {
+        Ok(()) => Ok(more),
+        Err(fault) => {
+            free(more);
+            Err(fault)
+        }
+    }
 }

@@ -11,6 +11,7 @@ mod axioms;
 mod beginning;
 mod effect;
 mod facts;
+mod freeing;
 mod loading;
 mod refusing;
 

@@ -1,18 +1,24 @@
 //! What the command that loads a blob makes.
-ghost use Rattle.std.specs.Prelude.{◌≡◌};
+ghost use Rattle.std.specs.Prelude.{◌≡◌, ◌∷◌, [], IfOk, Ok, length, decimal};
 ghost use Rattle.std.specs.Option.{option_copied};
+ghost use Rattle.report_markup.specs.declared.kind.ReportKind.TheVariants as kinds;
 ghost use Rattle.isar_rules.specs.BlobLines.{facts_of};
-ghost use Rattle.isar_rules.specs.Loads.{facts_or, with_all, load_made};
+ghost use Rattle.isar_rules.specs.Errors.{and_then};
+ghost use Rattle.isar_rules.specs.Loads.{facts_or, with_all, loaded, load_made};
+ghost use Rattle.isar_rules.specs.Reports.{report};
+ghost use Rattle.isar_rules.specs.Theories.{with_fact};
 ghost use Rattle.command_reports.specs.Tries.{Tries};
 
 use crate::effect::{Effect, makes};
 use crate::facts::{has_fact, with_fact};
+use crate::freeing::free;
 use crate::refusing::taken;
 use blob_facts::{BlobFault, ListedFact, facts_of};
 use command_reports::{Halt, loaded_report, named_refusal, numbered_refusal};
 use isar_rules::{Place, Spot, Theory};
+use report_markup::Report;
 use sqlite_items::Items;
-use std::alloc::Global;
+use std::alloc::{AllocError, Global};
 
 /// The facts that the text lists, if all of its lines are good.
 fn facts_or(alloc: Global, text: &[char]) -> Result<Items<ListedFact>, Halt>
@@ -25,6 +31,13 @@ fn facts_or(alloc: Global, text: &[char]) -> Result<Items<ListedFact>, Halt>
     }
 }
 
+/// The theory with one of these facts more.
+fn with_listed(alloc: Global, theory: &Theory, fact: &ListedFact) -> Result<Theory, AllocError>
+    ensures { IfOk result (λ more. more ≡ with_fact fact.now.0 fact.now.1 theory.now) }
+{
+    with_fact(alloc, theory, &fact.0, fact.1.copy(alloc)?)
+}
+
 /// The theory with all of these facts more, unless a name is taken.
 fn with_all(alloc: Global, theory: &Theory, facts: &[ListedFact]) -> Result<Theory, Halt>
     ensures { Tries (with_all theory.now facts.now) result }
@@ -34,12 +47,45 @@ fn with_all(alloc: Global, theory: &Theory, facts: &[ListedFact]) -> Result<Theo
     'facts: while let [fact, others @ ..] = rest {
         let name = &fact.0;
         if has_fact(&more, name.as_str()) {
+            free(more);
             return Err(taken(alloc, name.as_str()));
         }
-        more = with_fact(alloc, &more, name, fact.1.copy(alloc)?)?;
+        let next = with_listed(alloc, &more, fact);
+        free(more);
+        more = next?;
         rest = others;
     }
     Ok(more)
+}
+
+/// What is reported of facts that were loaded.
+fn loaded_reports(
+    alloc: Global,
+    name: &Spot,
+    facts: &[ListedFact],
+) -> Result<Items<Report>, AllocError>
+    ensures { IfOk result (λ reports. reports
+        ≡ report kinds.Loaded name.now.range [] (decimal (length facts.now)) ∷ []) }
+{
+    let report = loaded_report(alloc, name, facts.len())?;
+    let mut reports = Items::new(alloc);
+    reports.push(report)?;
+    Ok(reports)
+}
+
+/// What loading these facts makes, unless a name is taken.
+fn loaded(alloc: Global, theory: &Theory, name: &Spot, facts: &[ListedFact]) -> Result<Effect, Halt>
+    ensures { Tries (and_then (with_all theory.now facts.now)
+        (λ more. Ok (loaded name.now facts.now more))) result }
+{
+    let more = with_all(alloc, theory, facts)?;
+    match loaded_reports(alloc, name, facts) {
+        Ok(reports) => Ok(makes(Place::Theory(more), reports)),
+        Err(_) => {
+            free(more);
+            Err(Halt::NoMemory)
+        }
+    }
 }
 
 /// `load`, with the text of the blob where there is one. The error is the first that holds: no
@@ -56,8 +102,7 @@ pub fn load_made(
         return Err(named_refusal(alloc, "unknown blob ", name.text.as_slice()));
     };
     let facts = facts_or(alloc, text)?;
-    let more = with_all(alloc, theory, facts.as_slice())?;
-    let mut reports = Items::new(alloc);
-    reports.push(loaded_report(alloc, name, facts.len())?)?;
-    Ok(makes(Place::Theory(more), reports))
+    let effect = loaded(alloc, theory, name, facts.as_slice());
+    free(facts);
+    effect
 }
