@@ -9,7 +9,6 @@ ghost use Rattle.theory_steps.specs.Stated.{stated_formula};
 
 use crate::effect::{Effect, makes};
 use crate::facts::{has_fact, name_of, with_fact};
-use crate::freeing::free;
 use command_reports::{Halt, def_report, formula_in, formula_report, named_refusal};
 use isar_rules::{Place, Spot, Theory};
 use nj_formula::{Formula, Name};
@@ -31,7 +30,7 @@ fn stated(
     let own = name_of(alloc, name.text.as_slice())?;
     let formula = formula_in(alloc, quoted.text.as_slice())?;
     if has_fact(theory, own.as_str()) {
-        free(formula);
+        drop(formula);
         let name = name.text.as_slice();
         return Err(named_refusal(alloc, "name taken ", name));
     }
@@ -74,7 +73,7 @@ pub fn axiom_made(
             Ok(makes(Place::Theory(more), reports))
         }
         Err(_) => {
-            free(formula);
+            drop(formula);
             Err(Halt::NoMemory)
         }
     }
@@ -85,11 +84,11 @@ fn in_proof(alloc: Global, theory: &Theory, name: Name, goal: Formula) -> Result
     ensures { IfOk result (λ p. p ≡ place.Proof theory.now name goal (Prove goal [])) }
 {
     let Ok(proved) = goal.copy(alloc) else {
-        free(goal);
+        drop(goal);
         return Err(AllocError);
     };
     let Ok(theory) = theory.copy(alloc) else {
-        free((goal, proved));
+        drop((goal, proved));
         return Err(AllocError);
     };
     let proof = Proof::start(proved);
@@ -114,7 +113,7 @@ pub fn lemma_made(
     match stated_reports(alloc, theory, &own, name.range, quoted, &goal) {
         Ok(reports) => Ok(makes(in_proof(alloc, theory, own, goal)?, reports)),
         Err(_) => {
-            free(goal);
+            drop(goal);
             Err(Halt::NoMemory)
         }
     }

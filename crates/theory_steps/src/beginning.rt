@@ -7,7 +7,6 @@ ghost use Rattle.command_reports.specs.Tries.{Tries};
 
 use crate::effect::{Effect, makes};
 use crate::facts::name_of;
-use crate::freeing::free;
 use command_reports::{Halt, import_report, named_refusal, refusal, theory_report};
 use isar_rules::{Given, Place, Spot, Theory};
 use nj_formula::Name;
@@ -89,6 +88,6 @@ pub fn begun(
     }
     let facts = facts_or(alloc, given)?;
     let effect = begins(alloc, name, imports, keyword, &facts);
-    free(facts);
+    drop(facts);
     effect
 }

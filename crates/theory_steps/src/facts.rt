@@ -2,7 +2,6 @@
 ghost use Rattle.std.specs.Prelude.{◌≡◌, IfOk};
 ghost use Rattle.isar_rules.specs.Theories.{with_fact, has_fact};
 
-use crate::freeing::free;
 use command_reports::ascii;
 use isar_rules::Theory;
 use nj_formula::{Formula, Name};
@@ -36,7 +35,7 @@ pub fn with_fact(
     match more.facts.set(alloc, &theory.name, name, formula) {
         Ok(()) => Ok(more),
         Err(fault) => {
-            free(more);
+            drop(more);
             Err(fault)
         }
     }

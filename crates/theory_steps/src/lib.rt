@@ -11,7 +11,6 @@ mod axioms;
 mod beginning;
 mod effect;
 mod facts;
-mod freeing;
 mod loading;
 mod refusing;
 

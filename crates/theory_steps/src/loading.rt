@@ -11,7 +11,6 @@ ghost use Rattle.command_reports.specs.Tries.{Tries};
 
 use crate::effect::{Effect, makes};
 use crate::facts::{has_fact, with_fact};
-use crate::freeing::free;
 use crate::refusing::taken;
 use blob_facts::{BlobFault, ListedFact, facts_of};
 use command_reports::{Halt, loaded_report, named_refusal, numbered_refusal};
@@ -47,11 +46,11 @@ fn with_all(alloc: Global, theory: &Theory, facts: &[ListedFact]) -> Result<Theo
     'facts: while let [fact, others @ ..] = rest {
         let name = &fact.0;
         if has_fact(&more, name.as_str()) {
-            free(more);
+            drop(more);
             return Err(taken(alloc, name.as_str()));
         }
         let next = with_listed(alloc, &more, fact);
-        free(more);
+        drop(more);
         more = next?;
         rest = others;
     }
@@ -82,7 +81,7 @@ fn loaded(alloc: Global, theory: &Theory, name: &Spot, facts: &[ListedFact]) -> 
     match loaded_reports(alloc, name, facts) {
         Ok(reports) => Ok(makes(Place::Theory(more), reports)),
         Err(_) => {
-            free(more);
+            drop(more);
             Err(Halt::NoMemory)
         }
     }
@@ -103,6 +102,6 @@ pub fn load_made(
     };
     let facts = facts_or(alloc, text)?;
     let effect = loaded(alloc, theory, name, facts.as_slice());
-    free(facts);
+    drop(facts);
     effect
 }
