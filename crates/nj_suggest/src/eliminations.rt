@@ -38,12 +38,10 @@ pub(crate) fn parted(
         (if_so (says_same b.now goal.now) (Some (T.ConjE2 a.now (citing local.now)))))) }
 {
     if says_same(a.get(), goal) && is_usable(aliases, Rule::ConjE1) {
-        let fact = fact_of(alloc, local)?;
-        return Ok(Some(Term::ConjE1(b.copy()?, fact)));
+        return Ok(Some(Term::ConjE1(b.copy()?, fact_of(alloc, local)?)));
     }
     if says_same(b.get(), goal) && is_usable(aliases, Rule::ConjE2) {
-        let fact = fact_of(alloc, local)?;
-        return Ok(Some(Term::ConjE2(a.copy()?, fact)));
+        return Ok(Some(Term::ConjE2(a.copy()?, fact_of(alloc, local)?)));
     }
     Ok(None)
 }
@@ -65,11 +63,70 @@ pub(crate) fn absurd(
 }
 
 /// `a & b` by the proofs of both.
-pub(crate) fn paired(alloc: Global, left: Term, right: Term) -> Result<Term, AllocError>
+pub(crate) fn paired(alloc: Global, left: Shared<Term>, right: Term) -> Result<Term, AllocError>
     ensures { IfOk result (λ term. term ≡ T.ConjI left right) }
 {
-    let left = Shared::new(alloc, left)?;
-    Ok(Term::ConjI(left, Shared::new(alloc, right)?))
+    match Shared::new(alloc, right) {
+        Ok(right) => Ok(Term::ConjI(left, right)),
+        Err(fault) => {
+            drop(left);
+            Err(fault)
+        }
+    }
+}
+
+/// A part of a fact, and the fact, cited.
+#[derive(Drop)]
+pub(crate) struct Cited {
+    pub(crate) part: Shared<Formula>,
+    pub(crate) fact: Shared<Term>,
+}
+
+/// The same, of this part of the fact.
+fn cited_with(alloc: Global, local: &Local, part: &Shared<Formula>) -> Result<Cited, AllocError>
+    ensures { IfOk result (λ c. c ≡ record { part = part.now; fact = citing local.now }) }
+{
+    let part = part.copy()?;
+    let fact = fact_of(alloc, local)?;
+    Ok(Cited { part, fact })
+}
+
+/// The goal by the fact `a --> b` and the proof of `a`.
+pub(crate) fn followed_by(
+    alloc: Global,
+    local: &Local,
+    a: &Shared<Formula>,
+    part: Term,
+) -> Result<Term, AllocError>
+    ensures { IfOk result (λ term. term ≡ T.ImpE a.now (citing local.now) part) }
+{
+    let part = Shared::new(alloc, part)?;
+    match cited_with(alloc, local, a) {
+        Ok(cited) => Ok(Term::ImpE(cited.part, cited.fact, part)),
+        Err(fault) => {
+            drop(part);
+            Err(fault)
+        }
+    }
+}
+
+/// `False` by the fact `~a` and the proof of `a`.
+pub(crate) fn contradicted_by(
+    alloc: Global,
+    local: &Local,
+    a: &Shared<Formula>,
+    part: Term,
+) -> Result<Term, AllocError>
+    ensures { IfOk result (λ term. term ≡ T.NotE a.now (citing local.now) part) }
+{
+    let part = Shared::new(alloc, part)?;
+    match cited_with(alloc, local, a) {
+        Ok(cited) => Ok(Term::NotE(cited.part, cited.fact, part)),
+        Err(fault) => {
+            drop(part);
+            Err(fault)
+        }
+    }
 }
 
 /// A case of a fact `a | b`: the name that its assumption has, and its proof.
@@ -80,26 +137,56 @@ pub(crate) struct Case {
 }
 
 /// The case of this proof, whose assumption has this name.
-pub(crate) fn case_of(alloc: Global, name: &Name, part: Term) -> Result<Case, AllocError>
-    ensures { IfOk result (λ case. case ≡ record { name = name.now; part = part }) }
+pub(crate) fn case_of(alloc: Global, name: Name, part: Term) -> Result<Case, AllocError>
+    ensures { IfOk result (λ case. case ≡ record { name = name; part = part }) }
 {
     let part = Shared::new(alloc, part)?;
-    let name = name.copy(alloc)?;
     Ok(Case { name, part })
+}
+
+/// The sides of a fact `a | b`, and the fact, cited.
+#[derive(Drop)]
+struct Sides {
+    a: Shared<Formula>,
+    b: Shared<Formula>,
+    fact: Shared<Term>,
+}
+
+/// The same, of this fact.
+fn sides_of(
+    alloc: Global,
+    local: &Local,
+    a: &Shared<Formula>,
+    b: &Shared<Formula>,
+) -> Result<Sides, AllocError>
+    ensures { IfOk result (λ s. s
+        ≡ record { a = a.now; b = b.now; fact = citing local.now }) }
+{
+    let a = a.copy()?;
+    let b = b.copy()?;
+    let fact = fact_of(alloc, local)?;
+    Ok(Sides { a, b, fact })
 }
 
 /// The goal by the cases of a fact `a | b`.
 pub(crate) fn joined(
-    fact: Shared<Term>,
+    alloc: Global,
+    local: &Local,
     a: &Shared<Formula>,
     b: &Shared<Formula>,
     left: Case,
     right: Case,
 ) -> Result<Term, AllocError>
     ensures { IfOk result (λ term. term
-        ≡ T.DisjE a.now b.now fact left.name left.part right.name right.part) }
+        ≡ T.DisjE a.now b.now (citing local.now) left.name left.part right.name right.part) }
 {
-    let a = a.copy()?;
-    let b = b.copy()?;
-    Ok(Term::DisjE(a, b, fact, left.name, left.part, right.name, right.part))
+    match sides_of(alloc, local, a, b) {
+        Ok(of) => Ok(Term::DisjE(
+            of.a, of.b, of.fact, left.name, left.part, right.name, right.part,
+        )),
+        Err(fault) => {
+            drop((left, right));
+            Err(fault)
+        }
+    }
 }

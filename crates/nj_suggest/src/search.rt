@@ -10,8 +10,10 @@ ghost use Rattle.suggest_rules.specs.Names.{next_name, assuming};
 ghost use Rattle.suggest_rules.specs.Search.{if_so, both, is_false, says_same, citing, by_rule, by_cases};
 ghost use Rattle.suggest_rules.specs.Search.{introduced, eliminated, by_facts, found_within};
 
-use crate::citing::{cited, fact_of, says_same};
-use crate::eliminations::{Case, absurd, case_of, is_false, joined, paired, parted};
+use crate::citing::{cited, says_same};
+use crate::eliminations::{
+    Case, absurd, case_of, contradicted_by, followed_by, is_false, joined, paired, parted,
+};
 use crate::naming::{is_usable, next_name, with_own};
 use nj_formula::{Formula, Name, Shared};
 use nj_kernel::Rule;
@@ -86,9 +88,8 @@ fn implied(
         return Ok(None);
     }
     let name = next_name(alloc, aliases, names)?;
-    let inside = with_own(alloc, names, &name, a)?;
-    match found(alloc, aliases, &inside, b, deep)? {
-        Some(part) => Ok(Some(Term::ImpI(name, Shared::new(alloc, part)?))),
+    match under(alloc, aliases, names, b, name, a, deep)? {
+        Some(case) => Ok(Some(Term::ImpI(case.name, case.part))),
         None => Ok(None),
     }
 }
@@ -113,9 +114,8 @@ fn negated(
         return Ok(None);
     }
     let name = next_name(alloc, aliases, names)?;
-    let inside = with_own(alloc, names, &name, a)?;
-    match found(alloc, aliases, &inside, &Formula::False, deep)? {
-        Some(part) => Ok(Some(Term::NotI(name, Shared::new(alloc, part)?))),
+    match under(alloc, aliases, names, &Formula::False, name, a, deep)? {
+        Some(case) => Ok(Some(Term::NotI(case.name, case.part))),
         None => Ok(None),
     }
 }
@@ -140,7 +140,7 @@ fn conjoined(
     let Some(left) = found(alloc, aliases, names, a, deep)? else {
         return Ok(None);
     };
-    beside(alloc, aliases, names, left, b, deep)
+    beside(alloc, aliases, names, Shared::new(alloc, left)?, b, deep)
 }
 
 /// `a & b`, where a proof of `a` is found, by `b`.
@@ -149,16 +149,23 @@ fn beside(
     alloc: Global,
     aliases: &[Items<char>],
     names: &Names,
-    left: Term,
+    left: Shared<Term>,
     b: &Formula,
     deep: usize,
 ) -> Result<Option<Term>, AllocError>
     ensures { IfOk result (λ term. term
         ≡ option_map (T.ConjI left) (found_within aliases.now deep names.now b.now)) }
 {
-    match found(alloc, aliases, names, b, deep)? {
-        Some(right) => Ok(Some(paired(alloc, left, right)?)),
-        None => Ok(None),
+    match found(alloc, aliases, names, b, deep) {
+        Ok(Some(right)) => Ok(Some(paired(alloc, left, right)?)),
+        Ok(None) => {
+            drop(left);
+            Ok(None)
+        }
+        Err(fault) => {
+            drop(left);
+            Err(fault)
+        }
     }
 }
 
@@ -256,8 +263,7 @@ fn followed(
     let Some(part) = found(alloc, aliases, names, a.get(), deep)? else {
         return Ok(None);
     };
-    let fact = fact_of(alloc, local)?;
-    Ok(Some(Term::ImpE(a.copy()?, fact, Shared::new(alloc, part)?)))
+    Ok(Some(followed_by(alloc, local, a, part)?))
 }
 
 /// The goal `False` follows by the fact `~a`.
@@ -281,30 +287,31 @@ fn contradicted(
     let Some(part) = found(alloc, aliases, names, a.get(), deep)? else {
         return Ok(None);
     };
-    let fact = fact_of(alloc, local)?;
-    Ok(Some(Term::NotE(a.copy()?, fact, Shared::new(alloc, part)?)))
+    Ok(Some(contradicted_by(alloc, local, a, part)?))
 }
 
-/// The goal as a case of a fact, whose side is assumed under the name.
+/// The goal where this side of a fact, or of the goal, is assumed under the name.
 #[cycle(found)]
 fn under(
     alloc: Global,
     aliases: &[Items<char>],
     names: &Names,
     goal: &Formula,
-    name: &Name,
+    name: Name,
     side: &Formula,
     deep: usize,
 ) -> Result<Option<Case>, AllocError>
     ensures { IfOk result (λ found. found ≡ option_map
-        (λ part. record { name = name.now; part = part })
+        (λ part. record { name = name; part = part })
         (found_within aliases.now deep (record {
           own = names.now.own + 1;
-          facts = record { name = name.now; formula = side.now } ∷ names.now.facts;
+          facts = record { name = name; formula = side.now } ∷ names.now.facts;
         }) goal.now)) }
 {
-    let inside = with_own(alloc, names, name, side)?;
-    match found(alloc, aliases, &inside, goal, deep)? {
+    let inside = with_own(alloc, names, &name, side)?;
+    let part = found(alloc, aliases, &inside, goal, deep);
+    drop(inside);
+    match part? {
         Some(part) => Ok(Some(case_of(alloc, name, part)?)),
         None => Ok(None),
     }
@@ -332,11 +339,19 @@ fn by_cases(
         return Ok(None);
     }
     let name = next_name(alloc, aliases, names)?;
-    let Some(left) = under(alloc, aliases, names, goal, &name, a.get(), deep)? else {
+    let own = name.copy(alloc)?;
+    let Some(left) = under(alloc, aliases, names, goal, own, a.get(), deep)? else {
         return Ok(None);
     };
-    let Some(right) = under(alloc, aliases, names, goal, &name, b.get(), deep)? else {
-        return Ok(None);
-    };
-    Ok(Some(joined(fact_of(alloc, local)?, a, b, left, right)?))
+    match under(alloc, aliases, names, goal, name, b.get(), deep) {
+        Ok(Some(right)) => Ok(Some(joined(alloc, local, a, b, left, right)?)),
+        Ok(None) => {
+            drop(left);
+            Ok(None)
+        }
+        Err(fault) => {
+            drop(left);
+            Err(fault)
+        }
+    }
 }

@@ -91,5 +91,8 @@ pub fn suggest(
     ensures { IfOk result (λ term. term ≡ suggested goal.now scope.now.locals aliases.now) }
 {
     let facts = listed(alloc, chosen(alloc, scope)?)?;
-    found(alloc, aliases, &Names { own: 0, facts }, goal, DEEPEST)
+    let names = Names { own: 0, facts };
+    let term = found(alloc, aliases, &names, goal, DEEPEST);
+    drop(names);
+    term
 }
