@@ -7,6 +7,7 @@ ghost use Rattle.isar_rules.specs.BlobLines.{is_free_word, named_fact, fact_in};
 ghost use Rattle.blob_facts.specs.Listing.{good};
 
 use crate::line::past_gap;
+use joined_results::both;
 use nj_formula::{Formula, Name};
 use nj_syntax::{FormulaFault, one_answer, parse};
 use outer_tokens::{Kind, Token, renamed};
@@ -73,8 +74,9 @@ fn named_fact(alloc: Global, name: &[char], rest: &[char]) -> Result<Option<List
     if *colon != ':' || !is_free_word(name) {
         return Ok(None);
     }
-    match formula_in(alloc, more)? {
-        Some(formula) => Ok(Some((name_of(alloc, name)?, formula))),
+    let (name, formula) = both(name_of(alloc, name), formula_in(alloc, more))?;
+    match formula {
+        Some(formula) => Ok(Some((name, formula))),
         None => Ok(None),
     }
 }

@@ -9,6 +9,7 @@ ghost use Rattle.command_shapes.specs.Forms.{lone_name, lone_formula, named_form
 
 use crate::word::{Word, word_of};
 use isar_rules::{Shape, Spot, Verb};
+use joined_results::each_of_three;
 use outer_tokens::Token;
 use std::alloc::{AllocError, Global};
 
@@ -90,11 +91,14 @@ fn named_formula(
         ≡ worded verb.Lemma (words source.now tokens.now)) }
 {
     match tokens {
-        [first, second, third] => Ok(named_words(
-            word_of(alloc, source, *first)?,
-            word_of(alloc, source, *second)?,
-            word_of(alloc, source, *third)?,
-        )),
+        [first, second, third] => {
+            let (first, second, third) = each_of_three(
+                word_of(alloc, source, *first),
+                word_of(alloc, source, *second),
+                word_of(alloc, source, *third),
+            )?;
+            Ok(named_words(first, second, third))
+        }
         _ => Ok(None),
     }
 }
@@ -126,7 +130,12 @@ fn perhaps_named(
 fn alone(tokens: &[Token], shape: Shape) -> Option<Shape>
     ensures { result ≡ alone tokens.now shape }
 {
-    if tokens.is_empty() { Some(shape) } else { None }
+    if tokens.is_empty() {
+        Some(shape)
+    } else {
+        drop(shape);
+        None
+    }
 }
 
 /// `proof`, or `proof -`.

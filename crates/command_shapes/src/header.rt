@@ -7,6 +7,7 @@ ghost use Rattle.isar_rules.specs.Shapes.{last_stop, is_header, headed, header_s
 use crate::word::spot_of;
 use doc_headers::{header, header_stop, one_header};
 use isar_rules::{Shape, Spot};
+use joined_results::both;
 use outer_tokens::Token;
 use sqlite_items::Items;
 use std::alloc::{AllocError, Global};
@@ -75,10 +76,8 @@ fn headed(
         return Ok(None);
     };
     let listed = first_of(&more[more.len().min(1)..], count);
-    Ok(Some(Shape::Theory {
-        name: spot_of(alloc, source, *name)?,
-        imports: spots(alloc, source, listed)?,
-    }))
+    let (name, imports) = both(spot_of(alloc, source, *name), spots(alloc, source, listed))?;
+    Ok(Some(Shape::Theory { name, imports }))
 }
 
 /// A header, which is read under the language's own names.

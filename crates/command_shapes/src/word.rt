@@ -13,7 +13,7 @@ use std::alloc::{AllocError, Global};
 use std::cmp::Ordering;
 
 /// A name, a quoted text, `:`, `-`, or none of these.
-#[derive(Debug, Drop)]
+#[derive(Drop)]
 pub(crate) enum Word {
     Name(Spot),
     Quoted(Spot),

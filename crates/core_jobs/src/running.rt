@@ -9,6 +9,7 @@ use crate::done::{Done, Evaluated};
 use crate::input::Input;
 use crate::job::Job;
 use doc_nodes::Shared;
+use joined_results::both;
 use language::{Answer, Language, Made};
 use pide_base::{PartKind, Stop};
 use report_markup::Report;
@@ -120,10 +121,9 @@ impl<S: Send + Sync + Drop> Job<S> {
             reports,
             forks,
         } = made;
-        match Shared::new(alloc, state) {
-            Ok(state) => self.done(alloc, reports, Some(Evaluated { state, forks })),
-            Err(_) => Err(AllocError),
-        }
+        let state = Shared::new(alloc, state).map_err(|_| AllocError);
+        let (state, reports) = both(state, Ok(reports))?;
+        self.done(alloc, reports, Some(Evaluated { state, forks }))
     }
 
     /// The part with its reports, in memory that is shared.
@@ -136,14 +136,13 @@ impl<S: Send + Sync + Drop> Job<S> {
         ensures { IfOk result (λ done. done
             ≡ record { part = self.now.part; reports = reports; made = made }) }
     {
-        match Shared::new(alloc, reports) {
-            Ok(reports) => Ok(Done {
-                part: self.part(),
-                reports,
-                made,
-            }),
-            Err(_) => Err(AllocError),
-        }
+        let reports = Shared::new(alloc, reports).map_err(|_| AllocError);
+        let (reports, made) = both(reports, Ok(made))?;
+        Ok(Done {
+            part: self.part(),
+            reports,
+            made,
+        })
     }
 }
 

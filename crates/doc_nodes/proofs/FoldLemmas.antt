@@ -1,5 +1,5 @@
 -- The fold of aliases.
-use Rattle.std.proofs.Common.{◌≡◌, ℕ, suc, ◌+◌, ◌<◌, ◌≤◌, drop, Bool, true, false, cond, List, [], ◌∷◌, ◌++◌, length, get_or, set, get_or-set_same, get_or-set_other, eqb, Option, Some, None, refl, sym, ap, subst, ◌∙◌, arith, length-append, append-nil, append_assoc}
+use Rattle.std.proofs.Common.{◌≡◌, ℕ, suc, ◌+◌, ◌<◌, ◌≤◌, drop, Bool, true, false, cond, List, [], ◌∷◌, ◌++◌, length, get_or, set, get_or-set_same, get_or-set_other, eqb, Option, Some, None, Result, Ok, Err, IfOk, refl, sym, ap, subst, ◌∙◌, arith, length-append, append-nil, append_assoc}
 use Rattle.std.specs.Prelude.{find, slice_get}
 use Rattle.std.specs.Option.{option_map_or}
 use Rattle.std.proofs.lemmas.Bool.Decides.{nat_tests}
@@ -67,6 +67,18 @@ first_same all done aims own base are first len =
 
 pub paired : (a : NodeAliases) (pairs : List (List ℕ × List ℕ)) (bad : Option (List ℕ)) → pairs ≡ a.pairs → bad ≡ a.bad → record { pairs = pairs; bad = bad } ≡ a
 paired a pairs bad e f = ap (λ (p : List (List ℕ × List ℕ)). record { pairs = p; bad = bad }) e ∙ ap (λ (b : Option (List ℕ)). record { pairs = a.pairs; bad = b }) f
+
+pub same_along : {A E : Type 0} (r : Result A E) (a b : A) → IfOk r (λ made. made ≡ a) → a ≡ b → IfOk r (λ made. made ≡ b)
+same_along (Ok made) a b is e = is ∙ e
+same_along (Err fault) a b is e = tt
+
+-- by its parts, where they could be made
+pub made_by : {E : Type 0} (r : Result NodeAliases E) (pairs : Result (List (List ℕ × List ℕ)) E) (bad : Option (List ℕ)) (a : NodeAliases)
+    → IfOk r (λ made. pairs ≡ Ok made.pairs) → IfOk r (λ made. made.bad ≡ bad) → IfOk pairs (λ ps. ps ≡ a.pairs) → bad ≡ a.bad
+    → IfOk r (λ made. made ≡ a)
+made_by {E} (Ok made) pairs bad a ep eb same bads =
+    paired a made.pairs made.bad (subst (λ (r : Result (List (List ℕ × List ℕ)) E). IfOk r (λ ps. ps ≡ a.pairs)) ep same) (eb ∙ bads)
+made_by (Err fault) pairs bad a ep eb same bads = tt
 
 -- what is known of one place more
 pub known_more : (all : List NodeAliases) (done : List (ℕ × NodeAliases)) (p : ℕ) (a : NodeAliases) → AreKnown all done → p < length all → IsClean a

@@ -6,6 +6,7 @@ ghost use Rattle.doc_nodes.specs.Names.{in_order, equal};
 ghost use Rattle.doc_nodes.specs.Aliases.{is_target};
 ghost use Rattle.doc_nodes.specs.Lent.{lent};
 
+use joined_results::both;
 use outer_tokens::is_inner_command;
 use sqlite_items::Items;
 use std::alloc::{AllocError, Global};
@@ -112,12 +113,24 @@ impl Aliases {
     ) -> Result<Aliases, AllocError>
         ensures { IfOk result (λ more. more ≡ self ++ (name.now, target.now) ∷ []) }
     {
-        let Aliases {
-            mut names,
-            mut targets,
-        } = self;
-        names.push(Items::from_slice(alloc, name)?)?;
-        targets.push(Items::from_slice(alloc, target)?)?;
+        let Aliases { names, targets } = self;
+        let (names, targets) = both(
+            with_word(alloc, names, name),
+            with_word(alloc, targets, target),
+        )?;
         Ok(Aliases { names, targets })
     }
+}
+
+/// The same with one word more behind them.
+fn with_word(
+    alloc: Global,
+    words: Items<Items<char>>,
+    word: &[char],
+) -> Result<Items<Items<char>>, AllocError>
+    ensures { IfOk result (λ more. more ≡ words ++ word.now ∷ []) }
+{
+    let (word, mut words) = both(Items::from_slice(alloc, word), Ok(words))?;
+    words.push(word)?;
+    Ok(words)
 }

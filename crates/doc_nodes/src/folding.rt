@@ -1,12 +1,13 @@
 //! The fold of aliases, pair by pair.
-ghost use Rattle.std.specs.Prelude.{◌≡◌, map, None, IfOk};
+ghost use Rattle.std.specs.Prelude.{◌≡◌, ℕ, List, map, Some, None, IfOk, if◌then◌else◌};
 ghost use Rattle.shared_map.specs.Pairs.{found};
-ghost use Rattle.doc_nodes.specs.Names.{in_order};
+ghost use Rattle.doc_nodes.specs.Names.{in_order, equal};
 ghost use Rattle.doc_nodes.specs.Aliases.{no_aliases, left_out, added, taken_in, folded};
 
 use crate::alias::{Aliases, equal, is_target};
 use crate::word::Word;
 use doc_headers::KeywordPair;
+use joined_results::each_of_three;
 use shared_map::SharedMap;
 use sqlite_items::Items;
 use std::alloc::{AllocError, Global};
@@ -74,13 +75,14 @@ impl<'a> Folding<'a> {
             bad,
         } = self;
         let first = match bad {
-            Some(bad) => Some(bad),
-            None => Some(Items::from_slice(alloc, name)?),
+            Some(bad) => Ok(bad),
+            None => Items::from_slice(alloc, name),
         };
+        let (pairs, targets, first) = each_of_three(Ok(pairs), Ok(targets), first)?;
         Ok(Folding {
             pairs,
             targets,
-            bad: first,
+            bad: Some(first),
         })
     }
 
@@ -96,11 +98,12 @@ impl<'a> Folding<'a> {
     {
         let Folding {
             pairs,
-            mut targets,
+            targets,
             bad,
         } = self;
-        let pairs = pairs.with(alloc, name, target)?;
-        targets.set(alloc, Word::of(name), Word::of(target))?;
+        let pairs = pairs.with(alloc, name, target);
+        let targets = with_target(alloc, targets, name, target);
+        let (pairs, targets, bad) = each_of_three(pairs, targets, Ok(bad))?;
         Ok(Folding {
             pairs,
             targets,
@@ -159,4 +162,18 @@ impl<'a> Folding<'a> {
         }
         Ok(folding)
     }
+}
+
+/// The same with one target more.
+fn with_target<'a>(
+    alloc: Global,
+    mut targets: SharedMap<Word<'a>, Word<'a>>,
+    name: &'a [char],
+    target: &'a [char],
+) -> Result<SharedMap<Word<'a>, Word<'a>>, AllocError>
+    ensures { IfOk result (λ more. (other : List ℕ) → found in_order other more
+        ≡ (if equal name.now other then Some target.now else found in_order other targets.entry)) }
+{
+    targets.set(alloc, Word::of(name), Word::of(target))?;
+    Ok(targets)
 }

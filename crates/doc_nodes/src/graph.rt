@@ -1,13 +1,15 @@
 //! The imports of a version's nodes, by place.
 ghost use Rattle.std.specs.Prelude.{◌≡◌, ◌++◌, length, filter, not, map, IfOk, OnOk};
 ghost use Rattle.std.specs.List.{range_with_len};
-ghost use Rattle.import_rounds.specs.Looks.{marked, aims_at};
+ghost use Rattle.import_rounds.specs.Looks.{AreMarks, marked, aims_at};
+ghost use Rattle.import_rounds.specs.Rounds.{in_rounds};
 ghost use Rattle.doc_nodes.specs.Imports.{place_of, aims_of, aims};
 ghost use Rattle.doc_nodes.specs.Graphs.{IsGraphOf};
 
 use crate::called::Called;
 use crate::node::{Node, Nodes};
 use import_rounds::{in_rounds, marks_of};
+use joined_results::both;
 use sqlite_items::Items;
 use std::alloc::{AllocError, Global};
 use std::marker::Model;
@@ -39,9 +41,8 @@ impl ImportGraph {
         ensures { IfOk result (λ graph. IsGraphOf nodes.now graph) }
     {
         let aims = all_aims(alloc, nodes)?;
-        let mut order = in_rounds(alloc, &aims)?;
-        let marks = marks_of(alloc, &order, aims.len())?;
-        add_others(&mut order, &marks)?;
+        let placed = places_in_order(alloc, &aims);
+        let (aims, (order, marks)) = both(Ok(aims), placed)?;
         Ok(ImportGraph { aims, order, marks })
     }
 
@@ -96,6 +97,23 @@ fn all_aims(alloc: Global, nodes: &Nodes) -> Result<Vec<Items<Option<usize>>>, A
         rows.push(aims_of(alloc, nodes, node)?)?;
     }
     Ok(rows)
+}
+
+/// The places of all nodes with these imports, in their order, and marks of those that are ordered.
+fn places_in_order(
+    alloc: Global,
+    aims: &[Items<Option<usize>>],
+) -> Result<(Vec<usize>, Vec<bool>), AllocError>
+    ensures order { IfOk result (λ placed. placed.0.items ≡ in_rounds aims.now
+        ++ filter (λ p. not (marked placed.1.items p))
+        (range_with_len 0 (length placed.1.items))) }
+    ensures marks { IfOk result (λ placed. AreMarks placed.1.items (in_rounds aims.now)) }
+    ensures len { IfOk result (λ placed. length placed.1.items ≡ length aims.now) }
+{
+    let mut order = in_rounds(alloc, aims)?;
+    let marks = marks_of(alloc, &order, aims.len())?;
+    add_others(&mut order, &marks)?;
+    Ok((order, marks))
 }
 
 /// Adds the places that are not marked.

@@ -1,5 +1,5 @@
 //! The aliases of each node.
-ghost use Rattle.std.specs.Prelude.{◌≡◌, ℕ, ◌<◌, ⊤, ◌∷◌, ◌++◌, List, Option, map, length, slice_get, slice_index_or, Some, IfOk, MatchOption};
+ghost use Rattle.std.specs.Prelude.{◌≡◌, ℕ, ◌<◌, ⊤, [], ◌∷◌, ◌++◌, List, Option, map, length, slice_get, slice_index_or, Some, Ok, IfOk, MatchOption};
 ghost use Rattle.std.specs.List.{flat_map};
 ghost use Rattle.doc_nodes.specs.Graphs.{IsGraphOf};
 ghost use Rattle.doc_nodes.specs.Aliases.{no_aliases, pairs_from, folded, aliases_by, aliases_at};
@@ -12,8 +12,10 @@ use crate::graph::ImportGraph;
 use crate::node::Nodes;
 use crate::shared::Shared;
 use doc_headers::KeywordPair;
+use joined_results::both;
 use sqlite_items::Items;
 use std::alloc::{AllocError, Global};
+use std::mem;
 
 /// The aliases that are in force in a node.
 #[derive(Debug, Drop)]
@@ -42,7 +44,7 @@ pub fn aliases_of(
     let mut all = without_aliases(alloc, nodes.len())?;
     'places: for place in graph.order() {
         let found = aliases_by(alloc, nodes, graph, &all, *place)?;
-        all[*place] = found;
+        drop(mem::replace(&mut all[*place], found));
     }
     Ok(all)
 }
@@ -54,12 +56,26 @@ fn without_aliases(alloc: Global, count: usize) -> Result<Vec<NodeAliases>, Allo
         → slice_index_or all.items p no_aliases ≡ no_aliases) }
 {
     let nothing = shared(alloc, Aliases::new(alloc))?;
+    let all = owners(alloc, &nothing, count);
+    drop(nothing);
+    all
+}
+
+/// So many nodes that share no aliases.
+fn owners(
+    alloc: Global,
+    nothing: &Shared<Aliases>,
+    count: usize,
+) -> Result<Vec<NodeAliases>, AllocError>
+    requires { nothing.now ≡ [] }
+    ensures len { IfOk result (λ all. length all.items ≡ count) }
+    ensures none { IfOk result (λ all. (p : ℕ)
+        → slice_index_or all.items p no_aliases ≡ no_aliases) }
+{
     let mut all = Vec::new(alloc);
     'nodes: for _ in 0..count {
-        all.push(NodeAliases {
-            pairs: nothing.copy()?,
-            bad: None,
-        })?;
+        let pairs = nothing.copy()?;
+        all.push(NodeAliases { pairs, bad: None })?;
     }
     Ok(all)
 }
@@ -112,25 +128,31 @@ fn folded(
         && aims.len() == 1
         && keywords.is_empty()
     {
-        return Ok(NodeAliases {
-            pairs: pairs.copy()?,
-            bad: None,
-        });
+        return with_bad(pairs.copy(), None);
     }
     let (pairs, bad) = from_imports(alloc, all, aims)?
         .with_own(alloc, keywords)?
         .into_parts();
     let count = pairs.len();
     match first {
-        Some(base) if base.get().len() == count => Ok(NodeAliases {
-            pairs: base.copy()?,
-            bad,
-        }),
-        _ => Ok(NodeAliases {
-            pairs: shared(alloc, pairs)?,
-            bad,
-        }),
+        Some(base) if base.get().len() == count => {
+            drop(pairs);
+            with_bad(base.copy(), bad)
+        }
+        _ => with_bad(shared(alloc, pairs), bad),
     }
+}
+
+/// These pairs, and the first bad one's name.
+fn with_bad(
+    pairs: Result<Shared<Aliases>, AllocError>,
+    bad: Option<Items<char>>,
+) -> Result<NodeAliases, AllocError>
+    ensures pairs { IfOk result (λ made. pairs ≡ Ok made.pairs) }
+    ensures bad { IfOk result (λ made. made.bad ≡ bad) }
+{
+    let (pairs, bad) = both(pairs, Ok(bad))?;
+    Ok(NodeAliases { pairs, bad })
 }
 
 /// The aliases of the first import, where it is a node.

@@ -4,6 +4,7 @@ ghost use Rattle.std.specs.Prelude.{◌≡◌, IfOk};
 use crate::blob_name::BlobName;
 use crate::shared::Shared;
 use doc_headers::KeywordPair;
+use joined_results::both;
 use pide_base::{CommandId, NodeName, Range};
 use shared_map::SharedMap;
 use sqlite_items::Items;
@@ -46,12 +47,15 @@ impl Node {
     pub fn copy(&self) -> Result<Node, AllocError>
         ensures { IfOk result (λ node. node ≡ self.now) }
     {
+        let body = both(self.text.copy(), self.entries.copy());
+        let header = both(self.imports.copy(), self.keywords.copy());
+        let ((text, entries), (imports, keywords)) = both(body, header)?;
         Ok(Node {
-            text: self.text.copy()?,
-            entries: self.entries.copy()?,
+            text,
+            entries,
             required: self.required,
-            imports: self.imports.copy()?,
-            keywords: self.keywords.copy()?,
+            imports,
+            keywords,
         })
     }
 }

@@ -5,6 +5,7 @@ ghost use Rattle.doc_nodes.specs.Graphs.{IsGraphOf};
 
 use crate::graph::{ImportGraph, place_of};
 use crate::node::{Node, Nodes};
+use joined_results::both;
 use pide_base::NodeName;
 use sqlite_items::Items;
 use std::alloc::{AllocError, Global};
@@ -48,12 +49,9 @@ fn placed_node(
     requires { IsGraphOf nodes.now graph.now }
     ensures { IfOk result (λ one. one ≡ placed nodes.now (name.now, node.now)) }
 {
-    let node_name = name.clone()?;
-    let bad = first_bad(alloc, nodes, graph, node.imports.get().as_slice())?;
-    Ok(Placed {
-        node: node_name,
-        bad,
-    })
+    let bad = first_bad(alloc, nodes, graph, node.imports.get().as_slice());
+    let (node, bad) = both(name.clone(), bad)?;
+    Ok(Placed { node, bad })
 }
 
 fn first_bad(

@@ -1,5 +1,6 @@
 -- What items make of open nodes, and of the nodes that come of them.
 use Rattle.std.proofs.Common.{◌≡◌, ℕ, true, false, List, ◌∷◌, Option, Some, None, Result, Ok, Err, refl, sym, ap, subst, ◌∙◌}
+use Rattle.std.specs.Prelude.{IfOk}
 use Rattle.std.specs.Option.{option_map, option_map_or, is_some}
 use Rattle.std.specs.List.{AllZip}
 use Rattle.std.proofs.lemmas.Bool.{false≢true}
@@ -93,19 +94,23 @@ pub blank_told : (opened : OpenList) (name : List ℕ) (o : OpenSheet) (edits : 
 blank_told opened name o edits told r none made is =
     subst (λ s. Tells sheet r (sheet_after edits told s)) (ap sheet made ∙ sym (sheet_blank opened name none)) is
 
--- the same where a key is a copy of the name
-pub sheets_put_so : (opened new : OpenList) (name key : List ℕ) (o : OpenSheet) → key ≡ name → new ≡ put in_order (key, o) opened
-    → sheets_of new ≡ put in_order (name, o.sheet) (sheets_of opened)
-sheets_put_so opened new name key o same e =
-    ap sheets_of (e ∙ ap (λ k. put in_order (k, o) opened) same) ∙ sheets_put opened name o
+-- a value is put by a call
+pub put_told : {E V : Type 0} (made : Result (List (List ℕ × V)) E) (map new : List (List ℕ × V)) (name : List ℕ) (value : V) → made ≡ Ok new
+    → IfOk made (λ after. after ≡ put in_order (name, value) map) → new ≡ put in_order (name, value) map
+put_told {E} {V} made map new name value e told =
+    subst (λ (r : Result (List (List ℕ × V)) E). IfOk r (λ after. after ≡ put in_order (name, value) map)) e told
 
-pub drafted_put_so : (tip : NodeList) (opened new : OpenList) (nodes more : NodeList) (name key other : List ℕ) (o : OpenSheet) (node : Node)
-    → o.cut_under ≡ None → key ≡ name → other ≡ name → node ≡ uncut o.sheet → new ≡ put in_order (key, o) opened → more ≡ put in_order (other, node) nodes
+-- the same of lists that are told to be those
+pub sheets_put_so : (opened new : OpenList) (name : List ℕ) (o : OpenSheet) → new ≡ put in_order (name, o) opened
+    → sheets_of new ≡ put in_order (name, o.sheet) (sheets_of opened)
+sheets_put_so opened new name o e = ap sheets_of e ∙ sheets_put opened name o
+
+pub drafted_put_so : (tip : NodeList) (opened new : OpenList) (nodes more : NodeList) (name : List ℕ) (o : OpenSheet) (node : Node)
+    → o.cut_under ≡ None → node ≡ uncut o.sheet → new ≡ put in_order (name, o) opened → more ≡ put in_order (name, node) nodes
     → AllZip (Drafted tip) opened nodes → AllZip (Drafted tip) new more
-drafted_put_so tip opened new nodes more name key other o node none same twin made e f all =
-    subst (λ os. AllZip (Drafted tip) os more) (sym (e ∙ ap (λ k. put in_order (k, o) opened) same))
-    (subst (λ ns. AllZip (Drafted tip) (put in_order (name, o) opened) ns) (sym (f ∙ ap (λ k. put in_order (k, node) nodes) twin))
-    (drafted_put tip opened nodes name o node none made all))
+drafted_put_so tip opened new nodes more name o node none made e f all =
+    subst (λ os. AllZip (Drafted tip) os more) (sym e)
+    (subst (λ ns. AllZip (Drafted tip) (put in_order (name, o) opened) ns) (sym f) (drafted_put tip opened nodes name o node none made all))
 
 pub closed_so : (opened new : OpenList) (name : List ℕ) → new ≡ without in_order name opened → is_some (found in_order name opened) ≡ true
     → change_one name change.Close (sheets_of opened) ≡ Ok (sheets_of new)

@@ -1,5 +1,6 @@
 -- Sets of names, and changes of blobs one by one.
 use Rattle.std.proofs.Common.{◌≡◌, ◌↔◌, ℕ, suc, ◌-◌, ◌<◌, ◌≤◌, length, take, drop, get_or, drop-cons, Bool, true, false, ◌||◌, cond, List, [], ◌∷◌, ◌++◌, map, Option, Some, None, Result, Ok, Err, refl, sym, ap, subst, ◌∙◌, arith}
+use Rattle.std.specs.Prelude.{IfOk}
 use Rattle.std.specs.Option.{is_some}
 use Rattle.std.specs.Ordering.{is_eq, ordering_reverse}
 use Rattle.std.specs.declared.cmp.Ordering.{Ordering}
@@ -37,6 +38,15 @@ names_more set new names name are with_it other =
     go : (b : Bool) → equal name other ≡ b → is_some (cond b (Some tt) (found in_order other set)) ≡ (equal other name || is_among names other)
     go true e = sym (ap (λ c. c || is_among names other) (equal_sym other name ∙ e))
     go false e = are other ∙ sym (ap (λ c. c || is_among names other) (equal_sym other name ∙ e))
+
+-- the same where a call made it
+pub names_marked : {E : Type 0} (set new : NameSet) (made : Result NameSet E) (names : List (List ℕ)) (name : List ℕ) → AreNames set names
+    → made ≡ Ok new
+    → IfOk made (λ more. (other : List ℕ) → found in_order other more ≡ cond (is_eq (in_order name other)) (Some tt) (found in_order other set))
+    → AreNames new (name ∷ names)
+names_marked {E} set new made names name are e told =
+    let With : NameSet → Type 0 = λ more. (other : List ℕ) → found in_order other more ≡ cond (is_eq (in_order name other)) (Some tt) (found in_order other set) in
+    names_more set new names name are (subst (λ (r : Result NameSet E). IfOk r With) e told)
 
 -- one change and then the others
 pub blobs_more : (before : BlobList) (names : List (List ℕ)) (c : BlobChange) (cs : List BlobChange) (blobs : BlobList)
@@ -84,6 +94,22 @@ changed_more set new before blobs after name text other are texts marks differ q
           λ f. is ∙ (are q).0 (sym (ap (λ (o : Option (Unit {0})). is_some o) mark) ∙ f),
           λ f. ap (λ (o : Option (Unit {0})). is_some o) mark ∙ (are q).1 (sym is ∙ f),
         )
+
+-- the same where calls made them
+pub changed_marked : {E : Type 0} (set new : NameSet) (made : Result NameSet E) (before blobs after : BlobList) (once : Result BlobList E)
+    (name : List ℕ) (text : Option (List ℕ)) (other : Bool)
+    → AreChanged set before blobs
+    → once ≡ Ok after
+    → IfOk once (λ bs. (q : List ℕ) → found in_order q bs ≡ cond (is_eq (in_order name q)) text (found in_order q blobs))
+    → made ≡ Ok new
+    → IfOk made (λ more. (q : List ℕ) → found in_order q more ≡ cond (is_eq (in_order name q)) (cond other (Some tt) None) (found in_order q set))
+    → ((other ≡ false) ↔ (found in_order name before ≡ text))
+    → AreChanged new before after
+changed_marked {E} set new made before blobs after once name text other are e texts f marks differ =
+    let With : BlobList → Type 0 = λ bs. (q : List ℕ) → found in_order q bs ≡ cond (is_eq (in_order name q)) text (found in_order q blobs) in
+    let Marked : NameSet → Type 0 = λ more. (q : List ℕ) → found in_order q more ≡ cond (is_eq (in_order name q)) (cond other (Some tt) None) (found in_order q set) in
+    changed_more set new before blobs after name text other are
+    (subst (λ (r : Result BlobList E). IfOk r With) e texts) (subst (λ (r : Result NameSet E). IfOk r Marked) f marks) differ
 
 -- a name that comes twice behind a front comes twice
 pub twice_behind : (front items : List Item) → names_twice items ≡ true → names_twice (front ++ items) ≡ true

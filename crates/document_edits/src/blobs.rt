@@ -11,6 +11,7 @@ ghost use Rattle.document_edits.specs.NameSets.{AreNames, AreChanged};
 ghost use Rattle.document_edits.specs.BlobSteps.{blob_step};
 
 use doc_nodes::{BlobName, Shared};
+use joined_results::{both, each_of_three};
 use message_values::{BlobChange, Refusal};
 use shared_map::SharedMap;
 use sheet_edits::PrepareError;
@@ -86,7 +87,8 @@ fn once(
     let mut blobs = blobs;
     match text {
         Some(text) => {
-            blobs.set(alloc, name.clone()?, shared(alloc, text)?)?;
+            let (name, text) = both(name.clone(), shared(alloc, text))?;
+            blobs.set(alloc, name, text)?;
             Ok(blobs)
         }
         None => {
@@ -127,10 +129,15 @@ impl BlobEdits {
             changed,
         } = self;
         let is_other = differs(before, &change.name, &change.text);
+        let (blobs, came, changed) = each_of_three(
+            once(alloc, blobs, &change.name, &change.text),
+            marked(alloc, came, &change.name, true),
+            marked(alloc, changed, &change.name, is_other),
+        )?;
         Ok(BlobEdits {
-            blobs: once(alloc, blobs, &change.name, &change.text)?,
-            came: marked(alloc, came, &change.name, true)?,
-            changed: marked(alloc, changed, &change.name, is_other)?,
+            blobs,
+            came,
+            changed,
         })
     }
 
@@ -150,9 +157,11 @@ impl BlobEdits {
             → IfOk result (λ edits. AreChanged edits.changed before.now edits.blobs) }
     {
         if self.came.get(&change.name).is_some() {
+            drop(self);
             return Err(PrepareError::Refused(Refusal::BlobTwice));
         }
         if change.text.is_none() && before.get(&change.name).is_none() {
+            drop(self);
             return Err(PrepareError::Refused(Refusal::UnknownBlob));
         }
         Ok(self.with_text(alloc, before, change)?)

@@ -13,7 +13,9 @@ ghost use Rattle.document_edits.specs.Standing.{sheets_of, Drafted};
 ghost use Rattle.document_edits.specs.Heads.{heads, KeepHeaders};
 
 use crate::headers::keeps_headers;
+use crate::named::with_named;
 use doc_nodes::Nodes;
+use joined_results::both;
 use message_values::{Change, Item, Perspective, Refusal};
 use pide_base::NodeName;
 use shared_map::SharedMap;
@@ -66,15 +68,17 @@ impl Draft {
         ensures headers { IfOk result (λ draft. IsTrue draft.headers_stand
             ↔ (IsTrue self.headers_stand × (heads draft.nodes ≡ heads self.nodes))) }
     {
+        let made = uncut(alloc, node.sheet())?;
         let Draft {
-            mut opened,
-            mut nodes,
+            opened,
+            nodes,
             headers_stand,
         } = self;
-        let made = uncut(alloc, node.sheet())?;
         let still = headers_stand && keeps_headers(&nodes, name, &made);
-        nodes.set(alloc, name.clone()?, made)?;
-        opened.set(alloc, name.clone()?, node)?;
+        let (opened, nodes) = both(
+            with_named(alloc, opened, name, node),
+            with_named(alloc, nodes, name, made),
+        )?;
         Ok(Draft {
             opened,
             nodes,

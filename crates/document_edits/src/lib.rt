@@ -10,8 +10,10 @@
 mod blobs;
 mod draft;
 mod headers;
+mod named;
 mod twice;
 
 pub use blobs::{BlobEdits, BlobNames, Blobs, blob_edits};
 pub use draft::{Draft, OpenNodes};
+pub use named::with_named;
 pub use twice::names_twice;

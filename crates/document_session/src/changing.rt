@@ -17,6 +17,7 @@ use crate::taking::Taken;
 use byte_message::Message;
 use doc_versions::Removing;
 use exec_table::Cancelling;
+use joined_results::each_of_three;
 use language::Language;
 use message_values::{Protocol, Refusal};
 use past_items::Past;
@@ -75,11 +76,25 @@ impl<L: Language, P: Past<Item<Service, Entry>> + Drop> Session<L, P> {
     {
         removed_law::<L>();
         change_laws::<L>();
-        make_room(&mut self.outbox, self.held, 1)?;
-        let reply = removed_versions(alloc, versions.as_slice())?;
+        let Ok(()) = make_room(&mut self.outbox, self.held, 1) else {
+            drop(message);
+            drop(versions);
+            return Err(AllocError);
+        };
+        let Ok(reply) = removed_versions(alloc, versions.as_slice()) else {
+            drop(message);
+            drop(versions);
+            return Err(AllocError);
+        };
         match self.core.remove(versions)? {
-            Removing::Unknown(_) => self.refuse(alloc, message, Refusal::UnknownVersion),
-            Removing::Tip => self.refuse(alloc, message, Refusal::TipVersion),
+            Removing::Unknown(_) => {
+                drop(reply);
+                self.refuse(alloc, message, Refusal::UnknownVersion)
+            }
+            Removing::Tip => {
+                drop(reply);
+                self.refuse(alloc, message, Refusal::TipVersion)
+            }
             Removing::Removed => {
                 self.called = true;
                 self.outbox.add(Entry::Call(message), Some(reply));
@@ -130,10 +145,15 @@ impl CancelReplies {
     fn new(alloc: Global, exec: ExecId) -> Result<CancelReplies, AllocError>
         ensures { IfOk result (λ replies. AreRepliesTo exec replies) }
     {
+        let (unknown, idle, cancelled) = each_of_three(
+            cancelling(alloc, exec, Cancelling::Unknown),
+            cancelling(alloc, exec, Cancelling::Idle),
+            cancelling(alloc, exec, Cancelling::Cancelled),
+        )?;
         Ok(CancelReplies {
-            unknown: cancelling(alloc, exec, Cancelling::Unknown)?,
-            idle: cancelling(alloc, exec, Cancelling::Idle)?,
-            cancelled: cancelling(alloc, exec, Cancelling::Cancelled)?,
+            unknown,
+            idle,
+            cancelled,
         })
     }
 

@@ -66,7 +66,10 @@ impl<L: Language, P: Past<Item<Service, Entry>> + Drop> Session<L, P> {
         ensures legal { AreLegal L.lang self.new.service self.new.items }
     {
         match self.shown(alloc, version, node, edits) {
-            Err(PrepareError::NoMemory) => Err(AllocError),
+            Err(PrepareError::NoMemory) => {
+                drop(message);
+                Err(AllocError)
+            }
             Err(PrepareError::Refused(reason)) => self.refuse(alloc, message, reason),
             Ok(reply) => self.tell(message, reply),
         }

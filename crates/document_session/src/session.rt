@@ -73,18 +73,23 @@ impl<L: Language, P: Past<Item<Service, Entry>> + Drop> Session<L, P> {
         let Ok(core) = Core::new(alloc) else {
             return Err(AllocFailed { value: past });
         };
-        let outbox = Outbox::new(alloc, past, service)?;
-        Ok(Session {
-            service,
-            buffer: Buffer::new(),
-            core,
-            protocol: Protocol::Scalars,
-            called: false,
-            last: 0,
-            held: 0,
-            jobs: HashMap::new(alloc),
-            outbox,
-        })
+        match Outbox::new(alloc, past, service) {
+            Err(failed) => {
+                drop(core);
+                Err(failed)
+            }
+            Ok(outbox) => Ok(Session {
+                service,
+                buffer: Buffer::new(),
+                core,
+                protocol: Protocol::Scalars,
+                called: false,
+                last: 0,
+                held: 0,
+                jobs: HashMap::new(alloc),
+                outbox,
+            }),
+        }
     }
 
     /// How it is served.

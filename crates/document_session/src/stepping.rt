@@ -20,6 +20,7 @@ use crate::taking::Taken;
 use crate::working::take_in;
 use byte_message::Message;
 use core_jobs::job_law;
+use joined_results::both;
 use language::Language;
 use message_values::{Refusal, Worker, a_message_is_asked_where_it_is_spelled};
 use past_items::Past;
@@ -72,8 +73,17 @@ impl<L: Language, P: Past<Item<Service, Entry>> + Drop> Session<L, P> {
         let (claimed, dropped) = claim_replies(alloc, worker, &part)?;
         let who = number_of(worker);
         match self.core.claim(alloc, lang, who) {
-            CoreClaim::Nothing => self.refuse(alloc, message, Refusal::NothingToStep),
-            CoreClaim::NoMemory => Err(AllocError),
+            CoreClaim::Nothing => {
+                drop(claimed);
+                drop(dropped);
+                self.refuse(alloc, message, Refusal::NothingToStep)
+            }
+            CoreClaim::NoMemory => {
+                drop(claimed);
+                drop(dropped);
+                drop(message);
+                Err(AllocError)
+            }
             CoreClaim::Job(job) => {
                 put(
                     &mut self.jobs,
@@ -125,6 +135,7 @@ impl<L: Language, P: Past<Item<Service, Entry>> + Drop> Session<L, P> {
             }
             SessionRan::Stopped(job) | SessionRan::NoMemory(job) => {
                 put(&mut self.jobs, who, job);
+                drop(message);
                 Err(AllocError)
             }
         }
@@ -160,9 +171,10 @@ fn claim_replies(
         ≡ spelling (tells.Claimed worker part.now)) }
     ensures dropped { IfOk result (λ both. both.1.items ≡ spelling (tells.Dropped part.now)) }
 {
-    let claimed = claimed(alloc, worker, same(part))?;
-    let dropped = dropped(alloc, same(part))?;
-    Ok((claimed, dropped))
+    both(
+        claimed(alloc, worker, same(part)),
+        dropped(alloc, same(part)),
+    )
 }
 
 /// The same part.

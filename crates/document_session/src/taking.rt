@@ -40,7 +40,10 @@ impl<L: Language, P: Past<Item<Service, Entry>> + Drop> Session<L, P> {
         ensures legal { AreLegal L.lang self.new.service self.new.items }
     {
         match read(alloc, &message, mode_of(self.service)) {
-            Err(ReadError::NoMemory) => Err(AllocError),
+            Err(ReadError::NoMemory) => {
+                drop(message);
+                Err(AllocError)
+            }
             Err(ReadError::Refused(reason)) => self.refuse(alloc, message, reason),
             Ok(request) => self.answer(alloc, lang, message, request),
         }
@@ -68,19 +71,37 @@ impl<L: Language, P: Past<Item<Service, Entry>> + Drop> Session<L, P> {
                 version,
                 items,
                 blobs,
-            } => self.update(alloc, message, version, items.as_slice(), blobs.as_slice()),
+            } => {
+                let taken = self.update(
+                    alloc,
+                    message,
+                    version,
+                    items.as_slice(),
+                    blobs.as_slice(),
+                );
+                drop(items);
+                drop(blobs);
+                taken
+            }
             EditorMessage::Snapshot {
                 version,
                 node,
                 edits,
-            } => self.snapshot(alloc, message, version, &node, edits.as_slice()),
+            } => {
+                let taken = self.snapshot(alloc, message, version, &node, edits.as_slice());
+                drop(node);
+                drop(edits);
+                taken
+            }
             EditorMessage::Cancel { exec } => self.cancel(alloc, message, exec),
             EditorMessage::RemoveVersions { versions } => self.remove(alloc, message, versions),
             EditorMessage::Settle { version } => self.settle(alloc, message, version),
             EditorMessage::Protocol { protocol } => self.set_protocol(alloc, message, protocol),
             EditorMessage::Claim { worker } => self.step_claim(alloc, lang, message, worker),
             EditorMessage::Finish { worker } => self.step_finish(alloc, lang, message, worker),
-            EditorMessage::Theory { .. } => {
+            EditorMessage::Theory { node, text } => {
+                drop(node);
+                drop(text);
                 self.refuse(alloc, message, Refusal::UnknownFunction)
             }
         }

@@ -64,7 +64,10 @@ impl<L: Language, P: Past<Item<Service, Entry>> + Drop> Session<L, P> {
         }
         let live = self.core.live().len();
         match self.buffer.prepare(alloc, live, items, blobs) {
-            Err(PrepareError::NoMemory) => Err(AllocError),
+            Err(PrepareError::NoMemory) => {
+                drop(message);
+                Err(AllocError)
+            }
             Err(PrepareError::Refused(reason)) => self.refuse(alloc, message, reason),
             Ok(made) => self.make(alloc, message, version, made),
         }
@@ -99,8 +102,15 @@ impl<L: Language, P: Past<Item<Service, Entry>> + Drop> Session<L, P> {
             version,
             &made,
         ) {
-            Err(AssignFault::NoMemory) => Err(AllocError),
-            Err(AssignFault::Limit) => self.refuse(alloc, message, Refusal::Limit),
+            Err(AssignFault::NoMemory) => {
+                drop(made);
+                drop(message);
+                Err(AllocError)
+            }
+            Err(AssignFault::Limit) => {
+                drop(made);
+                self.refuse(alloc, message, Refusal::Limit)
+            }
             Ok((plan, reply)) => {
                 self.core.update(plan);
                 self.buffer.commit(made);
@@ -155,6 +165,11 @@ fn plan_prepared<L: Language, P: Past<Item<Service, Entry>> + Drop>(
         made.changed(),
         made.untouched(),
     )?;
-    let reply = assign(alloc, version, plan.assigned())?;
-    Ok((plan, reply))
+    match assign(alloc, version, plan.assigned()) {
+        Ok(reply) => Ok((plan, reply)),
+        Err(_) => {
+            drop(plan);
+            Err(AssignFault::NoMemory)
+        }
+    }
 }

@@ -67,8 +67,14 @@ impl<L: Language, P: Past<Item<Service, Entry>> + Drop> Session<L, P> {
             return Claim::NoMemory;
         };
         match self.core.claim(alloc, lang, who) {
-            CoreClaim::Nothing => Claim::Nothing,
-            CoreClaim::NoMemory => Claim::NoMemory,
+            CoreClaim::Nothing => {
+                drop(dropped);
+                Claim::Nothing
+            }
+            CoreClaim::NoMemory => {
+                drop(dropped);
+                Claim::NoMemory
+            }
             CoreClaim::Job(job) => {
                 self.held += 1;
                 let part = Part { exec, kind };

@@ -187,6 +187,8 @@ impl Buffer {
         let draft = self.drafted(alloc, items)?;
         let edits = blob_edits(alloc, &self.blobs, blobs)?;
         if is_large(&draft.opened, &edits.blobs) || are_too_many_live(live.saturating_add(1)) {
+            drop(draft);
+            drop(edits);
             return Err(PrepareError::Refused(Refusal::Limit));
         }
         let tip = Tip {
@@ -194,8 +196,13 @@ impl Buffer {
             nodes: &self.nodes,
             next: self.next,
         };
-        let cutting = cut_all(alloc, &tip, draft)?;
-        Ok(prepared_of(cutting, edits))
+        match cut_all(alloc, &tip, draft) {
+            Ok(cutting) => Ok(prepared_of(cutting, edits)),
+            Err(error) => {
+                drop(edits);
+                Err(error)
+            }
+        }
     }
 
     /// Makes what was prepared the buffer. It takes no memory.
@@ -204,9 +211,11 @@ impl Buffer {
     {
         let Prepared {
             buffer,
-            untouched: _,
-            changed: _,
+            untouched,
+            changed,
         } = prepared;
-        *self = buffer;
+        drop(untouched);
+        drop(changed);
+        drop(std::mem::replace(self, buffer));
     }
 }

@@ -10,6 +10,7 @@ ghost use Rattle.editor_buffer.specs.CutNodes.{GivesCut};
 use buffer_rules::Sheet;
 use command_spans::Spans;
 use doc_nodes::{Aliases, Entry, Node, Shared};
+use joined_results::both;
 use message_values::Refusal;
 use node_commands::{OldCommands, command_ranges, entries_of, kept_runs, sources};
 use sheet_edits::PrepareError;
@@ -26,19 +27,30 @@ pub(crate) struct CutNode {
     pub(crate) next: u64,
 }
 
+/// The commands in memory that can be shared.
+fn shared(alloc: Global, entries: Items<Entry>) -> Result<Shared<Items<Entry>>, AllocError>
+    ensures { IfOk result (λ shared. shared ≡ entries) }
+{
+    match Shared::new(alloc, entries) {
+        Ok(shared) => Ok(shared),
+        Err(_) => Err(AllocError),
+    }
+}
+
 /// The node with these commands.
 fn with_entries(alloc: Global, node: &Node, entries: Items<Entry>) -> Result<Node, AllocError>
     ensures { IfOk result (λ made. made ≡ record node.now { entries = entries }) }
 {
-    let Ok(entries) = Shared::new(alloc, entries) else {
-        return Err(AllocError);
-    };
+    let ((text, entries), (imports, keywords)) = both(
+        both(node.text.copy(), shared(alloc, entries)),
+        both(node.imports.copy(), node.keywords.copy()),
+    )?;
     Ok(Node {
-        text: node.text.copy()?,
+        text,
         entries,
         required: node.required,
-        imports: node.imports.copy()?,
-        keywords: node.keywords.copy()?,
+        imports,
+        keywords,
     })
 }
 
@@ -79,11 +91,15 @@ pub(crate) fn cut(
     let before = old.sources(alloc)?;
     let now = sources(alloc, sheet.text.get().as_slice(), &ranges)?;
     let kept = kept_runs(&before, &now);
+    drop(before);
+    drop(now);
     let fresh = ranges.len() - kept.front() - kept.back();
     let Some(after) = next_after(next, fresh) else {
+        drop(ranges);
         return Err(PrepareError::Refused(Refusal::Limit));
     };
     let entries = entries_of(alloc, sheet, aliases, old, &ranges, &kept, next)?;
+    drop(ranges);
     Ok(CutNode {
         node: with_entries(alloc, node, entries)?,
         next: after,

@@ -4,6 +4,7 @@ ghost use Rattle.std.specs.List.{AllZip};
 ghost use Rattle.std.specs.Bool.{OnTrue};
 ghost use Rattle.doc_blobs.specs.Needs.{AliasList};
 ghost use Rattle.pide_base.specs.Ids.{id_end};
+ghost use Rattle.command_spans.specs.CutTexts.{AreCutsOf};
 ghost use Rattle.doc_nodes.specs.declared.node.Node.{Node};
 ghost use Rattle.doc_nodes.specs.Aliases.{aliases_at};
 ghost use Rattle.buffer_rules.specs.Nodes.{before_in, uncut_all};
@@ -16,8 +17,10 @@ ghost use Rattle.editor_buffer.specs.Cutting.{GivesRemade, IsPut, IsCutUpTo, IsC
 use crate::aliases::{is_cut_under, stays};
 use crate::cut::cut;
 use buffer_rules::ids_law;
-use doc_nodes::{Aliases, ImportGraph, Node, Nodes, Shared, aliases_of};
-use document_edits::{Draft, OpenNodes};
+use command_spans::Spans;
+use doc_nodes::{Aliases, ImportGraph, Node, NodeAliases, Nodes, Shared, aliases_of};
+use document_edits::{Draft, OpenNodes, with_named};
+use joined_results::each_of_three;
 use node_commands::OldCommands;
 use pide_base::NodeName;
 use sheet_edits::{OpenNode, PrepareError};
@@ -63,6 +66,22 @@ pub(crate) struct Remade {
     pub(crate) next: u64,
 }
 
+/// The same node, after its commands were cut under these aliases, to these spans.
+fn cut_under(
+    opened: &OpenNode,
+    spans: Shared<Spans>,
+    aliases: &Shared<Aliases>,
+) -> Result<OpenNode, AllocError>
+    requires { AreCutsOf opened.now.sheet.text spans }
+    ensures { IfOk result (λ made. made ≡ record {
+      sheet = opened.now.sheet;
+      cut_under = Some aliases.now;
+    }) }
+{
+    let aliases = aliases.copy()?;
+    opened.with_cut(spans, aliases)
+}
+
 /// The node of the name under these aliases, where it has to be cut; else None, and it stays.
 /// `Limit` comes where the ids of its commands pass the last one.
 fn cut_again(
@@ -99,8 +118,9 @@ fn cut_again(
         &old,
         next,
     )?;
+    let opened = cut_under(opened, spans, aliases)?;
     Ok(Some(Remade {
-        opened: opened.with_cut(spans, aliases.copy()?)?,
+        opened,
         node: made.node,
         next: made.next,
     }))
@@ -126,6 +146,15 @@ fn name_at(opened: &OpenNodes, place: usize) -> Result<NodeName, AllocError>
         unreachable!()
     };
     name.clone()
+}
+
+/// The marks with one more.
+fn marked(marks: Vec<bool>, mark: bool) -> Result<Vec<bool>, AllocError>
+    ensures { IfOk result (λ more. more.items ≡ marks.items ++ mark ∷ []) }
+{
+    let mut marks = marks;
+    marks.push(mark)?;
+    Ok(marks)
 }
 
 impl Cutting {
@@ -176,20 +205,21 @@ impl Cutting {
         ensures { (opened : List ℕ × OpenSheet) → slice_get self.opened place ≡ Some opened
             → IfOk result (λ cutting. IsPut self opened.0 made cutting) }
     {
-        let Cutting {
-            mut opened,
-            mut nodes,
-            next: _,
-            mut untouched,
-        } = self;
-        let name = name_at(&opened, place)?;
-        opened.set(alloc, name.clone()?, made.opened)?;
-        nodes.set(alloc, name, made.node)?;
-        untouched.push(false)?;
+        let Ok(name) = name_at(&self.opened, place) else {
+            drop(self);
+            drop(made);
+            return Err(AllocError);
+        };
+        let Remade { opened, node, next } = made;
+        let (opened, nodes, untouched) = each_of_three(
+            with_named(alloc, self.opened, &name, opened),
+            with_named(alloc, self.nodes, &name, node),
+            marked(self.untouched, false),
+        )?;
         Ok(Cutting {
             opened,
             nodes,
-            next: made.next,
+            next,
             untouched,
         })
     }
@@ -204,9 +234,9 @@ impl Cutting {
             opened,
             nodes,
             next,
-            mut untouched,
+            untouched,
         } = self;
-        untouched.push(true)?;
+        let untouched = marked(untouched, true)?;
         Ok(Cutting {
             opened,
             nodes,
@@ -243,6 +273,16 @@ impl Cutting {
     }
 }
 
+/// The aliases that are in force in each of the nodes.
+fn aliases_in(alloc: Global, nodes: &Nodes) -> Result<Vec<NodeAliases>, AllocError>
+    ensures len { IfOk result (λ all. length all.items ≡ length nodes.now) }
+    ensures each { IfOk result (λ all. (p : ℕ) → p < length nodes.now
+        → slice_get all.items p ≡ Some (aliases_at nodes.now p)) }
+{
+    let graph = ImportGraph::of(alloc, nodes)?;
+    aliases_of(alloc, nodes, &graph)
+}
+
 /// All nodes of a draft, cut under the aliases that are in force in them. `Limit` comes where the
 /// ids of new commands pass the last one.
 pub(crate) fn cut_all(alloc: Global, tip: &Tip, draft: Draft) -> Result<Cutting, PrepareError>
@@ -261,8 +301,7 @@ pub(crate) fn cut_all(alloc: Global, tip: &Tip, draft: Draft) -> Result<Cutting,
         nodes,
         headers_stand,
     } = draft;
-    let graph = ImportGraph::of(alloc, &nodes)?;
-    let aliases = aliases_of(alloc, &nodes, &graph)?;
+    let aliases = aliases_in(alloc, &nodes)?;
     let mut cutting = Cutting {
         opened,
         nodes,

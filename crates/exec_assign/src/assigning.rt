@@ -1,5 +1,5 @@
 //! What an update assigns.
-ghost use Rattle.std.specs.Prelude.{◌≡◌, ◌<◌, ◌≤◌, ◌++◌, ℕ, [], true, false, length, slice_set, slice_index_or, Err, IfOk};
+ghost use Rattle.std.specs.Prelude.{◌≡◌, ◌<◌, ◌≤◌, ◌++◌, ℕ, [], true, false, length, slice_set, slice_index_or, Err, IfOk, OnOk};
 ghost use Rattle.pide_base.specs.Ids.{id_end};
 ghost use Rattle.exec_rules.specs.Keys.{nothing};
 ghost use Rattle.exec_rules.specs.Assigning.{Work, assign_one, assignment};
@@ -16,8 +16,10 @@ use crate::sharing::shared;
 use crate::update::Update;
 use doc_nodes::Shared;
 use exec_rules::{Assigned, Home, Key, rows_law};
+use joined_results::both;
 use sqlite_items::Items;
 use std::alloc::{AllocError, Global};
+use std::mem;
 
 /// What an update assigns.
 #[derive(Drop)]
@@ -47,78 +49,76 @@ fn nothing(alloc: Global, count: usize) -> Result<Vec<Shared<Assigned>>, AllocEr
     ensures none { IfOk result (λ all. (p : ℕ)
         → slice_index_or all.items p nothing ≡ nothing) }
 {
+    let none = no_rows(alloc)?;
+    let all = copies(alloc, &none, count);
+    drop(none);
+    all
+}
+
+/// What a node without commands is assigned.
+fn no_rows(alloc: Global) -> Result<Shared<Assigned>, AllocError>
+    ensures { IfOk result (λ none. none ≡ nothing) }
+{
     let key = shared(alloc, Key::Lasts(Items::new(alloc)))?;
-    let nothing = shared(
-        alloc,
-        Assigned {
-            key,
-            rows: Items::new(alloc),
-        },
-    )?;
+    let rows = Items::new(alloc);
+    shared(alloc, Assigned { key, rows })
+}
+
+/// So many owners of it more.
+fn copies(
+    alloc: Global,
+    none: &Shared<Assigned>,
+    count: usize,
+) -> Result<Vec<Shared<Assigned>>, AllocError>
+    requires { none.now ≡ nothing }
+    ensures len { IfOk result (λ all. length all.items ≡ count) }
+    ensures none { IfOk result (λ all. (p : ℕ)
+        → slice_index_or all.items p nothing ≡ nothing) }
+{
     let mut all = Vec::new(alloc);
-    'nodes: for _ in 0..count {
-        all.push(nothing.copy()?)?;
+    'owners: for _ in 0..count {
+        all.push(none.copy()?)?;
     }
     Ok(all)
 }
 
 impl Progress {
-    /// The same with what the node at the place is given.
-    fn with_given(self, place: usize, given: Given) -> Result<Progress, AllocError>
-        requires all { place < length self.all.items }
-        requires standing { place < length self.standing.items }
-        ensures all { IfOk result
-            (λ more. more.all.items ≡ slice_set self.all.items place given.assigned) }
-        ensures homes { IfOk result (λ more. more.homes.items ≡ self.homes.items ++ given.homes) }
-        ensures next { IfOk result (λ more. more.next ≡ given.next) }
-        ensures standing { IfOk result
-            (λ more. more.standing.items ≡ slice_set self.standing.items place false) }
+    /// Takes in what the node at the place is given.
+    fn give(&mut self, place: usize, given: Given) -> Result<(), AllocError>
+        requires all { place < length self.old.all.items }
+        requires standing { place < length self.old.standing.items }
+        ensures all { OnOk result
+            (self.new.all.items ≡ slice_set self.old.all.items place given.assigned) }
+        ensures homes { OnOk result (self.new.homes.items ≡ self.old.homes.items ++ given.homes) }
+        ensures next { OnOk result (self.new.next ≡ given.next) }
+        ensures standing { OnOk result
+            (self.new.standing.items ≡ slice_set self.old.standing.items place false) }
     {
-        let Progress {
-            mut all,
-            mut homes,
-            next: _,
-            mut standing,
-        } = self;
         let Given {
             assigned,
-            homes: mut more,
+            mut homes,
             next,
         } = given;
-        homes.append(&mut more)?;
-        all[place] = assigned;
-        standing[place] = false;
-        Ok(Progress {
-            all,
-            homes,
-            next,
-            standing,
-        })
+        drop(mem::replace(&mut self.all[place], assigned));
+        self.standing[place] = false;
+        self.next = next;
+        let taken = self.homes.append(&mut homes);
+        drop(homes);
+        taken
     }
 
-    /// The same with a node at the place that has what it had.
-    fn with_old(self, place: usize, old: Shared<Assigned>) -> Progress
-        requires all { place < length self.all.items }
-        requires standing { place < length self.standing.items }
-        ensures all { result.all.items ≡ slice_set self.all.items place old }
-        ensures homes { result.homes.items ≡ self.homes.items }
-        ensures next { result.next ≡ self.next }
-        ensures standing { result.standing.items ≡ slice_set self.standing.items place true }
+    /// The node at the place has what it had.
+    fn keep(&mut self, place: usize, old: Shared<Assigned>)
+        requires all { place < length self.old.all.items }
+        requires standing { place < length self.old.standing.items }
+        ensures all { self.new.all.items ≡ slice_set self.old.all.items place old }
+        ensures homes { self.new.homes.items ≡ self.old.homes.items }
+        ensures next { self.new.next ≡ self.old.next }
+        ensures standing { self.new.standing.items
+            ≡ slice_set self.old.standing.items place true }
     {
-        let Progress {
-            mut all,
-            homes,
-            next,
-            mut standing,
-        } = self;
-        all[place] = old;
-        standing[place] = true;
-        Progress {
-            all,
-            homes,
-            next,
-            standing,
-        }
+        drop(mem::replace(&mut self.all[place], old));
+        self.standing[place] = true;
     }
 }
 
@@ -142,7 +142,7 @@ impl<'a, C: Cancelled> Update<'a, C> {
         rows_law();
         let mut progress = self.begun(alloc, next)?;
         'places: for place in self.graph().order() {
-            progress = self.assign_one(alloc, progress, *place)?;
+            self.assign_one(alloc, &mut progress, *place)?;
         }
         Ok(Assignment {
             assigned: Items::from_vec(progress.all),
@@ -161,8 +161,8 @@ impl<'a, C: Cancelled> Update<'a, C> {
             (record { done = []; homes = []; next = next })) }
     {
         let count = self.nodes.len();
-        let all = nothing(alloc, count)?;
-        let standing = vec![in alloc; false; count]?;
+        let marks = vec![in alloc; false; count];
+        let (all, standing) = both(nothing(alloc, count), marks)?;
         Ok(Progress {
             all,
             homes: Vec::new(alloc),
@@ -175,32 +175,33 @@ impl<'a, C: Cancelled> Update<'a, C> {
     fn assign_one(
         &self,
         alloc: Global,
-        progress: Progress,
+        progress: &mut Progress,
         place: usize,
-    ) -> Result<Progress, AssignFault>
-        requires all { length progress.all.items ≡ length self.now.nodes }
-        requires standing { length progress.standing.items ≡ length self.now.nodes }
-        requires first { 1 ≤ progress.next }
-        requires next { progress.next ≤ id_end }
-        ensures ok { (work : Work) → IsWork self.now progress.all.items progress.homes.items
-            progress.next progress.standing.items work → IfOk result (λ more. IsWork self.now
-            more.all.items more.homes.items more.next more.standing.items
-            (assign_one self.now work place)) }
-        ensures limit { (work : Work) → IsWork self.now progress.all.items progress.homes.items
-            progress.next progress.standing.items work → result ≡ Err Limit
-            → id_end < (assign_one self.now work place).next }
+    ) -> Result<(), AssignFault>
+        requires all { length progress.old.all.items ≡ length self.now.nodes }
+        requires standing { length progress.old.standing.items ≡ length self.now.nodes }
+        requires first { 1 ≤ progress.old.next }
+        requires next { progress.old.next ≤ id_end }
+        ensures ok { (work : Work) → IsWork self.now progress.old.all.items
+            progress.old.homes.items progress.old.next progress.old.standing.items work
+            → OnOk result (IsWork self.now progress.new.all.items progress.new.homes.items
+            progress.new.next progress.new.standing.items (assign_one self.now work place)) }
+        ensures limit { (work : Work) → IsWork self.now progress.old.all.items
+            progress.old.homes.items progress.old.next progress.old.standing.items work
+            → result ≡ Err Limit → id_end < (assign_one self.now work place).next }
     {
         let Some((name, node)) = self.nodes.at(place) else {
-            return Ok(progress);
+            return Ok(());
         };
         let aims = self.graph.aims(place);
         let key = key_of(alloc, self.nodes, &self.graph, &progress.all, node, aims)?;
         if let Some(old) = self.standing(place, name, node, &key) {
-            let copy = old.copy()?;
-            return Ok(progress.with_old(place, copy));
+            drop(key);
+            progress.keep(place, old.copy()?);
+            return Ok(());
         }
         let given = self.given(alloc, place, name, node, key, progress.next)?;
-        let more = progress.with_given(place, given)?;
-        Ok(more)
+        progress.give(place, given)?;
+        Ok(())
     }
 }

@@ -16,8 +16,10 @@ use crate::same::same_key;
 use crate::sharing::shared;
 use crate::update::Update;
 use doc_nodes::{Node, Shared};
-use exec_rules::{Assigned, Head, Home, Key, key_law};
+use exec_rules::{Assigned, Head, Home, Key, Row, key_law};
+use joined_results::both;
 use pide_base::NodeName;
+use sqlite_items::Items;
 use std::alloc::{AllocError, Global};
 use std::marker::Model;
 
@@ -130,15 +132,22 @@ impl<'a, C: Cancelled> Update<'a, C> {
         let first_print = next + (count - kept) as u64;
         let entries = node.entries.get().as_slice();
         let printed = with_prints(alloc, entries, made.as_slice(), &live, first_print)?;
-        let homes = self.homes(alloc, node, head, made.as_slice(), &live, kept)?;
-        let assigned = Assigned {
-            key: head.get().key.copy()?,
-            rows: printed.rows,
-        };
+        let homes = self.homes(alloc, node, head, made.as_slice(), &live, kept);
+        drop(live);
+        drop(made);
+        let (homes, assigned) = both(homes, assigned(alloc, head.get(), printed.rows))?;
         Ok(Given {
-            assigned: shared(alloc, assigned)?,
+            assigned,
             homes,
             next: printed.next,
         })
     }
+}
+
+/// These rows with the key of the head.
+fn assigned(alloc: Global, head: &Head, rows: Items<Row>) -> Result<Shared<Assigned>, AllocError>
+    ensures { IfOk result (λ made. made ≡ record { key = head.now.key; rows = rows }) }
+{
+    let key = head.key.copy()?;
+    shared(alloc, Assigned { key, rows })
 }

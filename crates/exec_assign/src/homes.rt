@@ -13,6 +13,7 @@ use crate::sharing::shared;
 use crate::update::Update;
 use doc_nodes::{BlobName, Entry, Node, NodeAliases, Shared};
 use exec_rules::{Head, Home, Input, Key};
+use joined_results::{both, each_of_three};
 use pide_base::{ExecId, NodeName, Range};
 use sqlite_items::Items;
 use std::alloc::{AllocError, Global};
@@ -30,12 +31,26 @@ fn text_between(text: &[char], range: Range) -> &[char]
 fn copied(alloc: Global, aliases: &NodeAliases) -> Result<NodeAliases, AllocError>
     ensures { IfOk result (λ copy. copy ≡ aliases.now) }
 {
-    let pairs = aliases.pairs.copy()?;
-    let bad = match &aliases.bad {
-        Some(name) => Some(Items::from_slice(alloc, name.as_slice())?),
-        None => None,
-    };
+    let (pairs, bad) = both(aliases.pairs.copy(), bad_copied(alloc, &aliases.bad))?;
     Ok(NodeAliases { pairs, bad })
+}
+
+fn bad_copied(alloc: Global, bad: &Option<Items<char>>) -> Result<Option<Items<char>>, AllocError>
+    ensures { IfOk result (λ copy. copy ≡ bad.now) }
+{
+    match bad {
+        Some(name) => Ok(Some(Items::from_slice(alloc, name.as_slice())?)),
+        None => Ok(None),
+    }
+}
+
+/// A command's source.
+fn source_of(alloc: Global, node: &Node, entry: &Entry) -> Result<Shared<Text>, AllocError>
+    ensures { IfOk result (λ source. source
+        ≡ text_between node.now.text entry.now.range.start entry.now.range.stop) }
+{
+    let source = text_between(node.text.get().as_slice(), entry.range);
+    shared(alloc, Text::from_slice(alloc, source)?)
 }
 
 impl<'a, C: Cancelled> Update<'a, C> {
@@ -51,10 +66,11 @@ impl<'a, C: Cancelled> Update<'a, C> {
         requires { slice_get self.now.nodes place ≡ Some (name.now, node.now) }
         ensures { IfOk result (λ head. head ≡ head_at self.now place (name.now, node.now) key) }
     {
-        let aliases = copied(alloc, &self.aliases[place])?;
+        let copies = both(node.imports.copy(), copied(alloc, &self.aliases[place]));
+        let (node, (imports, aliases), key) = each_of_three(name.clone(), copies, Ok(key))?;
         let head = Head {
-            node: name.clone()?,
-            imports: node.imports.copy()?,
+            node,
+            imports,
             aliases,
             key,
         };
@@ -85,11 +101,11 @@ impl<'a, C: Cancelled> Update<'a, C> {
         ensures { IfOk result
             (λ made. made ≡ home node.now self.now.blobs entry.now input) }
     {
-        let source = text_between(node.text.get().as_slice(), entry.range);
-        let text = shared(alloc, Text::from_slice(alloc, source)?)?;
-        let blob = self.blob_of(&entry.needs)?;
+        let source = source_of(alloc, node, entry);
+        let blob = self.blob_of(&entry.needs);
+        let (source, blob, input) = each_of_three(source, blob, Ok(input))?;
         Ok(Home {
-            source: text,
+            source,
             blob,
             input,
         })

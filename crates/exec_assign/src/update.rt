@@ -15,6 +15,7 @@ use doc_nodes::{
     BlobName, Entry, ImportGraph, NodeAliases, Nodes, Shared, aliases_of, wanted_counts,
 };
 use exec_rules::{Assigned, Blobs, Row, Version};
+use joined_results::each_of_three;
 use pide_base::NodeName;
 use shared_map::{Exactly, SharedMap};
 use std::alloc::{AllocError, Global};
@@ -90,8 +91,9 @@ impl<'a, C: Cancelled> Update<'a, C> {
         }) }
     {
         let graph = ImportGraph::of(alloc, nodes)?;
-        let wanted = wanted_counts(alloc, nodes, &graph)?;
-        let aliases = aliases_of(alloc, nodes, &graph)?;
+        let wanted = wanted_counts(alloc, nodes, &graph);
+        let aliases = aliases_of(alloc, nodes, &graph);
+        let (graph, wanted, aliases) = each_of_three(Ok(graph), wanted, aliases)?;
         Ok(Update {
             tip,
             nodes,

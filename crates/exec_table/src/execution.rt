@@ -96,7 +96,7 @@ impl<R: Drop> Execution<R> {
             return Err(done);
         }
         let before = mem::replace(&mut self.progress, Progress::Evaluating);
-        self.progress = before.finish(done);
+        drop(mem::replace(&mut self.progress, before.finish(done)));
         Ok(())
     }
 }

@@ -33,7 +33,7 @@ pub(crate) fn put<R: Drop>(rows: &mut Rows<R>, exec: u64, execution: Execution<R
     ensures room { spare rows.old ≤ spare rows.new + 1 }
 {
     match rows.insert(exec, execution) {
-        Ok(_) => {}
+        Ok(before) => drop(before),
         Err(_) => unreachable!(),
     }
 }
@@ -87,5 +87,5 @@ fn forget_at<R: Drop>(rows: &mut Rows<R>, exec: u64)
     ensures row { Updates rows.old.entries rows.new.entries exec None }
     ensures room { spare rows.old ≤ spare rows.new }
 {
-    rows.remove(&exec);
+    drop(rows.remove(&exec));
 }

@@ -10,7 +10,9 @@ use crate::called::node_called;
 use crate::sources::Sources;
 use doc_nodes::{Aliases, NodeAliases, Shared};
 use exec_rules::{Head, Key, Last};
+use joined_results::both;
 use language::{Imported, Imports, Language};
+use pide_base::NodeName;
 use sqlite_items::Items;
 use std::alloc::{AllocError, Global};
 
@@ -66,11 +68,9 @@ impl<'a, L: Language> Sources<'a, L> {
         ensures { IfOk result (λ one. found_import L.lang self.now.nodes.now
             (known_state self.now.execs.now.rows) (name.now, last) ≡ Some one) }
     {
-        let state = self.handed_on(name.as_slice(), last)?;
-        Ok(Imported {
-            name: Items::from_slice(self.alloc, name.as_slice())?,
-            state,
-        })
+        let state = self.handed_on(name.as_slice(), last);
+        let (name, state) = both(Items::from_slice(self.alloc, name.as_slice()), state)?;
+        Ok(Imported { name, state })
     }
 
     /// The state that an import hands on.
@@ -95,13 +95,20 @@ impl<'a, L: Language> Sources<'a, L> {
         let Some(node) = node_called(self.nodes, name) else {
             unreachable!()
         };
+        let state = self.begun(node)?;
+        Shared::new(self.alloc, state).map_err(|_| AllocError)
+    }
+
+    /// The state in which a node begins that has no imports and no aliases.
+    fn begun(&self, node: &NodeName) -> Result<L::State, AllocError>
+        ensures { IfOk result (λ state. state ≡ bare_start L.lang node.now) }
+    {
         let aliases = no_aliases(self.alloc)?;
         let imports = Imports::Ordered(Items::new(self.alloc));
-        let state = self.lang.start(self.alloc, node, &imports, &aliases)?;
-        match Shared::new(self.alloc, state) {
-            Ok(state) => Ok(state),
-            Err(_) => Err(AllocError),
-        }
+        let state = self.lang.start(self.alloc, node, &imports, &aliases);
+        drop(imports);
+        drop(aliases);
+        state
     }
 }
 

@@ -8,6 +8,7 @@ use core_jobs::{Done, Input};
 use doc_nodes::{Nodes, Shared};
 use exec_rules::{Head, Home, Input as Taken};
 use exec_table::Execs;
+use joined_results::both;
 use language::Language;
 use pide_base::{ExecId, PartKind};
 use std::alloc::{AllocError, Global};
@@ -82,12 +83,8 @@ impl<'a, L: Language> Sources<'a, L> {
             (known_state self.now.execs.now.rows) (taken.First head.now) ≡ Some input) }
     {
         let imports = self.imports_of(head.get())?;
-        match Shared::new(self.alloc, imports) {
-            Ok(imports) => Ok(Input::Start {
-                head: head.copy()?,
-                imports,
-            }),
-            Err(_) => Err(AllocError),
-        }
+        let imports = Shared::new(self.alloc, imports).map_err(|_| AllocError);
+        let (head, imports) = both(head.copy(), imports)?;
+        Ok(Input::Start { head, imports })
     }
 }

@@ -7,7 +7,7 @@ use sqlite_items::Items;
 use std::alloc::{AllocError, Global};
 
 /// What stands in a place of an atom or of a function.
-#[derive(Debug, Drop)]
+#[derive(Debug)]
 pub enum Argument {
     /// A free name: a constant, or a variable that no quantifier binds.
     Free(Name),
@@ -16,6 +16,17 @@ pub enum Argument {
     Bound(usize),
     /// A function of its arguments.
     Apply(Name, Shared<Items<Argument>>),
+}
+
+/// By hand, so that an argument is let go by one call wherever it ends.
+impl Drop for Argument {
+    fn drop(self) {
+        match self {
+            Argument::Free(_name) => (),
+            Argument::Bound(_) => (),
+            Argument::Apply(_function, arguments) => drop(arguments),
+        }
+    }
 }
 
 impl Argument {

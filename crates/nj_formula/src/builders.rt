@@ -8,6 +8,7 @@ use crate::argument::Argument;
 use crate::formula::Formula;
 use crate::name::Name;
 use crate::shared::Shared;
+use joined_results::both;
 use sqlite_items::Items;
 use std::alloc::{AllocError, Global};
 
@@ -34,7 +35,7 @@ impl Formula {
     pub fn and(alloc: Global, a: Formula, b: Formula) -> Result<Formula, AllocError>
         ensures { IfOk result (λ f. f ≡ And a b) }
     {
-        let (a, b) = both(alloc, a, b)?;
+        let (a, b) = both(Shared::new(alloc, a), Shared::new(alloc, b))?;
         Ok(Formula::And(a, b))
     }
 
@@ -42,7 +43,7 @@ impl Formula {
     pub fn or(alloc: Global, a: Formula, b: Formula) -> Result<Formula, AllocError>
         ensures { IfOk result (λ f. f ≡ Or a b) }
     {
-        let (a, b) = both(alloc, a, b)?;
+        let (a, b) = both(Shared::new(alloc, a), Shared::new(alloc, b))?;
         Ok(Formula::Or(a, b))
     }
 
@@ -50,7 +51,7 @@ impl Formula {
     pub fn implies(alloc: Global, a: Formula, b: Formula) -> Result<Formula, AllocError>
         ensures { IfOk result (λ f. f ≡ Implies a b) }
     {
-        let (a, b) = both(alloc, a, b)?;
+        let (a, b) = both(Shared::new(alloc, a), Shared::new(alloc, b))?;
         Ok(Formula::Implies(a, b))
     }
 
@@ -67,16 +68,4 @@ impl Formula {
     {
         Ok(Formula::Exists(name, Shared::new(alloc, body)?))
     }
-}
-
-/// Both as parts of a formula.
-fn both(
-    alloc: Global,
-    a: Formula,
-    b: Formula,
-) -> Result<(Shared<Formula>, Shared<Formula>), AllocError>
-    ensures { IfOk result (λ parts. parts ≡ (a, b)) }
-{
-    let a = Shared::new(alloc, a)?;
-    Ok((a, Shared::new(alloc, b)?))
 }

@@ -5,7 +5,7 @@ use sqlite_items::Items;
 
 /// A first-order formula, whose parts are shared. Contracts see the parts as formulas, and compare
 /// formulas by what they say (`specs/Meaning.antt`).
-#[derive(Debug, Drop)]
+#[derive(Debug)]
 pub enum Formula {
     False,
     /// A predicate of its arguments; with none, a propositional atom.
@@ -18,4 +18,20 @@ pub enum Formula {
     All(Name, Shared<Formula>),
     /// `EX`: the name as written, and the body, in which the place 0 is what it binds.
     Exists(Name, Shared<Formula>),
+}
+
+/// By hand, so that a formula is let go by one call wherever it ends.
+impl Drop for Formula {
+    fn drop(self) {
+        match self {
+            Formula::False => (),
+            Formula::Atom(_predicate, arguments) => drop(arguments),
+            Formula::Not(a) => drop(a),
+            Formula::And(a, b) | Formula::Or(a, b) | Formula::Implies(a, b) => {
+                drop(a);
+                drop(b);
+            }
+            Formula::All(_name, body) | Formula::Exists(_name, body) => drop(body),
+        }
+    }
 }

@@ -10,7 +10,7 @@ use std::cmp::Ordering;
 use std::marker::Model;
 
 /// A formula that a theorem assumes, with the key of what it says. Contracts see it as the formula.
-#[derive(Debug, Drop)]
+#[derive(Debug)]
 pub struct Hyp {
     formula: Formula,
     key: Shared<Items<usize>>,
@@ -31,6 +31,15 @@ impl Model for Hyp {
     ghost view = { λ h. h.formula };
 
     ghost invariant = { λ h. h.key ≡ statement_key (meaning h.formula) };
+}
+
+/// By hand, so that an assumption is let go by one call wherever it ends.
+impl Drop for Hyp {
+    fn drop(self) {
+        let Hyp { formula, key } = self;
+        drop(formula);
+        drop(key);
+    }
 }
 
 impl Hyp {

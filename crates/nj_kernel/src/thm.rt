@@ -11,12 +11,21 @@ use std::alloc::AllocError;
 /// A theorem: a conclusion and the set of formulas that it assumes. Its parts are private and no
 /// call makes one but the rules of this crate, so whoever holds a `Thm` holds a formula that NJ
 /// derives.
-#[derive(Debug, Drop)]
+#[derive(Debug)]
 pub struct Thm {
     hyps: Shared<Items<Hyp>>,
     concl: Formula,
     pub ghost derivable: { ∥ Nj (map meaning hyps) (meaning concl) ∥₁ },
     pub ghost ordered: { IsTrue (rises (map meaning hyps)) },
+}
+
+/// By hand, so that a theorem is let go by one call wherever it ends.
+impl Drop for Thm {
+    fn drop(self) {
+        let Thm { hyps, concl } = self;
+        drop(hyps);
+        drop(concl);
+    }
 }
 
 impl Thm {

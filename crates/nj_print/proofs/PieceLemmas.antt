@@ -23,6 +23,10 @@ around t0 front piece back e f g =
 before : (t0 front piece : List ℕ) {t1 t2 : List ℕ} → t1 ≡ t0 ++ front → t2 ≡ t1 ++ piece → t2 ≡ t0 ++ (front ++ piece)
 before t0 front piece e f = f ∙ (ap (λ t. t ++ piece) e ∙ append_assoc t0 front piece)
 
+-- the same growth, of a text that is known by what it is
+pub grown_from : {t0 t1 t2 : List ℕ} {Is : List ℕ → Type 0} → t1 ≡ t0 → Adds t1 t2 Is → Adds t0 t2 Is
+grown_from same adds = record { piece = adds.piece; is = adds.is; added = adds.added ∙ ap (λ t. t ++ adds.piece) same }
+
 module _ {names : List (List ℕ)} {t0 t1 : List ℕ} where
   pub wrote_false : {f : Formula} → f ≡ Formulas.False → t1 ≡ t0 ++ codes "False" → Adds t0 t1 (Prints 10 names f)
   wrote_false is e = record { piece = codes "False"; is = subst (λ g. Prints 10 names g (codes "False")) (sym is) falsity; added = e }

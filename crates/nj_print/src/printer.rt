@@ -1,4 +1,4 @@
-ghost use Rattle.std.specs.Prelude.{◌≡◌, [], ◌∷◌, OnOk, IfOk, string_bytes};
+ghost use Rattle.std.specs.Prelude.{◌≡◌, [], ◌∷◌, ◌++◌, OnOk, IfOk, string_bytes};
 ghost use Rattle.nj_formula.specs.Meaning.{meaning};
 ghost use Rattle.nj_formula.specs.declared.formula.Formula.TheVariants.{Atom};
 ghost use Rattle.nj_print.specs.ArgumentText.{argument_text};
@@ -64,34 +64,44 @@ impl Printer {
         match formula {
             Formula::False => self.text.push_str("False"),
             Formula::Atom(predicate, arguments) => self.atom(predicate, arguments.get()),
-            Formula::Not(a) => {
-                self.text.push_str("~")?;
-                self.formula(a.get(), NOT)
-            }
+            Formula::Not(a) => self.behind("~", a.get(), NOT),
             Formula::And(a, b) => {
                 self.formula(a.get(), AND + 1)?;
-                self.text.push_str(" & ")?;
-                self.formula(b.get(), AND)
+                self.behind(" & ", b.get(), AND)
             }
             Formula::Or(a, b) => {
                 self.formula(a.get(), OR + 1)?;
-                self.text.push_str(" | ")?;
-                self.formula(b.get(), OR)
+                self.behind(" | ", b.get(), OR)
             }
             Formula::Implies(a, b) => {
                 self.formula(a.get(), IMPLIES + 1)?;
-                self.text.push_str(" --> ")?;
-                self.formula(b.get(), IMPLIES)
+                self.behind(" --> ", b.get(), IMPLIES)
             }
-            Formula::All(name, body) => {
-                self.text.push_str("ALL ")?;
-                self.body(name, body.get())
-            }
-            Formula::Exists(name, body) => {
-                self.text.push_str("EX ")?;
-                self.body(name, body.get())
-            }
+            Formula::All(name, body) => self.quantified("ALL ", name, body.get()),
+            Formula::Exists(name, body) => self.quantified("EX ", name, body.get()),
         }
+    }
+
+    /// Adds the sign, and behind it the formula in a place for this priority and higher ones.
+    #[cycle(formula)]
+    fn behind(&mut self, sign: &str, formula: &Formula, place: usize) -> Result<(), AllocError>
+        ensures text { OnOk result (Adds (string_bytes self.old.text ++ sign.now)
+            (string_bytes self.new.text) (Prints place self.old.names.items formula.now)) }
+        ensures names { OnOk result (self.new.names.items ≡ self.old.names.items) }
+    {
+        self.text.push_str(sign)?;
+        self.formula(formula, place)
+    }
+
+    /// Adds the quantifier's word, and behind it what it binds.
+    #[cycle(formula)]
+    fn quantified(&mut self, word: &str, name: &Name, body: &Formula) -> Result<(), AllocError>
+        ensures text { OnOk result (Adds (string_bytes self.old.text ++ word.now)
+            (string_bytes self.new.text) (PrintsBody self.old.names.items name.now body.now)) }
+        ensures names { OnOk result (self.new.names.items ≡ self.old.names.items) }
+    {
+        self.text.push_str(word)?;
+        self.body(name, body)
     }
 
     /// Adds the name that the quantifier binds, the dot and the body.

@@ -10,3 +10,4 @@ pub mod KnownFound
 mod FactLemmas
 mod SoundLemmas
 mod TextLemmas
+mod FormLemmas

@@ -1,3 +1,4 @@
 pub mod Edits
 pub mod Plain
 pub mod Chosen
+pub mod Forms

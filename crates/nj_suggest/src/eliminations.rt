@@ -8,6 +8,7 @@ ghost use Rattle.suggest_rules.specs.Search.{if_so, is_false, says_same, citing,
 
 use crate::citing::{fact_of, says_same};
 use crate::naming::is_usable;
+use joined_results::{both, each_of_three};
 use nj_formula::{Formula, Name, Shared};
 use nj_kernel::Rule;
 use proof_terms::Term;
@@ -38,10 +39,12 @@ pub(crate) fn parted(
         (if_so (says_same b.now goal.now) (Some (T.ConjE2 a.now (citing local.now)))))) }
 {
     if says_same(a.get(), goal) && is_usable(aliases, Rule::ConjE1) {
-        return Ok(Some(Term::ConjE1(b.copy()?, fact_of(alloc, local)?)));
+        let (b, fact) = both(b.copy(), fact_of(alloc, local))?;
+        return Ok(Some(Term::ConjE1(b, fact)));
     }
     if says_same(b.get(), goal) && is_usable(aliases, Rule::ConjE2) {
-        return Ok(Some(Term::ConjE2(a.copy()?, fact_of(alloc, local)?)));
+        let (a, fact) = both(a.copy(), fact_of(alloc, local))?;
+        return Ok(Some(Term::ConjE2(a, fact)));
     }
     Ok(None)
 }
@@ -86,8 +89,7 @@ pub(crate) struct Cited {
 fn cited_with(alloc: Global, local: &Local, part: &Shared<Formula>) -> Result<Cited, AllocError>
     ensures { IfOk result (λ c. c ≡ record { part = part.now; fact = citing local.now }) }
 {
-    let part = part.copy()?;
-    let fact = fact_of(alloc, local)?;
+    let (part, fact) = both(part.copy(), fact_of(alloc, local))?;
     Ok(Cited { part, fact })
 }
 
@@ -162,9 +164,7 @@ fn sides_of(
     ensures { IfOk result (λ s. s
         ≡ record { a = a.now; b = b.now; fact = citing local.now }) }
 {
-    let a = a.copy()?;
-    let b = b.copy()?;
-    let fact = fact_of(alloc, local)?;
+    let (a, b, fact) = each_of_three(a.copy(), b.copy(), fact_of(alloc, local))?;
     Ok(Sides { a, b, fact })
 }
 

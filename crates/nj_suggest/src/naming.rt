@@ -4,6 +4,7 @@ ghost use Rattle.nj_kernel.specs.RuleNames.{rule_name};
 ghost use Rattle.outer_tokens.specs.Words.{same};
 ghost use Rattle.suggest_rules.specs.Names.{is_alias, is_name_of, is_taken, next_name, numbered};
 
+use joined_results::both;
 use nj_formula::{Formula, Name};
 use nj_kernel::Rule;
 use shared_map::SharedList;
@@ -109,8 +110,7 @@ pub(crate) fn with_own(
     let Some(own) = names.own.checked_add(1) else {
         return Err(AllocError);
     };
-    let name = name.copy(alloc)?;
-    let formula = formula.copy(alloc)?;
+    let (name, formula) = both(name.copy(alloc), formula.copy(alloc))?;
     let facts = names.facts.with_first(alloc, Local { name, formula })?;
     Ok(Names { own, facts })
 }

@@ -5,6 +5,7 @@ ghost use Rattle.suggest_rules.specs.Search.{suggested};
 ghost use Rattle.nj_suggest.specs.Chosen.{with_next};
 
 use crate::search::found;
+use joined_results::both;
 use nj_formula::Formula;
 use proof_terms::Term;
 use shared_map::SharedList;
@@ -23,10 +24,8 @@ const DEEPEST: usize = 4;
 fn copied(alloc: Global, local: &Local) -> Result<Local, AllocError>
     ensures { IfOk result (λ copy. copy ≡ local.now) }
 {
-    Ok(Local {
-        name: local.name.copy(alloc)?,
-        formula: local.formula.copy(alloc)?,
-    })
+    let (name, formula) = both(local.name.copy(alloc), local.formula.copy(alloc))?;
+    Ok(Local { name, formula })
 }
 
 /// Whether one of the facts has the name of this one.

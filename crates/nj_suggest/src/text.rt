@@ -2,7 +2,9 @@
 ghost use Rattle.std.specs.Prelude.{◌≡◌, ◌∷◌, [], ◌++◌, IfOk, OnOk, codes, string_bytes};
 ghost use Rattle.nj_kernel.specs.RuleNames.{rule_name};
 ghost use Rattle.nj_print.specs.ArgumentText.{argument_text};
+ghost use Rattle.proof_terms.specs.declared.term.Term.{out-Term};
 ghost use Rattle.suggest_rules.specs.TermText.{quoted, formula, ruled, term_text, by_text};
+ghost use Rattle.nj_suggest.specs.Forms.{IsEliminating, IsInstancing};
 
 use formula_texts::formula_text;
 use nj_formula::{Formula, Name, ObjTerm};
@@ -171,6 +173,21 @@ fn add_term(alloc: Global, text: &mut String, term: &Term) -> Result<(), AllocEr
         Term::ConjE2(a, t) => add_by(alloc, text, Rule::ConjE2, t.get(), a.get()),
         Term::DisjI1(t) => add_one(alloc, text, Rule::DisjI1, t.get()),
         Term::DisjI2(t) => add_one(alloc, text, Rule::DisjI2, t.get()),
+        Term::ImpI(x, t) => add_under(alloc, text, Rule::ImpI, x, t.get()),
+        Term::NotI(x, t) => add_under(alloc, text, Rule::NotI, x, t.get()),
+        Term::FalseE(t) => add_one(alloc, text, Rule::FalseE, t.get()),
+        Term::AllI(x, t) => add_under(alloc, text, Rule::AllI, x, t.get()),
+        _ => add_eliminating(alloc, text, term),
+    }
+}
+
+/// The same where the rule eliminates and has several parts, or for what comes below.
+#[cycle(add_term)]
+fn add_eliminating(alloc: Global, text: &mut String, term: &Term) -> Result<(), AllocError>
+    requires { IsEliminating (out-Term term.now) }
+    ensures { OnOk result (string_bytes text.new ≡ string_bytes text.old ++ term_text term.now) }
+{
+    match term {
         Term::DisjE(a, b, t, x, u, y, v) => {
             add_quoting(alloc, text, Rule::DisjE, a.get())?;
             add_formula(alloc, text, b.get())?;
@@ -178,20 +195,27 @@ fn add_term(alloc: Global, text: &mut String, term: &Term) -> Result<(), AllocEr
             add_case(alloc, text, x, u.get())?;
             add_last_case(alloc, text, y, v.get())
         }
-        Term::ImpI(x, t) => add_under(alloc, text, Rule::ImpI, x, t.get()),
         Term::ImpE(a, t, u) => {
             add_quoting(alloc, text, Rule::ImpE, a.get())?;
             add_part(alloc, text, t.get())?;
             add_last(alloc, text, u.get())
         }
-        Term::NotI(x, t) => add_under(alloc, text, Rule::NotI, x, t.get()),
         Term::NotE(a, t, u) => {
             add_quoting(alloc, text, Rule::NotE, a.get())?;
             add_part(alloc, text, t.get())?;
             add_last(alloc, text, u.get())
         }
-        Term::FalseE(t) => add_one(alloc, text, Rule::FalseE, t.get()),
-        Term::AllI(x, t) => add_under(alloc, text, Rule::AllI, x, t.get()),
+        _ => add_instancing(alloc, text, term),
+    }
+}
+
+/// The same where the rule is about an instance of a quantifier's body.
+#[cycle(add_term)]
+fn add_instancing(alloc: Global, text: &mut String, term: &Term) -> Result<(), AllocError>
+    requires { IsInstancing (out-Term term.now) }
+    ensures { OnOk result (string_bytes text.new ≡ string_bytes text.old ++ term_text term.now) }
+{
+    match term {
         Term::AllE(q, s, t) => {
             add_quoting(alloc, text, Rule::AllE, q.get())?;
             add_object(alloc, text, s.get())?;
@@ -208,6 +232,7 @@ fn add_term(alloc: Global, text: &mut String, term: &Term) -> Result<(), AllocEr
             add_case(alloc, text, h, t.get())?;
             add_last(alloc, text, u.get())
         }
+        _ => unreachable!(),
     }
 }
 

@@ -13,7 +13,6 @@ use Rattle.proof_terms.specs.declared.fault.TermFault.TheVariants.{RuleDoesNotFi
 use Rattle.proof_terms.specs.declared.term.Term.{Term}
 use Rattle.proof_checks.specs.declared.halt.Halt.{Halt}
 use Rattle.proof_checks.specs.declared.halt.Halt.TheVariants.{Wrong}
-use Rattle.proof_checks.specs.declared.step.Part.{Part}
 use Rattle.proof_checks.specs.declared.step.Step.{Step}
 use Rattle.proof_checks.specs.declared.step.Step.TheVariants.{One, Two}
 use Rattle.proof_checks.specs.declared.step.Unary.TheVariants as U
@@ -53,10 +52,10 @@ module _ (quoted : Formula) (s : Argument) (t : Term) (goal : Formula) (y : List
       → Plans (Err h) (all_e quoted s t goal (out-Formula quoted))
   all_e_refused b h same other halt_is = subst (λ k. Plans (Err k) (all_e quoted s t goal (out-Formula quoted))) (sym halt_is) (all_e_row false (sym other ∙ same))
 
-pub ex_e_row : (quoted : Formula) (x h : List ℕ) (t u : Term) (goal : Formula) (y : List ℕ) (body : Formula) (name : List ℕ) (p q : Part) (step : Step) → quoted ≡ Exists y body
-    → name ≡ x → p ≡ part t quoted → q ≡ under h (formula_instance (Free x) body) u goal → step ≡ Two (B.ExE name) p q
+pub ex_e_row : (quoted : Formula) (x h : List ℕ) (t u : Term) (goal : Formula) (y : List ℕ) (body : Formula) (step : Step) → quoted ≡ Exists y body
+    → step ≡ Two (B.ExE x) (part t quoted) (under h (formula_instance (Free x) body) u goal)
     → ex_e quoted x h t u goal (out-Formula quoted) ≡ Ok step
-ex_e_row quoted x h t u goal y body name p q step is named first second step_is =
+ex_e_row quoted x h t u goal y body step is step_is =
     let row : ex_e quoted x h t u goal (out-Formula quoted) ≡ Ok (Two (B.ExE x) (part t quoted) (under h (formula_instance (Free x) body) u goal)) =
     ap (ex_e quoted x h t u goal) (out-Exists quoted y body is) in
     row ∙ cc

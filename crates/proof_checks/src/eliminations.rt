@@ -7,7 +7,7 @@ ghost use Rattle.nj_formula.specs.declared.formula.Formula.TheVariants.{Or, Impl
 ghost use Rattle.nj_formula.specs.Closed.{is_closed};
 ghost use Rattle.nj_formula.specs.FormulaInstance.{formula_instance};
 ghost use Rattle.nj_formula.specs.Meaning.{meaning};
-ghost use Rattle.proof_checks.specs.declared.step.Step.TheVariants.{One, Two, Three};
+ghost use Rattle.proof_checks.specs.declared.step.Step.TheVariants.{One, Two};
 ghost use Rattle.proof_checks.specs.declared.step.Binary.TheVariants as B;
 ghost use Rattle.proof_checks.specs.declared.step.Unary.TheVariants as U;
 ghost use Rattle.proof_checks.specs.Answers.{Plans};
@@ -16,9 +16,10 @@ ghost use Rattle.proof_checks.specs.Rows as row;
 ghost use Rattle.proof_checks.specs.Statements.{is_same};
 
 use crate::halt::{Halt, misfit};
-use crate::parts::{assuming, at_name, part, under, whole};
+use crate::parts::{assuming, at_name, at_term, part, shared, under, whole};
 use crate::same::is_same;
 use crate::step::{Binary, Part, Step, Unary, one, three, two};
+use joined_results::{both, each_of_three};
 use nj_formula::{Formula, Name, ObjTerm, Shared};
 use nj_kernel::Rule;
 use proof_terms::Term;
@@ -33,9 +34,7 @@ pub(crate) fn conj_e1(
 ) -> Result<Shared<Step>, Halt>
     ensures { Plans result (Ok (row.conj_e1 b.now t.now goal.now)) }
 {
-    let t = t.copy()?;
-    let b = b.copy()?;
-    let goal = Shared::new(alloc, goal.copy(alloc)?)?;
+    let (t, (b, goal)) = both(t.copy(), both(b.copy(), shared(alloc, goal)))?;
     Ok(one(alloc, Unary::ConjE1, whole(t, Formula::And(goal, b)))?)
 }
 
@@ -48,9 +47,7 @@ pub(crate) fn conj_e2(
 ) -> Result<Shared<Step>, Halt>
     ensures { Plans result (Ok (row.conj_e2 a.now t.now goal.now)) }
 {
-    let t = t.copy()?;
-    let a = a.copy()?;
-    let goal = Shared::new(alloc, goal.copy(alloc)?)?;
+    let (t, (a, goal)) = both(t.copy(), both(a.copy(), shared(alloc, goal)))?;
     Ok(one(alloc, Unary::ConjE2, whole(t, Formula::And(a, goal)))?)
 }
 
@@ -64,19 +61,16 @@ pub(crate) fn imp_e(
 ) -> Result<Shared<Step>, Halt>
     ensures { Plans result (Ok (row.imp_e a.now t.now u.now goal.now)) }
 {
-    let t = t.copy()?;
-    let u = u.copy()?;
-    let implies = implied(alloc, a, goal)?;
-    let holds = a.get().copy(alloc)?;
-    Ok(two(alloc, Binary::ImpE, whole(t, implies), whole(u, holds))?)
+    let holds = part(alloc, u, a.get());
+    let ((t, implies), holds) = both(both(t.copy(), implied(alloc, a, goal)), holds)?;
+    Ok(two(alloc, Binary::ImpE, whole(t, implies), holds)?)
 }
 
 /// The implication of the goal.
 fn implied(alloc: Global, a: &Shared<Formula>, goal: &Formula) -> Result<Formula, AllocError>
     ensures { IfOk result (λ f. f ≡ Implies a.now goal.now) }
 {
-    let a = a.copy()?;
-    let goal = Shared::new(alloc, goal.copy(alloc)?)?;
+    let (a, goal) = both(a.copy(), shared(alloc, goal))?;
     Ok(Formula::Implies(a, goal))
 }
 
@@ -106,16 +100,9 @@ fn denied(
     ensures { IfOk result (λ step. step
         ≡ Two B.NotE (part t.now (Not a.now)) (part u.now a.now)) }
 {
-    let t = t.copy()?;
-    let u = u.copy()?;
-    let denied = a.copy()?;
-    let holds = a.get().copy(alloc)?;
-    two(
-        alloc,
-        Binary::NotE,
-        whole(t, Formula::Not(denied)),
-        whole(u, holds),
-    )
+    let holds = part(alloc, u, a.get());
+    let ((t, denied), holds) = both(both(t.copy(), a.copy()), holds)?;
+    two(alloc, Binary::NotE, whole(t, Formula::Not(denied)), holds)
 }
 
 /// `(falseE t)`
@@ -140,7 +127,7 @@ pub(crate) fn all_e(
         Formula::All(_, body) => {
             let fits = is_instance(alloc, goal, body, s)?;
             if fits {
-                Ok(at_term(alloc, quoted, s, t)?)
+                Ok(of_all(alloc, quoted, s, t)?)
             } else {
                 Err(misfit(Rule::AllE))
             }
@@ -160,12 +147,12 @@ fn is_instance(
         ≡ is_same (meaning goal.now) (meaning (formula_instance s.now body.now))) }
     ensures closed { IfOk result (λ _. IsTrue (is_closed s.now)) }
 {
-    let at_s = body.get().instance(alloc, s.get())?;
+    let at_s = at_term(alloc, body, s)?;
     Ok(is_same(goal, &at_s))
 }
 
 /// The part of allE, which shows what is quoted.
-fn at_term(
+fn of_all(
     alloc: Global,
     quoted: &Formula,
     s: &Shared<ObjTerm>,
@@ -173,8 +160,7 @@ fn at_term(
 ) -> Result<Shared<Step>, AllocError>
     ensures { IfOk result (λ step. step ≡ One (U.AllE s.now) (part t.now quoted.now)) }
 {
-    let s = s.copy()?;
-    let shown = part(alloc, t, quoted)?;
+    let (s, shown) = both(s.copy(), part(alloc, t, quoted))?;
     one(alloc, Unary::AllE(s), shown)
 }
 
@@ -192,34 +178,23 @@ pub(crate) fn disj_e(
 ) -> Result<Shared<Step>, Halt>
     ensures { Plans result (Ok (row.disj_e a.now b.now t.now x.now u.now y.now v.now goal.now)) }
 {
-    let t = t.copy()?;
-    let a = a.copy()?;
-    let b = b.copy()?;
-    let left = under(alloc, x, a.get(), u, goal)?;
-    Ok(with_right(alloc, t, a, b, left, y, v, goal)?)
+    let left = under(alloc, x, a.get(), u, goal);
+    let right = under(alloc, y, b.get(), v, goal);
+    let (first, left, right) = each_of_three(either(alloc, a, b, t), left, right)?;
+    Ok(three(alloc, first, left, right)?)
 }
 
-/// The parts of disjE, of which the left case is handed in.
-fn with_right(
+/// The part of disjE that shows the disjunction.
+fn either(
     alloc: Global,
-    t: Shared<Term>,
-    a: Shared<Formula>,
-    b: Shared<Formula>,
-    left: Part,
-    y: &Name,
-    v: &Shared<Term>,
-    goal: &Formula,
-) -> Result<Shared<Step>, AllocError>
-    ensures { IfOk result (λ step. step
-        ≡ Three (part t (Or a b)) left (under y.now b v.now goal.now)) }
+    a: &Shared<Formula>,
+    b: &Shared<Formula>,
+    t: &Shared<Term>,
+) -> Result<Part, AllocError>
+    ensures { IfOk result (λ p. p ≡ part t.now (Or a.now b.now)) }
 {
-    match under(alloc, y, b.get(), v, goal) {
-        Ok(right) => three(alloc, whole(t, Formula::Or(a, b)), left, right),
-        Err(fault) => {
-            drop((t, left));
-            Err(fault)
-        }
-    }
+    let (t, (a, b)) = both(t.copy(), both(a.copy(), b.copy()))?;
+    Ok(whole(t, Formula::Or(a, b)))
 }
 
 /// `(exE "EX y. P" x h t u)`
@@ -236,15 +211,29 @@ pub(crate) fn ex_e(
         (out-Formula quoted.now)) }
 {
     match quoted {
-        Formula::Exists(_, body) => {
-            let name = x.copy(alloc)?;
-            let t = t.copy()?;
-            let some = quoted.copy(alloc)?;
-            let rest = witnessed(alloc, x, h, body, u, goal)?;
-            Ok(two(alloc, Binary::ExE(name), whole(t, some), rest)?)
-        }
+        Formula::Exists(_, body) => Ok(chosen(alloc, quoted, body, x, h, t, u, goal)?),
         _ => Err(misfit(Rule::ExE)),
     }
+}
+
+/// The parts of exE, which show what is quoted, and the goal from the body at the name.
+fn chosen(
+    alloc: Global,
+    quoted: &Formula,
+    body: &Shared<Formula>,
+    x: &Name,
+    h: &Name,
+    t: &Shared<Term>,
+    u: &Shared<Term>,
+    goal: &Formula,
+) -> Result<Shared<Step>, AllocError>
+    ensures { IfOk result (λ step. step ≡ Two (B.ExE x.now) (part t.now quoted.now)
+        (under h.now (formula_instance (Free x.now) body.now) u.now goal.now)) }
+{
+    let some = part(alloc, t, quoted);
+    let rest = witnessed(alloc, x, h, body, u, goal);
+    let (x, some, rest) = each_of_three(x.copy(alloc), some, rest)?;
+    two(alloc, Binary::ExE(x), some, rest)
 }
 
 /// The part of exE that shows the goal from the body at the name.
@@ -259,8 +248,7 @@ fn witnessed(
     ensures { IfOk result (λ p. p
         ≡ under h.now (formula_instance (Free x.now) body.now) u.now goal.now) }
 {
-    let name = h.copy(alloc)?;
-    let u = u.copy()?;
-    let goal = goal.copy(alloc)?;
-    Ok(assuming(name, at_name(alloc, body.get(), x)?, u, goal))
+    let own = both(h.copy(alloc), at_name(alloc, body.get(), x));
+    let ((name, formula), (u, goal)) = both(own, both(u.copy(), goal.copy(alloc)))?;
+    Ok(assuming(name, formula, u, goal))
 }

@@ -13,8 +13,9 @@ ghost use Rattle.proof_checks.specs.Parts.{part};
 ghost use Rattle.proof_checks.specs.Rows as row;
 
 use crate::halt::{Halt, misfit};
-use crate::parts::{at_name, part, under, whole};
+use crate::parts::{at_name, at_term, part, under, whole};
 use crate::step::{Binary, Step, Unary, one, two};
+use joined_results::both;
 use nj_formula::{Formula, Name, ObjTerm, Shared};
 use nj_kernel::Rule;
 use proof_terms::Term;
@@ -30,13 +31,13 @@ pub(crate) fn conj_i(
     ensures { Plans result (row.conj_i t.now u.now (out-Formula goal.now)) }
 {
     match goal {
-        Formula::And(a, b) => Ok(both(alloc, t, a, u, b)?),
+        Formula::And(a, b) => Ok(each(alloc, t, a, u, b)?),
         _ => Err(misfit(Rule::ConjI)),
     }
 }
 
 /// The parts of conjI, which show the two.
-fn both(
+fn each(
     alloc: Global,
     t: &Shared<Term>,
     a: &Shared<Formula>,
@@ -46,11 +47,8 @@ fn both(
     ensures { IfOk result (λ step. step
         ≡ Two B.ConjI (part t.now a.now) (part u.now b.now)) }
 {
-    let t = t.copy()?;
-    let u = u.copy()?;
-    let a = a.get().copy(alloc)?;
-    let b = b.get().copy(alloc)?;
-    two(alloc, Binary::ConjI, whole(t, a), whole(u, b))
+    let (left, right) = both(part(alloc, t, a.get()), part(alloc, u, b.get()))?;
+    two(alloc, Binary::ConjI, left, right)
 }
 
 /// `(disjI1 t)`
@@ -59,8 +57,7 @@ pub(crate) fn disj_i1(alloc: Global, t: &Shared<Term>, goal: &Formula) -> Result
 {
     match goal {
         Formula::Or(a, b) => {
-            let other = b.copy()?;
-            let shown = part(alloc, t, a.get())?;
+            let (other, shown) = both(b.copy(), part(alloc, t, a.get()))?;
             Ok(one(alloc, Unary::DisjI1(other), shown)?)
         }
         _ => Err(misfit(Rule::DisjI1)),
@@ -73,8 +70,7 @@ pub(crate) fn disj_i2(alloc: Global, t: &Shared<Term>, goal: &Formula) -> Result
 {
     match goal {
         Formula::Or(a, b) => {
-            let other = a.copy()?;
-            let shown = part(alloc, t, b.get())?;
+            let (other, shown) = both(a.copy(), part(alloc, t, b.get()))?;
             Ok(one(alloc, Unary::DisjI2(other), shown)?)
         }
         _ => Err(misfit(Rule::DisjI2)),
@@ -92,8 +88,8 @@ pub(crate) fn imp_i(
 {
     match goal {
         Formula::Implies(a, b) => {
-            let discharged = a.copy()?;
-            let shown = under(alloc, x, a.get(), t, b.get())?;
+            let shown = under(alloc, x, a.get(), t, b.get());
+            let (discharged, shown) = both(a.copy(), shown)?;
             Ok(one(alloc, Unary::ImpI(discharged), shown)?)
         }
         _ => Err(misfit(Rule::ImpI)),
@@ -111,8 +107,8 @@ pub(crate) fn not_i(
 {
     match goal {
         Formula::Not(a) => {
-            let discharged = a.copy()?;
-            let shown = under(alloc, x, a.get(), t, &Formula::False)?;
+            let shown = under(alloc, x, a.get(), t, &Formula::False);
+            let (discharged, shown) = both(a.copy(), shown)?;
             Ok(one(alloc, Unary::NotI(discharged), shown)?)
         }
         _ => Err(misfit(Rule::NotI)),
@@ -144,9 +140,8 @@ fn for_any(
     ensures { IfOk result (λ step. step
         ≡ One (U.AllI x.now) (part t.now (formula_instance (Free x.now) body.now))) }
 {
-    let name = x.copy(alloc)?;
-    let t = t.copy()?;
-    let at_x = at_name(alloc, body.get(), x)?;
+    let at_x = at_name(alloc, body.get(), x);
+    let (name, (t, at_x)) = both(x.copy(alloc), both(t.copy(), at_x))?;
     one(alloc, Unary::AllI(name), whole(t, at_x))
 }
 
@@ -176,8 +171,7 @@ fn for_some(
         ≡ One (U.ExI s.now) (part t.now (formula_instance s.now body.now))) }
     ensures closed { IfOk result (λ _. IsTrue (is_closed s.now)) }
 {
-    let term = s.copy()?;
-    let t = t.copy()?;
-    let at_s = body.get().instance(alloc, s.get())?;
-    one(alloc, Unary::ExI(term), whole(t, at_s))
+    let at_s = at_term(alloc, body, s);
+    let (s, (t, at_s)) = both(s.copy(), both(t.copy(), at_s))?;
+    one(alloc, Unary::ExI(s), whole(t, at_s))
 }

@@ -1,9 +1,11 @@
-ghost use Rattle.std.specs.Prelude.{◌≡◌, IfOk};
+ghost use Rattle.std.specs.Prelude.{◌≡◌, IfOk, IsTrue};
 ghost use Rattle.nj_formula.specs.declared.argument.Argument.TheVariants.{Free};
+ghost use Rattle.nj_formula.specs.Closed.{is_closed};
 ghost use Rattle.nj_formula.specs.FormulaInstance.{formula_instance};
 ghost use Rattle.proof_checks.specs.Parts.{part, under};
 
 use crate::step::Part;
+use joined_results::both;
 use nj_formula::{Formula, Name, ObjTerm, Shared};
 use proof_terms::Term;
 use std::alloc::{AllocError, Global};
@@ -13,8 +15,8 @@ use theory_ctx::Local;
 pub(crate) fn part(alloc: Global, term: &Shared<Term>, goal: &Formula) -> Result<Part, AllocError>
     ensures { IfOk result (λ p. p ≡ part term.now goal.now) }
 {
-    let term = term.copy()?;
-    Ok(whole(term, goal.copy(alloc)?))
+    let (term, goal) = both(term.copy(), goal.copy(alloc))?;
+    Ok(whole(term, goal))
 }
 
 /// A part that shows the goal, where both are handed in.
@@ -38,10 +40,9 @@ pub(crate) fn under(
 ) -> Result<Part, AllocError>
     ensures { IfOk result (λ p. p ≡ under name.now assumption.now term.now goal.now) }
 {
-    let name = name.copy(alloc)?;
-    let term = term.copy()?;
-    let goal = goal.copy(alloc)?;
-    Ok(assuming(name, assumption.copy(alloc)?, term, goal))
+    let own = both(name.copy(alloc), assumption.copy(alloc));
+    let ((name, formula), (term, goal)) = both(own, both(term.copy(), goal.copy(alloc)))?;
+    Ok(assuming(name, formula, term, goal))
 }
 
 /// The same, where all are handed in.
@@ -55,10 +56,29 @@ pub(crate) fn assuming(name: Name, formula: Formula, term: Shared<Term>, goal: F
     }
 }
 
+/// A copy of the formula, to be shared.
+pub(crate) fn shared(alloc: Global, formula: &Formula) -> Result<Shared<Formula>, AllocError>
+    ensures { IfOk result (λ f. f ≡ formula.now) }
+{
+    Shared::new(alloc, formula.copy(alloc)?)
+}
+
 /// The body of a quantifier at a name.
 pub(crate) fn at_name(alloc: Global, body: &Formula, x: &Name) -> Result<Formula, AllocError>
     ensures { IfOk result (λ f. f ≡ formula_instance (Free x.now) body.now) }
 {
     let x = ObjTerm::name(alloc, x.as_str())?;
     body.instance(alloc, &x)
+}
+
+/// The body of a quantifier at a term.
+pub(crate) fn at_term(
+    alloc: Global,
+    body: &Shared<Formula>,
+    s: &Shared<ObjTerm>,
+) -> Result<Formula, AllocError>
+    ensures value { IfOk result (λ f. f ≡ formula_instance s.now body.now) }
+    ensures closed { IsTrue (is_closed s.now) }
+{
+    body.get().instance(alloc, s.get())
 }

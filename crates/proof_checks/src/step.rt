@@ -9,15 +9,23 @@ use std::alloc::{AllocError, Global};
 use theory_ctx::Local;
 
 /// A part of a rule: a term, what it is to show, and the assumption that it alone may cite.
-#[derive(Drop)]
 pub(crate) struct Part {
     pub(crate) term: Shared<Term>,
     pub(crate) goal: Formula,
     pub(crate) own: Option<Local>,
 }
 
+/// By hand, as for the other types here, so that a part is let go by one call wherever it ends.
+impl Drop for Part {
+    fn drop(self) {
+        let Part { term, goal, own } = self;
+        drop(term);
+        drop(goal);
+        drop(own);
+    }
+}
+
 /// A rule of one premise, with what it has besides.
-#[derive(Drop)]
 pub(crate) enum Unary {
     ConjE1,
     ConjE2,
@@ -35,6 +43,18 @@ pub(crate) enum Unary {
     ExI(Shared<ObjTerm>),
 }
 
+impl Drop for Unary {
+    fn drop(self) {
+        match self {
+            Unary::ConjE1 | Unary::ConjE2 | Unary::FalseE => (),
+            Unary::DisjI1(formula) | Unary::DisjI2(formula) => drop(formula),
+            Unary::ImpI(formula) | Unary::NotI(formula) => drop(formula),
+            Unary::AllI(_name) => (),
+            Unary::AllE(s) | Unary::ExI(s) => drop(s),
+        }
+    }
+}
+
 /// A rule of two premises, with what it has besides.
 #[derive(Drop)]
 pub(crate) enum Binary {
@@ -46,13 +66,33 @@ pub(crate) enum Binary {
 }
 
 /// What a term comes to: a cited name, or a rule's parts, from the left.
-#[derive(Drop)]
 pub(crate) enum Step {
     Cited(Cite),
     One(Unary, Part),
     Two(Binary, Part, Part),
     /// The rule disjE.
     Three(Part, Part, Part),
+}
+
+impl Drop for Step {
+    fn drop(self) {
+        match self {
+            Step::Cited(_cite) => (),
+            Step::One(rule, p) => {
+                drop(rule);
+                drop(p);
+            }
+            Step::Two(_rule, p, q) => {
+                drop(p);
+                drop(q);
+            }
+            Step::Three(p, q, r) => {
+                drop(p);
+                drop(q);
+                drop(r);
+            }
+        }
+    }
 }
 
 /// A rule of one premise and its part.

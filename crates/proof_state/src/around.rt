@@ -3,6 +3,7 @@ ghost use Rattle.std.specs.Option.{option_copied};
 ghost use Rattle.proof_state.specs.Sights.{AreSights};
 
 use crate::frame::Frame;
+use joined_results::both;
 use shared_map::{ListItems, SharedList};
 use std::alloc::{AllocError, Global};
 use std::marker::Model;
@@ -48,18 +49,16 @@ impl Around {
     pub(crate) fn copy(&self) -> Result<Around, AllocError>
         ensures { IfOk result (λ around. around ≡ self.now) }
     {
-        Ok(Around {
-            frames: self.frames.copy()?,
-            sights: self.sights.copy()?,
-        })
+        let (frames, sights) = both(self.frames.copy(), self.sights.copy())?;
+        Ok(Around { frames, sights })
     }
 
     /// These and one more inside them.
     pub(crate) fn with_first(&self, alloc: Global, frame: Frame) -> Result<Around, AllocError>
         ensures { IfOk result (λ around. around ≡ frame ∷ self.now) }
     {
-        let sights = self.sights_from(alloc, &frame)?;
-        let frames = self.frames.with_first(alloc, frame)?;
+        let sights = self.sights_from(alloc, &frame);
+        let (frames, sights) = both(self.frames.with_first(alloc, frame), sights)?;
         Ok(Around { frames, sights })
     }
 
@@ -75,8 +74,7 @@ impl Around {
     pub(crate) fn rest(&self, alloc: Global) -> Result<Around, AllocError>
         ensures { IfOk result (λ around. around ≡ drop 1 self.now) }
     {
-        let sights = self.sights.rest(alloc)?;
-        let frames = self.frames.rest(alloc)?;
+        let (frames, sights) = both(self.frames.rest(alloc), self.sights.rest(alloc))?;
         Ok(Around { frames, sights })
     }
 

@@ -1,10 +1,11 @@
-ghost use Rattle.std.specs.Prelude.{◌≡◌, [], ◌∷◌, IfOk, remove};
+ghost use Rattle.std.specs.Prelude.{◌≡◌, [], ◌∷◌, Ok, IfOk, remove};
 ghost use Rattle.proof_state.specs.Blocks.{opened};
 
 use crate::facts::Facts;
 use crate::local_fact::LocalFact;
 use crate::subgoal::{Subgoal, copies, subgoals_of, without};
 use crate::variables::Variables;
+use joined_results::both;
 use nj_formula::{Formula, Name, Shared};
 use sqlite_items::Items;
 use std::alloc::{AllocError, Global};
@@ -27,12 +28,32 @@ impl Block {
         ensures { IfOk result (λ block. block ≡ opened dash goal.now) }
     {
         let goal = Shared::new(alloc, goal.copy(alloc)?)?;
-        let pending = subgoals_of(alloc, &goal, dash)?;
+        let pending = subgoals_of(alloc, &goal, dash);
+        let block = Block::of(Ok(goal), pending, Ok(Variables::new()), Ok(Facts::new()))?;
+        Ok(block)
+    }
+
+    /// The block of these parts, where all of them could be made.
+    fn of(
+        goal: Result<Shared<Formula>, AllocError>,
+        pending: Result<Items<Subgoal>, AllocError>,
+        variables: Result<Variables, AllocError>,
+        facts: Result<Facts, AllocError>,
+    ) -> Result<Block, AllocError>
+        ensures goal { IfOk result (λ block. goal ≡ Ok block.goal) }
+        ensures pending { IfOk result (λ block. pending ≡ Ok block.pending) }
+        ensures variables { IfOk result (λ block. variables ≡ Ok block.variables) }
+        ensures facts { IfOk result (λ block. facts ≡ Ok block.facts) }
+    {
+        let ((goal, pending), (variables, facts)) = both(
+            both(goal, pending),
+            both(variables, facts),
+        )?;
         Ok(Block {
             goal,
             pending,
-            variables: Variables::new(),
-            facts: Facts::new(),
+            variables,
+            facts,
         })
     }
 
@@ -41,14 +62,13 @@ impl Block {
         ensures { IfOk result (λ block. block
             ≡ record self.now { variables = []; facts = [] }) }
     {
-        let goal = self.goal.copy()?;
-        let pending = copies(alloc, self.pending.as_slice())?;
-        Ok(Block {
-            goal,
-            pending,
-            variables: Variables::new(),
-            facts: Facts::new(),
-        })
+        let block = Block::of(
+            self.goal.copy(),
+            copies(alloc, self.pending.as_slice()),
+            Ok(Variables::new()),
+            Ok(Facts::new()),
+        )?;
+        Ok(block)
     }
 
     /// The block with one more fixed name.
@@ -56,16 +76,13 @@ impl Block {
         ensures { IfOk result (λ block. block
             ≡ record self.now { variables = name ∷ self.now.variables }) }
     {
-        let goal = self.goal.copy()?;
-        let pending = copies(alloc, self.pending.as_slice())?;
-        let variables = self.variables.with_first(alloc, name)?;
-        let facts = self.facts.copy()?;
-        Ok(Block {
-            goal,
-            pending,
-            variables,
-            facts,
-        })
+        let block = Block::of(
+            self.goal.copy(),
+            copies(alloc, self.pending.as_slice()),
+            self.variables.with_first(alloc, name),
+            self.facts.copy(),
+        )?;
+        Ok(block)
     }
 
     /// The block with one more assumption or fact.
@@ -73,16 +90,13 @@ impl Block {
         ensures { IfOk result (λ block. block
             ≡ record self.now { facts = fact ∷ self.now.facts }) }
     {
-        let goal = self.goal.copy()?;
-        let pending = copies(alloc, self.pending.as_slice())?;
-        let variables = self.variables.copy()?;
-        let facts = self.facts.with_first(alloc, fact)?;
-        Ok(Block {
-            goal,
-            pending,
-            variables,
-            facts,
-        })
+        let block = Block::of(
+            self.goal.copy(),
+            copies(alloc, self.pending.as_slice()),
+            self.variables.copy(),
+            self.facts.with_first(alloc, fact),
+        )?;
+        Ok(block)
     }
 
     /// The block without the subgoal at this place, if there is one.
@@ -90,15 +104,12 @@ impl Block {
         ensures { IfOk result (λ block. block
             ≡ record self.now { pending = remove self.now.pending place }) }
     {
-        let goal = self.goal.copy()?;
-        let pending = without(alloc, self.pending.as_slice(), place)?;
-        let variables = self.variables.copy()?;
-        let facts = self.facts.copy()?;
-        Ok(Block {
-            goal,
-            pending,
-            variables,
-            facts,
-        })
+        let block = Block::of(
+            self.goal.copy(),
+            without(alloc, self.pending.as_slice(), place),
+            self.variables.copy(),
+            self.facts.copy(),
+        )?;
+        Ok(block)
     }
 }

@@ -10,6 +10,7 @@ use crate::block::Block;
 use crate::frame::Purpose;
 use crate::levels::Levels;
 use crate::local_fact::{LocalFact, Origin};
+use joined_results::both;
 use nj_formula::{Formula, Name, Shared};
 use std::alloc::{AllocError, Global};
 
@@ -30,8 +31,7 @@ pub(crate) fn closed(alloc: Global, goal: &Formula, around: &Around) -> Result<L
         None => Ok(Levels::Closed),
         Some(frame) => {
             let block = achieved(alloc, &frame.purpose, goal, frame.block.get())?;
-            let block = Shared::new(alloc, block)?;
-            let around = around.rest(alloc)?;
+            let (block, around) = both(Shared::new(alloc, block), around.rest(alloc))?;
             Ok(Levels::State { block, around })
         }
     }
@@ -57,6 +57,6 @@ fn proved(alloc: Global, name: &Option<Name>, goal: &Formula) -> Result<LocalFac
     ensures { IfOk result (λ fact. fact
         ≡ record { origin = Proved; name = name.now; formula = goal.now }) }
 {
-    let name = copy_name(alloc, name)?;
-    LocalFact::new(alloc, Origin::Proved, name, goal.copy(alloc)?)
+    let (name, goal) = both(copy_name(alloc, name), goal.copy(alloc))?;
+    LocalFact::new(alloc, Origin::Proved, name, goal)
 }

@@ -14,6 +14,7 @@ use crate::frame::{Frame, Purpose};
 use crate::fresh::is_taken;
 use crate::levels::Levels;
 use crate::local_fact::{LocalFact, Origin};
+use joined_results::both;
 use nj_formula::{Formula, Name, Shared};
 use std::alloc::{AllocError, Global};
 use theory_ctx::Ctx;
@@ -58,6 +59,7 @@ impl Levels {
         ensures { Gives (step (assume name formula) self.now) result }
     {
         let Levels::State { block, around } = self else {
+            drop((name, formula));
             return Err(ProofFault::NotAllowed);
         };
         let fact = LocalFact::new(alloc, Origin::Assumed, name, formula)?;
@@ -74,29 +76,32 @@ impl Levels {
         ensures { Gives (step (have name formula) self.now) result }
     {
         let Levels::State { block, around } = self else {
+            drop((name, formula));
             return Err(ProofFault::NotAllowed);
         };
-        let around = inside(alloc, block, Purpose::Have(name), around)?;
-        Ok(Levels::Prove {
-            goal: formula,
-            around,
-        })
+        let around = inside(alloc, block, Purpose::Have(name), around);
+        let (goal, around) = both(Ok(formula), around)?;
+        Ok(Levels::Prove { goal, around })
     }
 
     pub(crate) fn after_show(&self, alloc: Global, formula: Formula) -> Result<Levels, ProofFault>
         ensures { Gives (step (show formula) self.now) result }
     {
         let Levels::State { block, around } = self else {
+            drop(formula);
             return Err(ProofFault::NotAllowed);
         };
-        let Some(place) = fitting(alloc, block.get(), &formula)? else {
+        let Ok(fitted) = fitting(alloc, block.get(), &formula) else {
+            drop(formula);
+            return Err(ProofFault::NoMemory);
+        };
+        let Some(place) = fitted else {
+            drop(formula);
             return Err(ProofFault::NoSuchSubgoal);
         };
-        let around = inside(alloc, block, Purpose::Show(place), around)?;
-        Ok(Levels::Prove {
-            goal: formula,
-            around,
-        })
+        let around = inside(alloc, block, Purpose::Show(place), around);
+        let (goal, around) = both(Ok(formula), around)?;
+        Ok(Levels::Prove { goal, around })
     }
 
     pub(crate) fn after_next(&self, alloc: Global) -> Result<Levels, ProofFault>
@@ -137,8 +142,7 @@ impl Levels {
 fn stated(alloc: Global, block: Block, around: &Around) -> Result<Levels, AllocError>
     ensures { IfOk result (λ levels. levels ≡ State block around.now) }
 {
-    let block = Shared::new(alloc, block)?;
-    let around = around.copy()?;
+    let (block, around) = both(Shared::new(alloc, block), around.copy())?;
     Ok(Levels::State { block, around })
 }
 

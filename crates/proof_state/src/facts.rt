@@ -5,6 +5,7 @@ ghost use Rattle.proof_state.specs.Named.{as_local, named};
 ghost use Rattle.proof_state.specs.Kept.{AreFree};
 
 use crate::local_fact::LocalFact;
+use joined_results::{both, each_of_three};
 use shared_map::{ListItems, SharedList};
 use std::alloc::{AllocError, Global};
 use std::marker::Model;
@@ -54,19 +55,17 @@ impl Facts {
     pub(crate) fn copy(&self) -> Result<Facts, AllocError>
         ensures { IfOk result (λ facts. facts ≡ self.now) }
     {
-        Ok(Facts {
-            all: self.all.copy()?,
-            cited: self.cited.copy()?,
-            free: self.free.copy()?,
-        })
+        let copies = each_of_three(self.all.copy(), self.cited.copy(), self.free.copy());
+        let (all, cited, free) = copies?;
+        Ok(Facts { all, cited, free })
     }
 
     /// These and a newer one.
     pub(crate) fn with_first(&self, alloc: Global, fact: LocalFact) -> Result<Facts, AllocError>
         ensures { IfOk result (λ facts. facts ≡ fact ∷ self.now) }
     {
-        let (cited, free) = self.kept_with(alloc, &fact)?;
-        let all = self.all.with_first(alloc, fact)?;
+        let kept = self.kept_with(alloc, &fact);
+        let (all, (cited, free)) = both(self.all.with_first(alloc, fact), kept)?;
         Ok(Facts { all, cited, free })
     }
 
@@ -75,8 +74,8 @@ impl Facts {
         ensures { IfOk result (λ kept. (kept.0 ≡ named (fact.now ∷ self.now))
             × AreFree kept.1 (fact.now ∷ self.now)) }
     {
-        let cited = with_named(alloc, &self.cited, fact)?;
-        let free = self.free.with_formula(alloc, fact.formula.get())?;
+        let free = self.free.with_formula(alloc, fact.formula.get());
+        let (cited, free) = both(with_named(alloc, &self.cited, fact), free)?;
         Ok((cited, free))
     }
 

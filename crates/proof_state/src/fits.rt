@@ -85,9 +85,17 @@ fn is_at(alloc: Global, name: &Name, shown: &Formula, body: &Formula) -> Result<
     ensures { IfOk result (λ is. is
         ≡ says_same shown.now (formula_instance (Free name.now) body.now)) }
 {
+    let at_name = instance_at(alloc, name, body)?;
+    let is = says_same(shown, &at_name);
+    drop(at_name);
+    Ok(is)
+}
+
+fn instance_at(alloc: Global, name: &Name, body: &Formula) -> Result<Formula, AllocError>
+    ensures { IfOk result (λ at. at ≡ formula_instance (Free name.now) body.now) }
+{
     let term = ObjTerm::name(alloc, name.as_str())?;
-    let at_name = body.instance(alloc, &term)?;
-    Ok(says_same(shown, &at_name))
+    body.instance(alloc, &term)
 }
 
 /// Whether each assumption among these facts is one of the subgoal.

@@ -1,8 +1,10 @@
 ghost use Rattle.std.specs.Prelude.{◌≡◌, IfOk};
+ghost use Rattle.proof_state.specs.declared.levels.Levels.TheVariants.{Prove, State};
 ghost use Rattle.proof_state.specs.Answers.{is_closed};
 
 use crate::around::Around;
 use crate::block::Block;
+use joined_results::both;
 use nj_formula::{Formula, Shared};
 use std::alloc::{AllocError, Global};
 
@@ -30,14 +32,8 @@ impl Levels {
     {
         match self {
             Levels::Closed => Ok(Levels::Closed),
-            Levels::Prove { goal, around } => Ok(Levels::Prove {
-                around: around.copy()?,
-                goal: goal.copy(alloc)?,
-            }),
-            Levels::State { block, around } => Ok(Levels::State {
-                block: block.copy()?,
-                around: around.copy()?,
-            }),
+            Levels::Prove { goal, around } => proving(alloc, goal, around),
+            Levels::State { block, around } => stating(block, around),
         }
     }
 
@@ -47,4 +43,18 @@ impl Levels {
     {
         matches!(self, Levels::Closed)
     }
+}
+
+fn proving(alloc: Global, goal: &Formula, around: &Around) -> Result<Levels, AllocError>
+    ensures { IfOk result (λ levels. levels ≡ Prove goal.now around.now) }
+{
+    let (goal, around) = both(goal.copy(alloc), around.copy())?;
+    Ok(Levels::Prove { goal, around })
+}
+
+fn stating(block: &Shared<Block>, around: &Around) -> Result<Levels, AllocError>
+    ensures { IfOk result (λ levels. levels ≡ State block.now around.now) }
+{
+    let (block, around) = both(block.copy(), around.copy())?;
+    Ok(Levels::State { block, around })
 }

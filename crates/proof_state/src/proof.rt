@@ -9,6 +9,7 @@ ghost use Rattle.proof_state.specs.Describes.{Describes};
 use crate::around::Around;
 use crate::fault::ProofFault;
 use crate::levels::Levels;
+use joined_results::both;
 use nj_formula::{Formula, Name};
 use std::alloc::{AllocError, Global};
 use std::marker::Model;
@@ -90,7 +91,7 @@ impl Proof {
             (left result self.new) }
         ensures err { OnErr result (self.new ≡ self.old) }
     {
-        let name = held(alloc, name)?;
+        let (name, formula) = both(held(alloc, name), Ok(formula))?;
         let made = self.levels.after_assume(alloc, name, formula);
         self.take(made)
     }
@@ -107,7 +108,7 @@ impl Proof {
             (left result self.new) }
         ensures err { OnErr result (self.new ≡ self.old) }
     {
-        let name = held(alloc, name)?;
+        let (name, formula) = both(held(alloc, name), Ok(formula))?;
         let made = self.levels.after_have(alloc, name, formula);
         self.take(made)
     }

@@ -3,6 +3,7 @@ ghost use Rattle.nj_formula.specs.declared.formula.Formula.TheVariants.{False};
 ghost use Rattle.proof_state.specs.declared.subgoal.Subgoal.TheVariants.{Show, AssumeShow, FixShow};
 ghost use Rattle.proof_state.specs.Subgoals.{subgoals_of};
 
+use joined_results::both;
 use nj_formula::{Formula, Name, Shared};
 use sqlite_items::Items;
 use std::alloc::{AllocError, Global};
@@ -42,16 +43,14 @@ fn assume_show(
 ) -> Result<Subgoal, AllocError>
     ensures { IfOk result (λ subgoal. subgoal ≡ AssumeShow assumption.now conclusion.now) }
 {
-    let assumption = assumption.copy()?;
-    let conclusion = conclusion.copy()?;
+    let (assumption, conclusion) = both(assumption.copy(), conclusion.copy())?;
     Ok(Subgoal::AssumeShow(assumption, conclusion))
 }
 
 fn fix_show(alloc: Global, name: &Name, body: &Shared<Formula>) -> Result<Subgoal, AllocError>
     ensures { IfOk result (λ subgoal. subgoal ≡ FixShow name.now body.now) }
 {
-    let name = name.copy(alloc)?;
-    let body = body.copy()?;
+    let (name, body) = both(name.copy(alloc), body.copy())?;
     Ok(Subgoal::FixShow(name, body))
 }
 
@@ -69,7 +68,7 @@ pub(crate) fn subgoals_of(
     match goal.get() {
         Formula::Implies(a, b) => only(alloc, assume_show(a, b)?),
         Formula::Not(a) => denied(alloc, a),
-        Formula::And(a, b) => both(alloc, a, b),
+        Formula::And(a, b) => conjuncts(alloc, a, b),
         Formula::All(name, body) => only(alloc, fix_show(alloc, name, body)?),
         Formula::False | Formula::Atom(_, _) | Formula::Or(_, _) | Formula::Exists(_, _) => {
             only(alloc, show(goal)?)
@@ -94,15 +93,16 @@ fn denied(alloc: Global, formula: &Shared<Formula>) -> Result<Items<Subgoal>, Al
 }
 
 /// Two conclusions.
-fn both(
+fn conjuncts(
     alloc: Global,
     one: &Shared<Formula>,
     other: &Shared<Formula>,
 ) -> Result<Items<Subgoal>, AllocError>
     ensures { IfOk result (λ subgoals. subgoals ≡ Show one.now ∷ Show other.now ∷ []) }
 {
-    let mut subgoals = only(alloc, show(one)?)?;
-    subgoals.push(show(other)?)?;
+    let first = only(alloc, show(one)?);
+    let (mut subgoals, second) = both(first, show(other))?;
+    subgoals.push(second)?;
     Ok(subgoals)
 }
 
@@ -126,7 +126,7 @@ pub(crate) fn without(
 {
     let mut left = copies(alloc, subgoals)?;
     if place < left.len() {
-        let _achieved = left.remove(place);
+        drop(left.remove(place));
     }
     Ok(left)
 }

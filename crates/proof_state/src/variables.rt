@@ -2,6 +2,7 @@ ghost use Rattle.std.specs.Prelude.{◌≡◌, [], ◌∷◌, IfOk};
 ghost use Rattle.std.specs.List.{list_any};
 ghost use Rattle.std.specs.Str.{bytes_eq};
 
+use joined_results::both;
 use nj_formula::Name;
 use shared_map::{ListItems, SharedList};
 use std::alloc::{AllocError, Global};
@@ -43,18 +44,16 @@ impl Variables {
     pub(crate) fn copy(&self) -> Result<Variables, AllocError>
         ensures { IfOk result (λ variables. variables ≡ self.now) }
     {
-        Ok(Variables {
-            all: self.all.copy()?,
-            names: self.names.copy()?,
-        })
+        let (all, names) = both(self.all.copy(), self.names.copy())?;
+        Ok(Variables { all, names })
     }
 
     /// These and a newer one.
     pub(crate) fn with_first(&self, alloc: Global, name: Name) -> Result<Variables, AllocError>
         ensures { IfOk result (λ variables. variables ≡ name ∷ self.now) }
     {
-        let names = self.names.with(alloc, &name)?;
-        let all = self.all.with_first(alloc, name)?;
+        let names = self.names.with(alloc, &name);
+        let (all, names) = both(self.all.with_first(alloc, name), names)?;
         Ok(Variables { all, names })
     }
 

@@ -1,5 +1,5 @@
 //! What is reported of a proof command, and the names that it gives.
-ghost use Rattle.std.specs.Prelude.{◌≡◌, ◌∷◌, IfOk, option_map, string_bytes};
+ghost use Rattle.std.specs.Prelude.{◌≡◌, ◌∷◌, [], IfOk, option_map, string_bytes};
 ghost use Rattle.std.specs.Result.{result_map_both};
 ghost use Rattle.isar_rules.specs.Errors.{formula_in};
 ghost use Rattle.isar_rules.specs.Proofs.{text_of_name};
@@ -8,6 +8,7 @@ ghost use Rattle.command_reports.specs.Tries.{Tries};
 
 use command_reports::{Halt, ascii, formula_in, formula_report, local_report};
 use isar_rules::Spot;
+use joined_results::both;
 use nj_formula::Formula;
 use report_markup::Report;
 use sqlite_items::Items;
@@ -23,9 +24,17 @@ fn local_reports(
     ensures { IfOk result (λ reports. reports
         ≡ formula_report quoted.now formula.now ∷ local_report name.now) }
 {
+    let own = only(alloc, formula_report(alloc, quoted, formula)?);
+    let (mut reports, more) = both(own, local_report(alloc, name))?;
+    reports.append(more)?;
+    Ok(reports)
+}
+
+fn only(alloc: Global, report: Report) -> Result<Items<Report>, AllocError>
+    ensures { IfOk result (λ reports. reports ≡ report ∷ []) }
+{
     let mut reports = Items::new(alloc);
-    reports.push(formula_report(alloc, quoted, formula)?)?;
-    reports.append(local_report(alloc, name)?)?;
+    reports.push(report)?;
     Ok(reports)
 }
 
@@ -41,7 +50,8 @@ pub(crate) fn quoted_in(
         ≡ formula_report quoted.now both.0 ∷ local_report name.now) }
 {
     let formula = formula_in(alloc, quoted.text.as_slice())?;
-    let reports = local_reports(alloc, name, quoted, &formula)?;
+    let reports = local_reports(alloc, name, quoted, &formula);
+    let (formula, reports) = both(Ok(formula), reports)?;
     Ok((formula, reports))
 }
 

@@ -7,6 +7,7 @@ ghost use Rattle.isar_rules.specs.declared.state.Place.TheVariants as place;
 ghost use Rattle.proof_state.specs.Answers.{is_closed};
 
 use isar_rules::{Place, Theory};
+use joined_results::each_of_three;
 use nj_formula::{Formula, Name};
 use proof_state::Proof;
 use report_markup::Report;
@@ -58,9 +59,12 @@ fn held(alloc: Global, lemma: &Lemma) -> Result<OwnLemma, AllocError>
       goal = lemma.now.goal.now;
     }) }
 {
-    let name = lemma.name.copy(alloc)?;
-    let theory = lemma.theory.copy(alloc)?;
-    let goal = lemma.goal.copy(alloc)?;
+    let copies = each_of_three(
+        lemma.theory.copy(alloc),
+        lemma.name.copy(alloc),
+        lemma.goal.copy(alloc),
+    );
+    let (theory, name, goal) = copies?;
     Ok(OwnLemma { theory, name, goal })
 }
 

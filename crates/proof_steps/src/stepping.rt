@@ -11,6 +11,7 @@ ghost use Rattle.command_reports.specs.Tries.{Tries};
 
 use crate::refusing::refused;
 use command_reports::{Halt, ascii};
+use joined_results::both;
 use nj_formula::Formula;
 use proof_state::{Proof, ProofFault};
 use std::alloc::{AllocError, Global};
@@ -42,7 +43,7 @@ fn copied_for(
 ) -> Result<(Proof, Formula), AllocError>
     ensures { IfOk result (λ both. both ≡ (proof.now, formula)) }
 {
-    let copy = proof.copy(alloc)?;
+    let (copy, formula) = both(proof.copy(alloc), Ok(formula))?;
     Ok((copy, formula))
 }
 

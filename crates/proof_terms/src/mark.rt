@@ -7,7 +7,7 @@ use crate::term::Cite;
 use sqlite_items::Items;
 
 /// A token, as far as a proof term asks.
-#[derive(Debug, Drop)]
+#[derive(Drop)]
 pub(crate) enum Mark {
     /// `(`
     Opens,

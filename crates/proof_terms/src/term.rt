@@ -9,7 +9,6 @@ pub struct Cite {
 }
 
 /// A proof term, whose parts are shared. What stands in a rule is what its text has, in that order.
-#[derive(Debug, Drop)]
 pub enum Term {
     /// A fact by its name.
     Fact(Cite),
@@ -43,4 +42,49 @@ pub enum Term {
     ExI(Shared<ObjTerm>, Shared<Term>),
     /// `(exE "EX y. P" x h t u)`
     ExE(Shared<Formula>, Name, Name, Shared<Term>, Shared<Term>),
+}
+
+/// By hand, so that a term is let go by one call wherever it ends.
+impl Drop for Term {
+    fn drop(self) {
+        match self {
+            Term::Fact(_cite) => (),
+            Term::DisjI1(t) | Term::DisjI2(t) | Term::FalseE(t) => drop(t),
+            Term::ImpI(_name, t) | Term::NotI(_name, t) | Term::AllI(_name, t) => drop(t),
+            Term::ConjE1(formula, t) | Term::ConjE2(formula, t) => {
+                drop(formula);
+                drop(t);
+            }
+            Term::ConjI(t, u) => {
+                drop(t);
+                drop(u);
+            }
+            Term::ImpE(formula, t, u) | Term::NotE(formula, t, u) => {
+                drop(formula);
+                drop(t);
+                drop(u);
+            }
+            Term::DisjE(a, b, t, _x, u, _y, v) => {
+                drop(a);
+                drop(b);
+                drop(t);
+                drop(u);
+                drop(v);
+            }
+            Term::AllE(formula, s, t) => {
+                drop(formula);
+                drop(s);
+                drop(t);
+            }
+            Term::ExI(s, t) => {
+                drop(s);
+                drop(t);
+            }
+            Term::ExE(formula, _x, _h, t, u) => {
+                drop(formula);
+                drop(t);
+                drop(u);
+            }
+        }
+    }
 }

@@ -12,7 +12,7 @@ use Rattle.task_queue.specs.Changes.{without}
 use Rattle.language.specs.Lang.{Lang}
 use Rattle.core_rules.specs.declared.event.Event.{Event}
 use Rattle.core_rules.specs.Parts.{same_kind, forks, evaluation}
-use Rattle.core_rules.specs.Standing.{Standing, Free, Held, Done, standing, is_done, held}
+use Rattle.core_rules.specs.Standing.{Standing, Free, Held, Done, standing, is_done}
 use Rattle.prover_core.specs.Progress.{part, kind_behind, next_of}
 use Rattle.prover_core.specs.Tasks.{task_behind, is_held, AreTasks, HasTask, present_kind}
 use Rattle.prover_core.specs.Kept.{Tables}

@@ -19,6 +19,7 @@ use Rattle.core_rules.specs.Numbered.{next_number}
 use Rattle.version_losses.specs.declared.losses.Loss.{Loss}
 use Rattle.version_losses.specs.Losses.{AreLosses}
 use Rattle.prover_core.specs.Plans.{PlanState, HasRoom}
+use Rattle.prover_core.specs.States.{Room}
 use Rattle.prover_core.proofs.FreshAll.{links_of}
 use Rattle.prover_core.specs.Tasks.{HasTask}
 use Rattle.prover_core.specs.Kept.{Tables, IsKept}
@@ -120,3 +121,7 @@ room_for p fresh all versions losses execs known queue held links count spare ta
 
     le-min : (n a b : ℕ) → n ≤ a → n ≤ b → n ≤ min a b
     le-min n a b x y = omega (arith, x, y)
+
+-- room for a plan is room for the same
+pub room_same : (room : Room) (p q : PlanState) → p ≡ q → HasRoom room p → HasRoom room q
+room_same room p q same = subst (HasRoom room) same

@@ -19,6 +19,7 @@ use core_jobs::Job;
 use core_rules::{Event, first_law, holders_law, homes_law, tip_law};
 use doc_nodes::Shared;
 use job_inputs::input_of;
+use joined_results::{both, each_of_three};
 use language::Language;
 use past_items::Past;
 use pide_base::Part;
@@ -78,6 +79,7 @@ impl<L: Language> Core<L> {
             Err(_) => Claim::NoMemory,
             Ok(job) => {
                 if make_room(&mut self.holders, &mut self.queue).is_err() {
+                    drop(job);
                     return Claim::NoMemory;
                 }
                 put(&mut self.holders, who, same(&part));
@@ -104,10 +106,9 @@ impl<L: Language> Core<L> {
         };
         let home = known.home.get();
         let nodes = &self.versions.tip().get().nodes;
-        let input = input_of(alloc, lang, &self.execs, nodes, home)?;
-        let source = home.source.copy()?;
-        let blob = copied(&home.blob)?;
-        let flag = known.flag.share()?;
+        let input = input_of(alloc, lang, &self.execs, nodes, home);
+        let texts = both(home.source.copy(), copied(&home.blob));
+        let (input, (source, blob), flag) = each_of_three(input, texts, known.flag.share())?;
         Ok(Job::new(same(part), source, blob, input, flag))
     }
 }

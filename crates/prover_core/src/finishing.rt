@@ -45,13 +45,17 @@ impl<L: Language> Core<L> {
         let Part { exec, kind } = same(&done.part);
         take_out(&mut self.holders, who);
         if !is_present(&self.queue, exec) {
+            drop(done);
             let part = Part { exec, kind };
             let dropped = Event::Dropped { who, part };
             self.past.add(dropped);
             return Finish::Dropped;
         }
         let forks = forks_told(&done);
-        if self.execs.finish(exec, brought(done, forks)).is_err() {
+        let taken = self.execs.finish(exec, brought(done, forks));
+        let is_lost = taken.is_err();
+        drop(taken);
+        if is_lost {
             unreachable!()
         }
         follow(self.alloc, &mut self.queue, exec, kind, forks);

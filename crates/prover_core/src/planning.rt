@@ -20,6 +20,7 @@ use doc_nodes::{Nodes, Shared};
 use doc_versions::Version as SharedVersion;
 use exec_assign::{AssignFault, ChangedBlobs};
 use exec_rules::{Blobs, Version};
+use joined_results::{both, each_of_three};
 use language::Language;
 use pide_base::{ExecId, VersionId};
 use sqlite_items::Items;
@@ -70,7 +71,7 @@ impl<L: Language> Core<L> {
         ensures same { IfOk result (λ roomy. roomy ≡ plan) }
         ensures room { IfOk result (λ roomy. HasRoom self.new.room roomy) }
     {
-        make_room(
+        let made = make_room(
             &mut self.versions,
             &mut self.losses,
             &mut self.execs,
@@ -79,7 +80,8 @@ impl<L: Language> Core<L> {
             &mut self.cancelled,
             self.holders.len(),
             &plan.fresh,
-        )?;
+        );
+        let ((), plan) = both(made, Ok(plan))?;
         Ok(plan)
     }
 
@@ -125,7 +127,7 @@ impl<L: Language> Core<L> {
 fn planned(alloc: Global, id: VersionId, steps: Steps) -> Result<Plan, AllocError>
     ensures { IfOk result (λ plan. plan ≡ plan_of id steps) }
 {
-    let event = event_of(id, &steps.version)?;
+    let event = event_of(id, &steps.version);
     let Steps {
         version,
         next,
@@ -134,7 +136,12 @@ fn planned(alloc: Global, id: VersionId, steps: Steps) -> Result<Plan, AllocErro
         sights,
         told,
     } = steps;
-    let (version, dropped) = shared(alloc, version, dropped)?;
+    let shared = both(shared_version(alloc, version), shared_list(alloc, dropped));
+    let (event, (version, dropped), (fresh, sights, told)) = each_of_three(
+        event,
+        shared,
+        Ok((fresh, sights, told)),
+    )?;
     Ok(Plan {
         id,
         version,
@@ -151,27 +158,27 @@ fn planned(alloc: Global, id: VersionId, steps: Steps) -> Result<Plan, AllocErro
 fn event_of(id: VersionId, version: &Version) -> Result<Event, AllocError>
     ensures { IfOk result (λ event. event ≡ Update id version.now.nodes version.now.blobs) }
 {
+    let (nodes, blobs) = both(version.nodes.copy(), version.blobs.copy())?;
     Ok(Event::Update {
         version: id,
-        nodes: version.nodes.copy()?,
-        blobs: version.blobs.copy()?,
+        nodes,
+        blobs,
     })
 }
 
-/// The version and what it drops, to be shared.
-fn shared(
+/// The version, to be shared.
+pub(crate) fn shared_version(
     alloc: Global,
     version: Version,
-    dropped: Vec<ExecId>,
-) -> Result<(SharedVersion<Version>, Shared<Items<ExecId>>), AllocError>
-    ensures version { IfOk result (λ both. both.0 ≡ version) }
-    ensures dropped { IfOk result (λ both. both.1 ≡ dropped.items) }
+) -> Result<SharedVersion<Version>, AllocError>
+    ensures { IfOk result (λ shared. shared ≡ version) }
 {
-    let Ok(version) = SharedVersion::new(alloc, version) else {
-        return Err(AllocError);
-    };
-    let Ok(dropped) = Shared::new(alloc, Items::from_vec(dropped)) else {
-        return Err(AllocError);
-    };
-    Ok((version, dropped))
+    SharedVersion::new(alloc, version).map_err(|_| AllocError)
+}
+
+/// The executions, to be shared.
+fn shared_list(alloc: Global, execs: Vec<ExecId>) -> Result<Shared<Items<ExecId>>, AllocError>
+    ensures { IfOk result (λ shared. shared ≡ execs.items) }
+{
+    Shared::new(alloc, Items::from_vec(execs)).map_err(|_| AllocError)
 }

@@ -4,11 +4,12 @@ ghost use Rattle.core_rules.specs.declared.event.Event.TheVariants as event;
 ghost use Rattle.core_rules.specs.Standing.{has_ended};
 ghost use Rattle.core_rules.specs.Legal.{IsLegal};
 
+use crate::planning::shared_version;
 use crate::table::Table;
 use core_jobs::Done;
 use core_rules::Event;
 use doc_nodes::Nodes;
-use doc_versions::{Version as SharedVersion, Versions};
+use doc_versions::Versions;
 use exec_rules::{Blobs, Version};
 use exec_table::Execs;
 use language::Language;
@@ -93,22 +94,20 @@ impl<L: Language> Core<L> {
             blobs: Blobs::new(),
             assigned: Items::new(alloc),
         };
-        match SharedVersion::new(alloc, start) {
-            Err(_) => Err(AllocError),
-            Ok(start) => Ok(Core {
-                alloc,
-                past: Unkept::new(),
-                versions: Versions::new(alloc, start),
-                losses: Losses::new(alloc),
-                next: 1,
-                execs: Execs::new(alloc),
-                known: HashMap::new(alloc),
-                holders: HashMap::new(alloc),
-                queue: TaskQueue::new(alloc),
-                ended: false,
-                cancelled: Vec::new(alloc),
-            }),
-        }
+        let start = shared_version(alloc, start)?;
+        Ok(Core {
+            alloc,
+            past: Unkept::new(),
+            versions: Versions::new(alloc, start),
+            losses: Losses::new(alloc),
+            next: 1,
+            execs: Execs::new(alloc),
+            known: HashMap::new(alloc),
+            holders: HashMap::new(alloc),
+            queue: TaskQueue::new(alloc),
+            ended: false,
+            cancelled: Vec::new(alloc),
+        })
     }
 
     /// Ends it: nothing is taken any more. It takes no memory.

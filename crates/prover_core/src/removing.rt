@@ -32,11 +32,17 @@ impl<L: Language> Core<L> {
     {
         let ids = versions.as_slice();
         let leaving = self.losses.leaving(self.alloc, ids)?;
-        let Leaving { losses, gone } = leaving;
         match self.versions.remove(ids) {
-            Removing::Unknown(id) => Ok(Removing::Unknown(id)),
-            Removing::Tip => Ok(Removing::Tip),
+            Removing::Unknown(id) => {
+                drop(leaving);
+                Ok(Removing::Unknown(id))
+            }
+            Removing::Tip => {
+                drop(leaving);
+                Ok(Removing::Tip)
+            }
             Removing::Removed => {
+                let Leaving { losses, gone } = leaving;
                 self.losses = losses;
                 self.execs.forget(&gone);
                 forget_all(&mut self.known, &gone);

@@ -2,6 +2,7 @@ ghost use Rattle.std.specs.Prelude.{◌≡◌, ◌∷◌, ◌++◌, IfOk};
 ghost use Rattle.std.specs.Arc.{arc_value};
 
 use crate::tree::{Parts, Tree};
+use joined_results::both;
 use std::alloc::{AllocError, Global};
 use std::sync::Arc;
 
@@ -47,7 +48,8 @@ pub(crate) fn left_grown<T: Drop>(
             return left_raised(alloc, parts, item, right);
         }
     }
-    Tree::of(alloc, left, Arc::try_clone(item)?, right.copy()?)
+    let (item, right) = both(Arc::try_clone(item), right.copy())?;
+    Tree::of(alloc, left, item, right)
 }
 
 /// The tree of these parts, of which the right one may be a little too high.
@@ -64,7 +66,8 @@ pub(crate) fn right_grown<T: Drop>(
             return right_raised(alloc, left, item, parts);
         }
     }
-    Tree::of(alloc, left.copy()?, Arc::try_clone(item)?, right)
+    let (left, item) = both(left.copy(), Arc::try_clone(item))?;
+    Tree::of(alloc, left, item, right)
 }
 
 /// One list behind another.
@@ -106,8 +109,8 @@ fn left_raised<T: Drop>(
 {
     match left.right.parts() {
         Some(inner) if is_inner_high(left.right, left.left) => {
-            let left = Tree::fork(alloc, left.left, left.item, inner.left)?;
-            let right = Tree::fork(alloc, inner.right, item, right)?;
+            let left = Tree::fork(alloc, left.left, left.item, inner.left);
+            let (left, right) = both(left, Tree::fork(alloc, inner.right, item, right))?;
             Tree::fork(alloc, &left, inner.item, &right)
         }
         _ => {
@@ -129,8 +132,9 @@ fn right_raised<T: Drop>(
 {
     match right.left.parts() {
         Some(inner) if is_inner_high(right.left, right.right) => {
-            let left = Tree::fork(alloc, left, item, inner.left)?;
-            let right = Tree::fork(alloc, inner.right, right.item, right.right)?;
+            let left = Tree::fork(alloc, left, item, inner.left);
+            let right = Tree::fork(alloc, inner.right, right.item, right.right);
+            let (left, right) = both(left, right)?;
             Tree::fork(alloc, &left, inner.item, &right)
         }
         _ => {

@@ -79,8 +79,7 @@ impl<T: Drop> SharedList<T> {
     pub fn with_first(&self, alloc: Global, item: T) -> Result<SharedList<T>, AllocError>
         ensures { IfOk result (λ list. list ≡ item ∷ self.now) }
     {
-        let item = Arc::new(alloc, item).map_err(AllocError::from)?;
-        let tree = joined(alloc, &Tree::new(), &item, &self.tree)?;
+        let tree = with_first(alloc, item, &self.tree)?;
         Ok(SharedList { tree })
     }
 
@@ -92,6 +91,13 @@ impl<T: Drop> SharedList<T> {
             tree: rest(alloc, &self.tree)?,
         })
     }
+}
+
+fn with_first<T: Drop>(alloc: Global, item: T, tree: &Tree<T>) -> Result<Tree<T>, AllocError>
+    ensures { IfOk result (λ more. more ≡ item ∷ tree.now) }
+{
+    let item = Arc::new(alloc, item).map_err(AllocError::from)?;
+    joined(alloc, &Tree::new(), &item, tree)
 }
 
 fn rest<T: Drop>(alloc: Global, tree: &Tree<T>) -> Result<Tree<T>, AllocError>

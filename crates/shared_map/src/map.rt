@@ -6,8 +6,7 @@ ghost use Rattle.shared_map.specs.Cuts.{within};
 ghost use Rattle.shared_map.specs.Changes.{put, without, united};
 ghost use Rattle.shared_map.specs.Lent.{lent};
 
-use crate::balance::appended;
-use crate::change::{part_before, part_behind, union_of, with_pair};
+use crate::change::{union_of, with_new, without_key};
 use crate::cut::{Cut, Exactly};
 use crate::entries::Entries;
 use crate::search::{count_before, count_behind, first_in};
@@ -15,7 +14,7 @@ use crate::tree::Tree;
 use std::alloc::{AllocError, Global};
 use std::cmp::Ordering;
 use std::marker::Model;
-use std::sync::Arc;
+use std::mem::replace;
 
 /// Why a pair was not inserted.
 #[derive(Clone, Copy, Debug, PartialEq, Eq)]
@@ -181,9 +180,8 @@ impl<K: Ord + Drop, V: Drop> SharedMap<K, V> {
         ensures err { OnErr result (self.new ≡ self.old) }
         ensures sorted { OnOk result (IsSorted K.cmp self.new) }
     {
-        let pair = Arc::new(alloc, (key, value))?;
-        let pairs = with_pair(alloc, &self.pairs, &pair)?;
-        self.pairs = pairs;
+        let pairs = with_new(alloc, &self.pairs, key, value)?;
+        drop(replace(&mut self.pairs, pairs));
         Ok(())
     }
 
@@ -197,14 +195,11 @@ impl<K: Ord + Drop, V: Drop> SharedMap<K, V> {
         ensures err { OnErr result (self.new ≡ self.old) }
         ensures sorted { OnOk result (IsSorted K.cmp self.new) }
     {
-        let cut = Exactly(key);
-        if first_in(&self.pairs, &cut).is_none() {
+        if first_in(&self.pairs, &Exactly(key)).is_none() {
             return Ok(false);
         }
-        let left = part_before(alloc, &self.pairs, &cut)?;
-        let right = part_behind(alloc, &self.pairs, &cut)?;
-        let pairs = appended(alloc, &left, &right)?;
-        self.pairs = pairs;
+        let pairs = without_key(alloc, &self.pairs, key)?;
+        drop(replace(&mut self.pairs, pairs));
         Ok(true)
     }
 

@@ -1,7 +1,8 @@
-ghost use Rattle.std.specs.Prelude.{◌≡◌, [], ◌∷◌, ◌++◌, length, IfOk, MatchOption, slice_get};
+ghost use Rattle.std.specs.Prelude.{◌≡◌, [], ◌∷◌, ◌++◌, ◌+◌, length, IfOk, MatchOption, slice_get};
 ghost use Rattle.std.specs.Option.{option_copied};
 ghost use Rattle.std.specs.Arc.{arc_value};
 
+use joined_results::each_of_three;
 use std::alloc::{AllocError, Global};
 use std::marker::Model;
 use std::sync::Arc;
@@ -129,8 +130,7 @@ impl<T: Drop> Tree<T> {
     ) -> Result<Tree<T>, AllocError>
         ensures { IfOk result (λ tree. tree ≡ left ++ arc_value item ∷ right) }
     {
-        let sides = left.len().checked_add(right.len()).ok_or(AllocError)?;
-        let len = sides.checked_add(1).ok_or(AllocError)?;
+        let len = len_around(&left, &right)?;
         let height = left.height().max(right.height()).saturating_add(1);
         let fork = Fork {
             left,
@@ -153,6 +153,16 @@ impl<T: Drop> Tree<T> {
     ) -> Result<Tree<T>, AllocError>
         ensures { IfOk result (λ tree. tree ≡ left.now ++ arc_value item.now ∷ right.now) }
     {
-        Tree::of(alloc, left.copy()?, Arc::try_clone(item)?, right.copy()?)
+        let copies = each_of_three(left.copy(), Arc::try_clone(item), right.copy());
+        let (left, item, right) = copies?;
+        Tree::of(alloc, left, item, right)
     }
+}
+
+/// How many items these sides have, and the one between them.
+fn len_around<T: Drop>(left: &Tree<T>, right: &Tree<T>) -> Result<usize, AllocError>
+    ensures { IfOk result (λ len. len ≡ length left.now + length right.now + 1) }
+{
+    let sides = left.len().checked_add(right.len()).ok_or(AllocError)?;
+    sides.checked_add(1).ok_or(AllocError)
 }

@@ -123,6 +123,7 @@ fn step<'a>(alloc: Global, old: EditedText<'a>, edit: &Edit) -> Result<EditedTex
         ranges,
     } = old;
     let made = edited_once(alloc, spans.get(), text, edit)?;
+    drop(spans);
     let _len = made.text.len();
     let ranges = moved_all(alloc, &ranges, edit)?;
     Ok(EditedText {

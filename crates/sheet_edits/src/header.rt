@@ -6,6 +6,7 @@ use crate::open_node::shared;
 use buffer_rules::Sheet;
 use doc_headers::{KeywordPair, header, one_header};
 use doc_nodes::Node;
+use joined_results::both;
 use sqlite_items::Items;
 use std::alloc::{AllocError, Global};
 
@@ -24,12 +25,16 @@ fn bare_node(
       keywords = keywords;
     }) }
 {
+    let ((text, entries), (imports, keywords)) = both(
+        both(sheet.text.copy(), shared(alloc, Items::new(alloc))),
+        both(shared(alloc, imports), shared(alloc, keywords)),
+    )?;
     Ok(Node {
-        text: sheet.text.copy()?,
-        entries: shared(alloc, Items::new(alloc))?,
+        text,
+        entries,
         required: sheet.required,
-        imports: shared(alloc, imports)?,
-        keywords: shared(alloc, keywords)?,
+        imports,
+        keywords,
     })
 }
 

@@ -9,6 +9,7 @@ ghost use Rattle.sheet_edits.specs.Within.{AreWithin, IsWhole};
 use buffer_rules::Sheet;
 use command_spans::Spans;
 use doc_nodes::{Aliases, Shared};
+use joined_results::{both, each_of_three};
 use sqlite_items::Items;
 use std::alloc::{AllocError, Global};
 use std::marker::Model;
@@ -39,14 +40,20 @@ impl OpenNode {
     pub fn blank(alloc: Global) -> Result<OpenNode, AllocError>
         ensures { IfOk result (λ opened. opened ≡ record { sheet = blank; cut_under = None }) }
     {
-        let spans = Spans::of(alloc, &[], &[])?;
+        let (spans, (text, ranges)) = both(
+            shared_spans(alloc, &[], &[]),
+            both(
+                shared(alloc, Text::new(alloc)),
+                shared(alloc, Items::new(alloc)),
+            ),
+        )?;
         Ok(OpenNode {
             sheet: Sheet {
-                text: shared(alloc, Text::new(alloc))?,
+                text,
                 required: false,
-                ranges: shared(alloc, Items::new(alloc))?,
+                ranges,
             },
-            spans: shared(alloc, spans)?,
+            spans,
             cut_under: None,
         })
     }
@@ -55,10 +62,15 @@ impl OpenNode {
     pub fn copy(&self) -> Result<OpenNode, AllocError>
         ensures { IfOk result (λ opened. opened ≡ self.now) }
     {
+        let (sheet, spans, cut_under) = each_of_three(
+            copied(&self.sheet),
+            self.spans.copy(),
+            copied_aliases(&self.cut_under),
+        )?;
         Ok(OpenNode {
-            sheet: copied(&self.sheet)?,
-            spans: self.spans.copy()?,
-            cut_under: copied_aliases(&self.cut_under)?,
+            sheet,
+            spans,
+            cut_under,
         })
     }
 
@@ -93,7 +105,7 @@ impl OpenNode {
             return self.spans.copy();
         }
         let text = self.sheet.text.get().as_slice();
-        shared(alloc, Spans::of(alloc, text, aliases.names())?)
+        shared_spans(alloc, text, aliases.names())
     }
 
     /// The same node, after its commands were cut under these aliases, with the spans that it has
@@ -139,14 +151,27 @@ pub(crate) fn shared<T: Drop>(alloc: Global, value: T) -> Result<Shared<T>, Allo
     }
 }
 
+/// The spans of a text under these names.
+fn shared_spans(
+    alloc: Global,
+    text: &[char],
+    names: &[Items<char>],
+) -> Result<Shared<Spans>, AllocError>
+    ensures { IfOk result (λ spans. spans ≡ cut text.now names.now) }
+{
+    let spans = Spans::of(alloc, text, names)?;
+    shared(alloc, spans)
+}
+
 /// The same sheet, in the same memory.
 fn copied(sheet: &Sheet) -> Result<Sheet, AllocError>
     ensures { IfOk result (λ copy. copy ≡ sheet.now) }
 {
+    let (text, ranges) = both(sheet.text.copy(), sheet.ranges.copy())?;
     Ok(Sheet {
-        text: sheet.text.copy()?,
+        text,
         required: sheet.required,
-        ranges: sheet.ranges.copy()?,
+        ranges,
     })
 }
 

@@ -13,6 +13,7 @@ use crate::open_node::{OpenNode, shared};
 use buffer_rules::Sheet;
 use command_spans::Spans;
 use doc_nodes::Shared;
+use joined_results::both;
 use message_values::{Perspective, Refusal};
 use pide_base::Range;
 use sqlite_items::Items;
@@ -92,11 +93,17 @@ impl OpenNode {
             ranges: Vec::new(alloc),
         };
         let made = edited(alloc, old, edits)?;
-        let text = made.text.share(alloc)?;
+        drop(made.ranges);
+        let (text, ranges) = both(
+            made.text.share(alloc),
+            Items::from_slice(alloc, told.ranges.as_slice()),
+        )?;
         if has_outside(told.ranges.as_slice(), text.get().len()) {
+            drop(text);
+            drop(ranges);
+            drop(made.spans);
             return Err(PrepareError::Refused(Refusal::PerspectiveOutOfRange));
         }
-        let ranges = Items::from_slice(alloc, told.ranges.as_slice())?;
         let node = node_of(alloc, text, made.spans, told.required, ranges)?;
         Ok(node)
     }
@@ -108,14 +115,18 @@ impl OpenNode {
             (sheet_after edits.now None self.now.sheet) }
         ensures uncut { IfOk result (λ node. node.cut_under ≡ None) }
     {
+        let (spans, ranges) = both(
+            self.spans().copy(),
+            Vec::from_slice(alloc, self.sheet().ranges.get().as_slice()),
+        )?;
         let old = EditedText {
             text: Held::Lent(&self.sheet().text),
-            spans: self.spans().copy()?,
-            ranges: Vec::from_slice(alloc, self.sheet().ranges.get().as_slice())?,
+            spans,
+            ranges,
         };
         let made = edited(alloc, old, edits)?;
-        let ranges = filled(alloc, &made.ranges)?;
-        let text = made.text.share(alloc)?;
+        let (text, ranges) = both(made.text.share(alloc), filled(alloc, &made.ranges))?;
+        drop(made.ranges);
         let required = self.sheet().required;
         let node = node_of(alloc, text, made.spans, required, ranges)?;
         Ok(node)

@@ -284,7 +284,7 @@ fn put(tasks: &mut Table, exec: u64, standing: Standing)
     ensures room { spare tasks.old ≤ spare tasks.new + 1 }
 {
     match tasks.insert(exec, standing) {
-        Ok(_) => {}
+        Ok(before) => drop(before),
         Err(_) => unreachable!(),
     }
 }
@@ -297,7 +297,7 @@ fn remove(tasks: &mut Table, exec: u64)
         ≡ hash_map_len tasks.old }
     ensures room { spare tasks.old ≤ spare tasks.new }
 {
-    tasks.remove(&exec);
+    drop(tasks.remove(&exec));
 }
 
 /// Gives the execution's present part another priority.

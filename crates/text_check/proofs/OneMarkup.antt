@@ -10,8 +10,6 @@ use Rattle.doc_headers.specs.declared.parts.Header.{Header}
 use Rattle.doc_nodes.specs.declared.inherited.NodeAliases.{NodeAliases}
 use Rattle.doc_nodes.specs.declared.node.Node.{Node}
 use Rattle.doc_nodes.specs.Aliases.{aliases_at}
-use Rattle.command_spans.specs.CutTexts.{Cuts, cut}
-use Rattle.node_commands.specs.Commands.{ranges_of}
 use Rattle.doc_blobs.specs.Needs.{AliasList}
 use Rattle.language.specs.Lang.{Lang}
 use Rattle.core_rules.specs.Updates.{AreRising}
@@ -91,12 +89,3 @@ pub heading_some : (text : List ℕ) (h : Header) → header_in text ≡ Some h
     → headed (named h.name) h.imports h.keywords ≡ heading_of text
 heading_some text h found =
     sym (ap (λ x. heading_in (option_map_or (λ header. named header.name) x (codes "Scratch")) x) found)
-
--- where the commands are found that are cut under the aliases of a text's heading
-pub found_at : (text : List ℕ) (heading : Heading) (pairs : AliasList) (names : List (List ℕ)) (cuts : Cuts) (ranges : List Range)
-    → heading ≡ heading_of text → pairs ≡ heading.aliases.pairs → names ≡ map (λ pair. pair.0) pairs
-    → cuts ≡ cut text names → ranges ≡ ranges_of cuts.spans → ranges ≡ ranges_by text (heading_of text)
-found_at text heading pairs names cuts ranges of_text of_heading of_pairs are at =
-    at ∙ ap (λ (s : Cuts). ranges_of s.spans) are
-    ∙ ap (command_ranges text) (of_pairs ∙ ap (λ (ps : AliasList). map (λ pair. pair.0) ps) of_heading)
-    ∙ ap (ranges_by text) of_text

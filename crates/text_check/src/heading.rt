@@ -5,6 +5,7 @@ ghost use Rattle.text_check.specs.Headings.{alone, begins, bare, heading_of, hea
 
 use doc_headers::{Header, KeywordPair, header, one_header};
 use doc_nodes::{ImportGraph, Node, NodeAliases, Nodes, Shared, aliases_of, import_order};
+use joined_results::{both, each_of_three};
 use language::{Imports, Language};
 use pide_base::NodeName;
 use sqlite_items::Items;
@@ -83,25 +84,31 @@ fn bare(
 ) -> Result<Node, AllocError>
     ensures { IfOk result (λ node. node ≡ bare imports keywords) }
 {
+    let header = both(shared(alloc, imports), shared(alloc, keywords));
+    let body = both(
+        shared(alloc, Text::new(alloc)),
+        shared(alloc, Items::new(alloc)),
+    );
+    let ((imports, keywords), (text, entries)) = both(header, body)?;
     Ok(Node {
-        text: shared(alloc, Text::new(alloc))?,
-        entries: shared(alloc, Items::new(alloc))?,
+        text,
+        entries,
         required: true,
-        imports: shared(alloc, imports)?,
-        keywords: shared(alloc, keywords)?,
+        imports,
+        keywords,
     })
 }
 
 /// A node of this name and header as the only one of a document.
 fn alone(
     alloc: Global,
-    name: NodeName,
+    name: &NodeName,
     imports: Items<Items<char>>,
     keywords: Items<KeywordPair>,
 ) -> Result<Nodes, AllocError>
-    ensures { IfOk result (λ nodes. nodes ≡ alone name imports keywords) }
+    ensures { IfOk result (λ nodes. nodes ≡ alone name.now imports keywords) }
 {
-    let node = bare(alloc, imports, keywords)?;
+    let (name, node) = both(name.clone(), bare(alloc, imports, keywords))?;
     let mut nodes = Nodes::new();
     nodes.set(alloc, name, node)?;
     Ok(nodes)
@@ -116,10 +123,13 @@ fn headed(
 ) -> Result<Heading, AllocError>
     ensures { IfOk result (λ heading. heading ≡ headed name imports keywords) }
 {
-    let nodes = alone(alloc, name.clone()?, imports, keywords)?;
+    let nodes = alone(alloc, &name, imports, keywords)?;
     let graph = ImportGraph::of(alloc, &nodes)?;
-    let mut order = import_order(alloc, &nodes, &graph)?;
-    let mut all = aliases_of(alloc, &nodes, &graph)?;
+    let order = import_order(alloc, &nodes, &graph);
+    let all = aliases_of(alloc, &nodes, &graph);
+    drop(graph);
+    drop(nodes);
+    let (name, mut order, mut all) = each_of_three(Ok(name), order, all)?;
     match (order.pop(), all.pop()) {
         (Some(placed), Some(aliases)) => Ok(Heading {
             name,

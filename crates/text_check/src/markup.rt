@@ -1,15 +1,20 @@
 //! What a text reports.
-ghost use Rattle.std.specs.Prelude.{◌≡◌, IfOk};
+ghost use Rattle.std.specs.Prelude.{◌≡◌, map, IfOk};
+ghost use Rattle.buffer_rules.specs.Cuts.{command_ranges};
 ghost use Rattle.markup_lines.specs.OneText.{markup_of};
+ghost use Rattle.text_check.specs.Headings.{begins, heading_of};
 
 use crate::heading::Heading;
 use crate::walk::walk;
 use buffer_laws::places_law;
 use buffer_rules::ids_law;
 use command_spans::Spans;
+use joined_results::both;
 use language::Language;
 use node_commands::command_ranges;
+use pide_base::Range;
 use report_markup::{Report, one_order};
+use sqlite_items::Items;
 use std::alloc::{AllocError, Global};
 
 /// What checking the text from nothing reports, in report order; ranges count its scalars. The
@@ -24,11 +29,40 @@ pub fn markup_of<L: Language>(
     ids_law();
     places_law();
     one_order();
-    let heading = Heading::of(alloc, text)?;
-    let spans = Spans::of(alloc, text, heading.aliases.pairs.get().names())?;
-    let ranges = command_ranges(alloc, &spans)?;
-    let begins = heading.begins(alloc, language)?;
+    let (ranges, begins) = begun(alloc, language, text)?;
     let mut all = walk(alloc, language, text, &ranges, begins)?;
     all.sort()?;
     Ok(all)
+}
+
+/// The places of the text's commands, and the state in which the first of them begins.
+fn begun<L: Language>(
+    alloc: Global,
+    language: &L,
+    text: &[char],
+) -> Result<(Vec<Range>, L::State), AllocError>
+    ensures places { IfOk result (λ begun. begun.0.items ≡ command_ranges text.now
+        (map (λ pair. pair.0) (heading_of text.now).aliases.pairs)) }
+    ensures begins { IfOk result (λ begun. begun.1 ≡ begins L.lang (heading_of text.now)) }
+{
+    let heading = Heading::of(alloc, text)?;
+    let places = command_places(alloc, text, heading.aliases.pairs.get().names());
+    let begins = heading.begins(alloc, language);
+    drop(heading);
+    let begun = both(places, begins)?;
+    Ok(begun)
+}
+
+/// The places of the text's commands, where these names are commands too.
+fn command_places(
+    alloc: Global,
+    text: &[char],
+    names: &[Items<char>],
+) -> Result<Vec<Range>, AllocError>
+    ensures { IfOk result (λ places. places.items ≡ command_ranges text.now names.now) }
+{
+    let spans = Spans::of(alloc, text, names)?;
+    let places = command_ranges(alloc, &spans);
+    drop(spans);
+    places
 }

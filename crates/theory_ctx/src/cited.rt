@@ -2,7 +2,7 @@ ghost use Rattle.theory_ctx.specs.Looked.{parts_of};
 ghost use Rattle.theory_ctx.specs.Cited.{HasParts};
 
 /// A name as it is cited.
-#[derive(Clone, Copy, Debug)]
+#[derive(Clone, Copy)]
 pub(crate) enum Cited<'a> {
     Plain(&'a str),
     Long { theory: &'a str, name: &'a str },

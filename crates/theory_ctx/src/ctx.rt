@@ -17,10 +17,12 @@ use crate::cited::Cited;
 use crate::fact_name::FactName;
 use crate::lookup::Lookup;
 use crate::name_set::NameSet;
+use joined_results::both;
 use nj_formula::{Formula, Name};
 use shared_map::{Entries, SharedMap};
 use std::alloc::{AllocError, Global};
 use std::marker::Model;
+use std::mem::replace;
 
 /// Why a fact was not added.
 #[derive(Clone, Copy, Debug, PartialEq, Eq)]
@@ -82,10 +84,8 @@ impl Ctx {
     pub fn copy(&self) -> Result<Ctx, AllocError>
         ensures { IfOk result (λ ctx. ctx ≡ self.now) }
     {
-        Ok(Ctx {
-            facts: self.facts.copy()?,
-            free: self.free.copy()?,
-        })
+        let (facts, free) = both(self.facts.copy(), self.free.copy())?;
+        Ok(Ctx { facts, free })
     }
 
     /// Adds a fact of a theory. It is `Taken` where the theory has a fact of this name already. At
@@ -105,6 +105,7 @@ impl Ctx {
         ensures err { OnErr result (self.new ≡ self.old) }
     {
         if self.has(theory.as_str(), name.as_str()) {
+            drop(formula);
             return Err(AddError::Taken);
         }
         self.set(alloc, theory, name, formula)?;
@@ -125,15 +126,14 @@ impl Ctx {
         ensures sorted { OnOk result (IsSorted by_name self.new) }
         ensures err { OnErr result (self.new ≡ self.old) }
     {
-        let fact = FactName {
-            name: name.copy(alloc)?,
-            theory: theory.copy(alloc)?,
+        let fact = FactName::copied(alloc, theory, name);
+        let kept = both(fact, self.free.with_formula(alloc, &formula));
+        let Ok((fact, free)) = kept else {
+            drop(formula);
+            return Err(AllocError);
         };
-        let free = self.free.with_formula(alloc, &formula)?;
-        let mut facts = self.facts.copy()?;
-        facts.set(alloc, fact, formula)?;
-        self.facts = facts;
-        self.free = free;
+        self.facts.set(alloc, fact, formula)?;
+        drop(replace(&mut self.free, free));
         Ok(())
     }
 
@@ -151,7 +151,8 @@ impl Ctx {
     {
         let mut ctx = Ctx::new();
         for part in parts {
-            ctx = ctx.joined(alloc, part)?;
+            let more = ctx.joined(alloc, part);
+            drop(replace(&mut ctx, more?));
         }
         Ok(ctx)
     }
@@ -160,8 +161,8 @@ impl Ctx {
     fn joined(&self, alloc: Global, other: &Ctx) -> Result<Ctx, AllocError>
         ensures { IfOk result (λ ctx. ctx ≡ united by_name self.now other.now) }
     {
-        let facts = self.facts.union(alloc, &other.facts)?;
-        let free = self.free.union(alloc, &other.free)?;
+        let facts = self.facts.union(alloc, &other.facts);
+        let (facts, free) = both(facts, self.free.union(alloc, &other.free))?;
         Ok(Ctx { facts, free })
     }
 

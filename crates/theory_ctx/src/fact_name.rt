@@ -1,9 +1,11 @@
-ghost use Rattle.std.specs.Prelude.{◌≡◌, [], ◌∷◌};
+ghost use Rattle.std.specs.Prelude.{◌≡◌, [], ◌∷◌, IfOk};
 ghost use Rattle.theory_ctx.specs.Answers.{told};
 ghost use Rattle.theory_ctx.specs.Looked.{among};
 
 use crate::lookup::{LongName, Lookup};
+use joined_results::both;
 use nj_formula::{Formula, Name};
+use std::alloc::{AllocError, Global};
 use std::cmp::Ordering;
 
 /// A fact's name, with the theory that made it. Facts are ordered by name, then by theory, so that
@@ -15,6 +17,15 @@ pub struct FactName {
 }
 
 impl FactName {
+    /// The name of a fact of a theory, in the same memory.
+    pub(crate) fn copied(alloc: Global, theory: &Name, name: &Name) -> Result<FactName, AllocError>
+        ensures { IfOk result (λ fact. fact
+            ≡ record { name = name.now; theory = theory.now }) }
+    {
+        let (name, theory) = both(name.copy(alloc), theory.copy(alloc))?;
+        Ok(FactName { name, theory })
+    }
+
     /// The name as it is written in other theories.
     pub fn long_name(&self) -> LongName<'_>
         ensures theory { result.theory.now ≡ self.now.theory }

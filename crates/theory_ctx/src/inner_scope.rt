@@ -43,7 +43,10 @@ impl<'s, 'a> InnerScope<'s, 'a> {
         }) }
         ensures err { OnErr result (self.new ≡ self.old) }
     {
-        let name = name.copy(alloc)?;
+        let Ok(name) = name.copy(alloc) else {
+            drop(formula);
+            return Err(AllocError);
+        };
         self.locals.push(Local { name, formula })?;
         Ok(())
     }

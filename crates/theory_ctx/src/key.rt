@@ -1,5 +1,8 @@
+ghost use Rattle.std.specs.Prelude.{◌≡◌, IfOk};
+
 use nj_formula::Name;
 use shared_map::Cut;
+use std::alloc::{AllocError, Global};
 use std::cmp::Ordering;
 use std::marker::Model;
 
@@ -7,6 +10,16 @@ use std::marker::Model;
 #[derive(Drop)]
 pub(crate) struct Key {
     pub(crate) name: Name,
+}
+
+impl Key {
+    /// The key that the name is, in the same memory.
+    pub(crate) fn copied(alloc: Global, name: &Name) -> Result<Key, AllocError>
+        ensures { IfOk result (λ key. key ≡ name.now) }
+    {
+        let name = name.copy(alloc)?;
+        Ok(Key { name })
+    }
 }
 
 impl Model for Key {

@@ -1,9 +1,10 @@
 ghost use Rattle.std.specs.Prelude.{◌≡◌, [], ◌∷◌, IfOk, length, slice_get};
 ghost use Rattle.std.specs.Option.{option_copied};
-ghost use Rattle.theory_ctx.specs.Locals.{first_named};
+ghost use Rattle.theory_ctx.specs.Locals.{first_named, AreFirst};
 
 use crate::key::{Key, Spelled};
 use crate::local::Local;
+use joined_results::{both, each_of_three};
 use nj_formula::{Formula, Name};
 use shared_map::{SharedList, SharedMap};
 use std::alloc::{AllocError, Global};
@@ -49,10 +50,8 @@ impl Locals {
     pub fn copy(&self) -> Result<Locals, AllocError>
         ensures { IfOk result (λ locals. locals ≡ self.now) }
     {
-        Ok(Locals {
-            all: self.all.copy()?,
-            newest: self.newest.copy()?,
-        })
+        let (all, newest) = both(self.all.copy(), self.newest.copy())?;
+        Ok(Locals { all, newest })
     }
 
     /// How many they are.
@@ -89,21 +88,45 @@ impl Locals {
         ensures { IfOk result (λ locals. locals
             ≡ record { name = name.now; formula = formula.now } ∷ self.now) }
     {
-        let key = Key {
-            name: name.copy(alloc)?,
-        };
-        let all = self.all.with_first(alloc, local(alloc, name, formula)?)?;
-        let mut newest = self.newest.copy()?;
-        newest.set(alloc, key, local(alloc, name, formula)?)?;
+        let all = self.all_with(alloc, name, formula);
+        let (all, newest) = both(all, self.newest_with(alloc, name, formula))?;
         Ok(Locals { all, newest })
+    }
+
+    fn all_with(
+        &self,
+        alloc: Global,
+        name: &Name,
+        formula: &Formula,
+    ) -> Result<SharedList<Local>, AllocError>
+        ensures { IfOk result (λ all. all
+            ≡ record { name = name.now; formula = formula.now } ∷ self.now) }
+    {
+        self.all.with_first(alloc, local(alloc, name, formula)?)
+    }
+
+    fn newest_with(
+        &self,
+        alloc: Global,
+        name: &Name,
+        formula: &Formula,
+    ) -> Result<SharedMap<Key, Local>, AllocError>
+        ensures { IfOk result (λ newest. AreFirst newest
+            (record { name = name.now; formula = formula.now } ∷ self.now)) }
+    {
+        let (mut newest, key, local) = each_of_three(
+            self.newest.copy(),
+            Key::copied(alloc, name),
+            local(alloc, name, formula),
+        )?;
+        newest.set(alloc, key, local)?;
+        Ok(newest)
     }
 }
 
 fn local(alloc: Global, name: &Name, formula: &Formula) -> Result<Local, AllocError>
     ensures { IfOk result (λ local. local ≡ record { name = name.now; formula = formula.now }) }
 {
-    Ok(Local {
-        name: name.copy(alloc)?,
-        formula: formula.copy(alloc)?,
-    })
+    let (name, formula) = both(name.copy(alloc), formula.copy(alloc))?;
+    Ok(Local { name, formula })
 }

@@ -87,9 +87,7 @@ impl NameSet {
         if self.has(name.as_str()) {
             return Ok(());
         }
-        let key = Key {
-            name: name.copy(alloc)?,
-        };
+        let key = Key::copied(alloc, name)?;
         self.names.set(alloc, key, ())
     }
 }

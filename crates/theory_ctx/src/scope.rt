@@ -1,4 +1,4 @@
-ghost use Rattle.std.specs.Prelude.{◌≡◌, [], ◌∷◌, ◌++◌, OnOk, OnErr};
+ghost use Rattle.std.specs.Prelude.{◌≡◌, [], ◌∷◌, ◌++◌, IfOk, OnOk, OnErr};
 ghost use Rattle.std.specs.Option.{option_copied};
 ghost use Rattle.theory_ctx.specs.Answers.{told};
 ghost use Rattle.theory_ctx.specs.Looked.{parts_of};
@@ -16,6 +16,7 @@ use shared_map::SharedList;
 use sqlite_items::Items;
 use std::alloc::{AllocError, Global};
 use std::marker::Model;
+use std::mem::replace;
 
 /// What a lookup goes through: local facts of blocks, the innermost of which is the newest, and the
 /// facts that a theory sees. Contracts see it as these lists. An unnamed local fact can't be cited,
@@ -79,9 +80,9 @@ impl<'a> Scope<'a> {
         }) }
         ensures err { OnErr result (self.new ≡ self.old) }
     {
-        let name = Name::new(alloc, name)?;
-        let locals = Locals::new().with_first(alloc, &name, &formula)?;
-        self.push_all(alloc, &locals)
+        let locals = only(alloc, name, &formula);
+        drop(formula);
+        self.push_block(alloc, locals?)
     }
 
     /// Adds the local facts of a block, as the innermost ones, in time that doesn't depend on how
@@ -91,8 +92,17 @@ impl<'a> Scope<'a> {
             ≡ record self.old { locals = locals.now ++ self.old.locals }) }
         ensures err { OnErr result (self.new ≡ self.old) }
     {
-        let blocks = self.blocks.with_first(alloc, locals.copy()?)?;
-        self.blocks = blocks;
+        self.push_block(alloc, locals.copy()?)
+    }
+
+    /// Adds a block inside the others.
+    fn push_block(&mut self, alloc: Global, locals: Locals) -> Result<(), AllocError>
+        ensures ok { OnOk result (self.new
+            ≡ record self.old { locals = locals ++ self.old.locals }) }
+        ensures err { OnErr result (self.new ≡ self.old) }
+    {
+        let blocks = self.blocks.with_first(alloc, locals)?;
+        drop(replace(&mut self.blocks, blocks));
         Ok(())
     }
 
@@ -136,6 +146,15 @@ impl<'a> Scope<'a> {
             Cited::Long { .. } | Cited::Longer => None,
         }
     }
+}
+
+/// One local fact.
+fn only(alloc: Global, name: &str, formula: &Formula) -> Result<Locals, AllocError>
+    ensures { IfOk result (λ locals. locals
+        ≡ record { name = name.now; formula = formula.now } ∷ []) }
+{
+    let name = Name::new(alloc, name)?;
+    Locals::new().with_first(alloc, &name, formula)
 }
 
 /// The first of the local facts of these blocks that has this name.

@@ -11,6 +11,7 @@ use crate::effect::{Effect, makes};
 use crate::facts::{has_fact, name_of, with_fact};
 use command_reports::{Halt, def_report, formula_in, formula_report, named_refusal};
 use isar_rules::{Place, Spot, Theory};
+use joined_results::both;
 use nj_formula::{Formula, Name};
 use pide_base::Range;
 use proof_state::Proof;
@@ -50,9 +51,17 @@ fn stated_reports(
         ≡ def_report theory.now.name (record { text = own.now; range = range })
         ∷ formula_report quoted.now formula.now ∷ []) }
 {
+    let first = only(alloc, def_report(alloc, &theory.name, own, range)?);
+    let (mut reports, formula) = both(first, formula_report(alloc, quoted, formula))?;
+    reports.push(formula)?;
+    Ok(reports)
+}
+
+fn only(alloc: Global, report: Report) -> Result<Items<Report>, AllocError>
+    ensures { IfOk result (λ reports. reports ≡ report ∷ []) }
+{
     let mut reports = Items::new(alloc);
-    reports.push(def_report(alloc, &theory.name, own, range)?)?;
-    reports.push(formula_report(alloc, quoted, formula)?)?;
+    reports.push(report)?;
     Ok(reports)
 }
 
@@ -67,28 +76,18 @@ pub fn axiom_made(
     ensures { Tries (axiom_made theory.now name.now quoted.now) result }
 {
     let (own, formula) = stated(alloc, theory, name, quoted)?;
-    match stated_reports(alloc, theory, &own, name.range, quoted, &formula) {
-        Ok(reports) => {
-            let more = with_fact(alloc, theory, &own, formula)?;
-            Ok(makes(Place::Theory(more), reports))
-        }
-        Err(_) => {
-            drop(formula);
-            Err(Halt::NoMemory)
-        }
-    }
+    let reports = stated_reports(alloc, theory, &own, name.range, quoted, &formula);
+    let (more, reports) = both(with_fact(alloc, theory, &own, formula), reports)?;
+    Ok(makes(Place::Theory(more), reports))
 }
 
 /// The place where the proof of this goal begins.
 fn in_proof(alloc: Global, theory: &Theory, name: Name, goal: Formula) -> Result<Place, AllocError>
     ensures { IfOk result (λ p. p ≡ place.Proof theory.now name goal (Prove goal [])) }
 {
-    let Ok(proved) = goal.copy(alloc) else {
-        drop(goal);
-        return Err(AllocError);
-    };
-    let Ok(theory) = theory.copy(alloc) else {
-        drop((goal, proved));
+    let copies = both(theory.copy(alloc), goal.copy(alloc));
+    let Ok((theory, proved)) = copies else {
+        drop((name, goal));
         return Err(AllocError);
     };
     let proof = Proof::start(proved);
@@ -110,11 +109,7 @@ pub fn lemma_made(
     ensures { Tries (lemma_made theory.now name.now quoted.now) result }
 {
     let (own, goal) = stated(alloc, theory, name, quoted)?;
-    match stated_reports(alloc, theory, &own, name.range, quoted, &goal) {
-        Ok(reports) => Ok(makes(in_proof(alloc, theory, own, goal)?, reports)),
-        Err(_) => {
-            drop(goal);
-            Err(Halt::NoMemory)
-        }
-    }
+    let reports = stated_reports(alloc, theory, &own, name.range, quoted, &goal);
+    let (place, reports) = both(in_proof(alloc, theory, own, goal), reports)?;
+    Ok(makes(place, reports))
 }

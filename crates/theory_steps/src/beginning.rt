@@ -1,5 +1,5 @@
 //! The beginning of a theory.
-ghost use Rattle.std.specs.Prelude.{◌≡◌, ◌∷◌, IfOk, map};
+ghost use Rattle.std.specs.Prelude.{◌≡◌, ◌∷◌, ◌++◌, [], IfOk, OnOk, map};
 ghost use Rattle.doc_nodes.specs.Names.{equal};
 ghost use Rattle.isar_rules.specs.Reports.{theory_report, import_report};
 ghost use Rattle.isar_rules.specs.Theories.{facts_or, begins, begun};
@@ -9,6 +9,7 @@ use crate::effect::{Effect, makes};
 use crate::facts::name_of;
 use command_reports::{Halt, import_report, named_refusal, refusal, theory_report};
 use isar_rules::{Given, Place, Spot, Theory};
+use joined_results::each_of_three;
 use nj_formula::Name;
 use report_markup::Report;
 use sqlite_items::Items;
@@ -41,14 +42,21 @@ fn heading(alloc: Global, name: &Spot, imports: &[Spot]) -> Result<Items<Report>
     ensures { IfOk result (λ reports. reports
         ≡ theory_report name.now ∷ map import_report imports.now) }
 {
+    let first = theory_report(alloc, name)?;
     let mut reports = Items::new(alloc);
-    reports.push(theory_report(alloc, name)?)?;
+    reports.push(first)?;
     let mut rest = imports;
     'imports: while let [import, more @ ..] = rest {
-        reports.push(import_report(alloc, import)?)?;
+        add_import(alloc, &mut reports, import)?;
         rest = more;
     }
     Ok(reports)
+}
+
+fn add_import(alloc: Global, reports: &mut Items<Report>, import: &Spot) -> Result<(), AllocError>
+    ensures { OnOk result (reports.new ≡ reports.old ++ import_report import.now ∷ []) }
+{
+    reports.push(import_report(alloc, import)?)
 }
 
 /// The theory of these facts, unless a keyword is bad.
@@ -64,10 +72,10 @@ fn begins(
     if let Some(keyword) = keyword {
         return Err(named_refusal(alloc, "bad keyword ", keyword.as_slice()));
     }
-    let own = name_of(alloc, name.text.as_slice())?;
-    let reports = heading(alloc, name, imports)?;
-    let facts = facts.copy()?;
-    Ok(makes(Place::Theory(Theory { name: own, facts }), reports))
+    let own = name_of(alloc, name.text.as_slice());
+    let parts = each_of_three(own, facts.copy(), heading(alloc, name, imports));
+    let (name, facts, reports) = parts?;
+    Ok(makes(Place::Theory(Theory { name, facts }), reports))
 }
 
 /// `theory`, in the node of this name. The error is the first that holds: another name than the
@@ -83,7 +91,9 @@ pub fn begun(
     ensures { Tries (begun node.now given.now keyword.now name.now imports.now) result }
 {
     let own = name_of(alloc, name.text.as_slice())?;
-    if !is_same(&own, node) {
+    let is_node = is_same(&own, node);
+    drop(own);
+    if !is_node {
         return Err(refusal(alloc, "theory name differs"));
     }
     let facts = facts_or(alloc, given)?;

@@ -12,13 +12,13 @@ use Rattle.proof_state.specs.contracts.frame.Purpose as purpose
 use Rattle.proof_state.specs.contracts.around.Around as around
 use Rattle.proof_state.specs.contracts.levels.Levels as levels
 use Rattle.proof_state.specs.contracts.proof.Proof as proof
-use Rattle.toplevel.proofs.CrossingParts.{name_send, name_sync, formula_field_send, formula_field_sync, name_set_send, name_set_sync, locals_send, locals_sync}
+use Rattle.toplevel.proofs.CrossingParts.{name_send, name_sync, formula_send, formula_sync, formula_field_send, formula_field_sync, name_set_send, name_set_sync, locals_send, locals_sync}
 
 pub local_fact_field_send : IsSend local_fact.the_field.row
-local_fact_field_send = search (name_send, formula_field_send, kit.crosses, sendable) depth 60 fits 20000
+local_fact_field_send = search (name_send, formula_send, formula_sync, kit.crosses, sendable) depth 60 fits 20000
 
 pub local_fact_field_sync : IsSync local_fact.the_field.row
-local_fact_field_sync = search (name_sync, formula_field_sync, kit.crosses, sendable) depth 60 fits 20000
+local_fact_field_sync = search (name_sync, formula_send, formula_sync, kit.crosses, sendable) depth 60 fits 20000
 
 pub local_fact_send : IsSend local_fact.the_row
 local_fact_send = search (local_fact_field_send, sendable) depth 60 fits 20000
@@ -27,10 +27,10 @@ pub local_fact_sync : IsSync local_fact.the_row
 local_fact_sync = search (local_fact_field_sync, sendable) depth 60 fits 20000
 
 pub subgoal_field_send : IsSend subgoal.the_field.row
-subgoal_field_send = search (name_send, formula_field_send, sendable) depth 60 fits 20000
+subgoal_field_send = search (name_send, formula_send, formula_sync, kit.crosses, sendable) depth 60 fits 20000
 
 pub subgoal_field_sync : IsSync subgoal.the_field.row
-subgoal_field_sync = search (name_sync, formula_field_sync, sendable) depth 60 fits 20000
+subgoal_field_sync = search (name_sync, formula_send, formula_sync, kit.crosses, sendable) depth 60 fits 20000
 
 pub subgoal_send : IsSend subgoal.the_row
 subgoal_send = search (subgoal_field_send, sendable) depth 60 fits 20000
@@ -51,10 +51,10 @@ pub variables_sync : IsSync variables.the_row
 variables_sync = search (name_send, name_sync, name_set_send, name_set_sync, kit.crosses, trees.crosses, sendable) depth 60 fits 20000
 
 pub block_field_send : IsSend block.the_field.row
-block_field_send = search (formula_field_send, facts_send, variables_send, subgoal_send, kit.crosses, sendable) depth 60 fits 20000
+block_field_send = search (formula_send, formula_sync, facts_send, variables_send, subgoal_send, kit.crosses, sendable) depth 60 fits 20000
 
 pub block_field_sync : IsSync block.the_field.row
-block_field_sync = search (formula_field_sync, facts_sync, variables_sync, subgoal_sync, kit.crosses, sendable) depth 60 fits 20000
+block_field_sync = search (formula_send, formula_sync, facts_sync, variables_sync, subgoal_sync, kit.crosses, sendable) depth 60 fits 20000
 
 pub block_send : IsSend block.the_row
 block_send = search (block_field_send, sendable) depth 60 fits 20000
@@ -69,10 +69,10 @@ pub purpose_field_sync : IsSync purpose.the_field.row
 purpose_field_sync = search (name_sync, kit.crosses, sendable) depth 60 fits 20000
 
 pub frame_field_send : IsSend frame.the_field.row
-frame_field_send = search (block_field_send, purpose_field_send, sendable) depth 60 fits 20000
+frame_field_send = search (block_send, block_sync, purpose_field_send, kit.crosses, sendable) depth 60 fits 20000
 
 pub frame_field_sync : IsSync frame.the_field.row
-frame_field_sync = search (block_field_sync, purpose_field_sync, sendable) depth 60 fits 20000
+frame_field_sync = search (block_send, block_sync, purpose_field_sync, kit.crosses, sendable) depth 60 fits 20000
 
 pub frame_send : IsSend frame.the_row
 frame_send = search (frame_field_send, sendable) depth 60 fits 20000

@@ -10,6 +10,7 @@ ghost use Rattle.command_reports.specs.Tries.{Tries};
 
 use command_reports::{Halt, announced, error_report};
 use isar_rules::{Place, State, Theory};
+use joined_results::both;
 use language::Made;
 use nj_formula::{Formula, Name};
 use outer_tokens::Token;
@@ -30,21 +31,16 @@ fn in_proof(
 ) -> Result<Place, AllocError>
     ensures { IfOk result (λ p. p ≡ place.Proof theory.now name.now goal.now proof.now) }
 {
-    let name = name.copy(alloc)?;
-    let theory = theory.copy(alloc)?;
-    let goal = goal.copy(alloc)?;
-    match proof.copy(alloc) {
-        Ok(proof) => Ok(Place::Proof {
-            theory,
-            name,
-            goal,
-            proof,
-        }),
-        Err(fault) => {
-            drop((theory, goal));
-            Err(fault)
-        }
-    }
+    let ((theory, name), (goal, proof)) = both(
+        both(theory.copy(alloc), name.copy(alloc)),
+        both(goal.copy(alloc), proof.copy(alloc)),
+    )?;
+    Ok(Place::Proof {
+        theory,
+        name,
+        goal,
+        proof,
+    })
 }
 
 /// The place behind an error.
@@ -108,7 +104,7 @@ fn made_at(
             forks,
         }),
         Err(fault) => {
-            drop(place);
+            drop((place, reports));
             Err(fault)
         }
     }
@@ -150,8 +146,8 @@ fn refused(
         ≡ made_by source.now tokens.now before.now (Err (string_bytes text))) }
 {
     let error = error_reports(alloc, source, text)?;
-    let all = reported(alloc, source, tokens, error)?;
-    let place = after_error(alloc, &before.place)?;
+    let all = reported(alloc, source, tokens, error);
+    let (place, all) = both(after_error(alloc, &before.place), all)?;
     made_at(before, place, all, false)
 }
 

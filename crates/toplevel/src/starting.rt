@@ -7,6 +7,7 @@ ghost use Rattle.isar_rules.specs.Starts.{facts_at, facts_of, given_from, start}
 
 use doc_nodes::NodeAliases;
 use isar_rules::{Given, Place, State};
+use joined_results::{both, each_of_three};
 use language::{Imported, Imports};
 use nj_formula::Name;
 use pide_base::NodeName;
@@ -94,9 +95,12 @@ fn before_all(
     ensures { IfOk result (λ p. p
         ≡ place.Start node.now (given_from imports.now) aliases.now.bad) }
 {
-    let node = Name::new(alloc, node.as_str())?;
-    let bad_keyword = bad_keyword(alloc, aliases)?;
-    let given = given_from(alloc, imports)?;
+    let parts = each_of_three(
+        Name::new(alloc, node.as_str()),
+        given_from(alloc, imports),
+        bad_keyword(alloc, aliases),
+    );
+    let (node, given, bad_keyword) = parts?;
     Ok(Place::Start {
         node,
         given,
@@ -113,10 +117,7 @@ pub(crate) fn start(
 ) -> Result<State, AllocError>
     ensures { IfOk result (λ state. state ≡ start node.now imports.now aliases.now) }
 {
-    let pairs = aliases.pairs.copy()?;
-    let place = before_all(alloc, node, imports, aliases)?;
-    Ok(State {
-        place,
-        aliases: pairs,
-    })
+    let place = before_all(alloc, node, imports, aliases);
+    let (place, aliases) = both(place, aliases.pairs.copy())?;
+    Ok(State { place, aliases })
 }

@@ -9,6 +9,7 @@ use crate::sources::unfinished;
 use doc_nodes::Shared;
 use exec_rules::{Home, Input};
 use exec_table::Execs;
+use joined_results::each_of_three;
 use pide_base::{ExecId, Flag, Part, PartKind};
 use sqlite_items::Items;
 use std::alloc::{AllocError, Global};
@@ -51,9 +52,9 @@ fn new_execution<R>(
 ) -> Result<Fresh, AllocError>
     ensures { IfOk result (λ one. IsBegun execs.now.rows exec home one) }
 {
-    let task = first_task(alloc, execs, exec, &home.input)?;
-    let flag = Flag::new(alloc)?;
-    let home = shared(alloc, home)?;
+    let task = first_task(alloc, execs, exec, &home.input);
+    let flag = Flag::new(alloc);
+    let (task, flag, home) = each_of_three(task, flag, shared(alloc, home))?;
     Ok(Fresh {
         known: Known { home, flag },
         task,

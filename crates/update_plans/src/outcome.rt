@@ -15,6 +15,7 @@ use doc_nodes::Nodes;
 use exec_assign::{Assignment, ToldNode};
 use exec_rules::{Blobs, Home, Version};
 use exec_table::Execs;
+use joined_results::{both, each_of_three};
 use sqlite_items::Items;
 use std::alloc::{AllocError, Global};
 
@@ -39,19 +40,19 @@ pub(crate) fn version_made(
     ensures next { IfOk result (λ outcome. outcome.next ≡ made.next) }
     ensures standing { IfOk result (λ outcome. outcome.standing ≡ made.standing) }
 {
+    let (nodes, blobs, made) = each_of_three(nodes.copy(), blobs.copy(), Ok(made))?;
     let Assignment {
         assigned,
         homes,
         next,
         standing,
     } = made;
-    let version = Version {
-        nodes: nodes.copy()?,
-        blobs: blobs.copy()?,
-        assigned,
-    };
     Ok(Outcome {
-        version,
+        version: Version {
+            nodes,
+            blobs,
+            assigned,
+        },
         homes,
         next,
         standing,
@@ -89,9 +90,15 @@ pub(crate) fn steps_of<R>(
         next: behind,
         standing,
     } = outcome;
-    let dropped = dropped(alloc, before, &version, standing.as_slice())?;
-    let sights = sights(alloc, before, &version, standing.as_slice())?;
-    let fresh = new_executions(alloc, execs, next, homes)?;
+    let dropped = dropped(alloc, before, &version, standing.as_slice());
+    let sights = sights(alloc, before, &version, standing.as_slice());
+    let fresh = new_executions(alloc, execs, next, homes);
+    let seen = both(dropped, sights);
+    let (fresh, (dropped, sights), (version, told)) = each_of_three(
+        fresh,
+        seen,
+        Ok((version, told)),
+    )?;
     Ok(Steps {
         version,
         next: behind,

@@ -24,6 +24,7 @@ use doc_nodes::Nodes;
 use exec_assign::{AssignFault, ChangedBlobs, ToldNode, Update};
 use exec_rules::{Blobs, Version, numbers_law};
 use exec_table::Execs;
+use joined_results::both;
 use pide_base::ExecId;
 use std::alloc::Global;
 
@@ -94,8 +95,10 @@ pub fn work_out<R>(
     let cancelled = CancelledOf::of(execs);
     let update = Update::of(alloc, before, nodes, blobs, &cancelled, changed, &marks)?;
     let made = update.assign(alloc, next)?;
-    let told = update.listed(alloc, &made)?;
-    let outcome = version_made(nodes, blobs, made)?;
+    let told = update.listed(alloc, &made);
+    drop(update);
+    drop(marks);
+    let (outcome, told) = both(version_made(nodes, blobs, made), told)?;
     let steps = steps_of(alloc, execs, next, before, outcome, told)?;
     Ok(steps)
 }

@@ -4,6 +4,7 @@ ghost use Rattle.xml_codec.specs.Data.{IsShort, int_body, bool_body, string_body
 ghost use Rattle.xml_codec.specs.Faults.{IsHere};
 
 use crate::fault::DataFault;
+use crate::node::one_tree;
 use crate::number::int_of;
 use itoa::Buffer;
 use sqlite_items::Items;
@@ -41,9 +42,8 @@ pub fn put_string(alloc: Global, text: &str) -> Result<Body, AllocError>
 fn text_body(alloc: Global, text: &str) -> Result<Body, AllocError>
     ensures { IfOk result (λ body. body ≡ Tree.Text text.now ∷ []) }
 {
-    let mut body = Items::new(alloc);
-    body.push(Tree::Text(XmlString::from_str(alloc, text)?))?;
-    Ok(body)
+    let text = XmlString::from_str(alloc, text)?;
+    one_tree(alloc, Tree::Text(text))
 }
 
 /// The text of a body that is one text and nothing else.
@@ -53,11 +53,10 @@ fn only_text(body: Body) -> Option<XmlString>
 {
     let mut body = body;
     let last = body.pop()?;
-    if !body.is_empty() {
-        return None;
-    }
+    let is_alone = body.is_empty();
+    drop(body);
     match last {
-        Tree::Text(text) => Some(text),
+        Tree::Text(text) => { if is_alone { Some(text) } else { None } }
         Tree::Elem { .. } => None,
     }
 }

@@ -4,9 +4,29 @@ ghost use Rattle.xml_codec.specs.Data.{node, pair_body, list_body, option_body};
 ghost use Rattle.xml_codec.specs.Faults.{IsNodesFault, any_number, two, at_most_one};
 
 use crate::fault::DataFault;
+use joined_results::both;
 use sqlite_items::Items;
 use std::alloc::{AllocError, Global};
 use xml_tree::{Body, Tree, XmlName};
+
+/// The body of one tree.
+pub(crate) fn one_tree(alloc: Global, tree: Tree) -> Result<Body, AllocError>
+    ensures { IfOk result (λ body. body ≡ tree ∷ []) }
+{
+    let mut body = Items::new(alloc);
+    body.push(tree)?;
+    Ok(body)
+}
+
+/// The body of two trees.
+fn two_trees(alloc: Global, first: Tree, second: Tree) -> Result<Body, AllocError>
+    ensures { IfOk result (λ body. body ≡ first ∷ second ∷ []) }
+{
+    let mut body = Items::new(alloc);
+    let pushed = both(body.push(first), body.push(second));
+    pushed?;
+    Ok(body)
+}
 
 /// An element `:` without attributes.
 fn node(alloc: Global, body: Body) -> Result<Tree, AllocError>
@@ -44,10 +64,8 @@ fn node_body(tree: Tree) -> Option<Body>
 pub fn put_pair(alloc: Global, first: Body, second: Body) -> Result<Body, AllocError>
     ensures { IfOk result (λ body. body ≡ pair_body first second) }
 {
-    let mut body = Items::new(alloc);
-    body.push(node(alloc, first)?)?;
-    body.push(node(alloc, second)?)?;
-    Ok(body)
+    let (first, second) = both(node(alloc, first), node(alloc, second))?;
+    two_trees(alloc, first, second)
 }
 
 /// The body of a list: a node for each item. It goes from the back, as `Items` gives up its items
@@ -68,11 +86,10 @@ pub fn put_list(alloc: Global, items: Items<Body>) -> Result<Body, AllocError>
 pub fn put_option(alloc: Global, item: Option<Body>) -> Result<Body, AllocError>
     ensures { IfOk result (λ body. body ≡ option_body item) }
 {
-    let mut body = Items::new(alloc);
-    if let Some(item) = item {
-        body.push(node(alloc, item)?)?;
+    match item {
+        Some(item) => one_tree(alloc, node(alloc, item)?),
+        None => Ok(Items::new(alloc)),
     }
-    Ok(body)
 }
 
 /// The bodies of the items of a list. The place of a fault is the first child that is no node. It

@@ -4,8 +4,10 @@ ghost use Rattle.xml_codec.specs.Data.{numbered_from, variant_body};
 ghost use Rattle.xml_codec.specs.Faults.{IsVariantFault};
 
 use crate::fault::DataFault;
+use crate::node::one_tree;
 use crate::number::number_of;
 use itoa::Buffer;
+use joined_results::both;
 use sqlite_items::Items;
 use std::alloc::{AllocError, Global};
 use xml_tree::{Attribute, Body, Tree, XmlName, XmlString};
@@ -20,15 +22,15 @@ pub fn put_variant(
 ) -> Result<Body, AllocError>
     ensures { IfOk result (λ body. body ≡ variant_body index values argument) }
 {
-    let name = printed(alloc, index)?;
-    let attributes = numbered(alloc, values)?;
-    let mut body = Items::new(alloc);
-    body.push(Tree::Elem {
-        name,
-        attributes,
-        body: argument,
-    })?;
-    Ok(body)
+    let (name, attributes) = both(printed(alloc, index), numbered(alloc, values))?;
+    one_tree(
+        alloc,
+        Tree::Elem {
+            name,
+            attributes,
+            body: argument,
+        },
+    )
 }
 
 fn printed(alloc: Global, number: u64) -> Result<XmlName, AllocError>
@@ -93,20 +95,27 @@ pub fn get_variant(alloc: Global, body: Body) -> Result<(u64, Items<XmlString>, 
         → body ≢ variant_body index values argument) }
 {
     if body.len() != 1 {
+        drop(body);
         return Err(DataFault::here(alloc));
     }
     let mut body = body;
+    let element = body.pop();
+    drop(body);
     let Some(
         Tree::Elem {
             name,
             attributes,
             body: argument,
         },
-    ) = body.pop()
+    ) = element
     else {
         return Err(DataFault::at_child(alloc, 0));
     };
-    let Some(index) = number_of(name.as_str()) else {
+    let index = number_of(name.as_str());
+    drop(name);
+    let Some(index) = index else {
+        drop(attributes);
+        drop(argument);
         return Err(DataFault::at_child(alloc, 0));
     };
     let Some(values) = values_of(alloc, attributes)? else {

@@ -20,8 +20,8 @@ places-preserved c =
     let found = c.places.invariant.found in
     record {
       len = c.places.invariant.len;
-      found = turn_step c.args.nodes.now c.order-place-items.result.now c.places.all.items found.0 c.places.place-index c.in_ok-found.found same len c.places-test.true found.1
-          (c.in_ok-found.ensures found.0 (subst (λ (all : List NodeAliases). AreKnown all found.0) (sym c.deref.ensures.value) found.1))
+      found = turn_step c.args.nodes.now c.order-place-items.result.now c.places.all.items found.0 c.places.place-index c.replace.new.dest same len c.places-test.true found.1
+          (c.replace.ensures.after ∙ c.in_ok-found.ensures found.0 (subst (λ (all : List NodeAliases). AreKnown all found.0) (sym c.deref.ensures.value) found.1))
           found.2;
     }
 

@@ -23,9 +23,8 @@ returns c =
     let before = commands_in c.commands-old.result.text.now c.commands-old.result.entries.now in
     let Gives : Sheet → AliasList → Type 0 = λ s a. GivesCut s a before c.args.next (Ok made) in
     let so : GivesCut opened.sheet aliases before c.args.next (Ok made) =
-    subst (λ s. Gives s aliases) c.sheet.ensures (subst (λ a. Gives c.sheet.result.now a) c.get-5.ensures c.in_ok-made.ensures) in
-    let under : AliasList → OpenSheet = λ a. record { sheet = opened.sheet; cut_under = Some a } in (
+    subst (λ s. Gives s aliases) c.sheet.ensures (subst (λ a. Gives c.sheet.result.now a) c.get-5.ensures c.in_ok-made.ensures) in (
       made_so tip name opened c.args.node.now aliases c.args.next before made so c.commands-old.ensures.commands
           (c.ids_law.ensures (before_in tip name) (sources opened.sheet aliases) c.args.next).counted,
-      c.in_ok-with_cut.ensures ∙ ap under c.in_ok-copy.ensures,
+      c.in_ok-opened.ensures,
     )

@@ -7,30 +7,25 @@ use Rattle.report_markup.specs.declared.report.Report.{Report}
 use Rattle.markup_lines.specs.OneText.{one_sheet}
 use Rattle.text_check.specs.Headings.{begins, heading_of}
 use Rattle.text_check.specs.Walking.{reports_from}
-use Rattle.text_check.proofs.OneMarkup.{Numbered, found_at, lie_so, markup_so, ranges_by}
+use Rattle.text_check.proofs.OneMarkup.{Numbered, lie_so, markup_so, ranges_by}
 use Rattle.text_check.proofs.markup.markup_of.Goals as goal
 
 pub walk-requires-after_bounds : goal.walk-requires-after_bounds
 walk-requires-after_bounds g c κs bounds =
     let numbered : Numbered = λ now. (c.ids_law.ensures [] now 1).counted in
-    let ranges = found_at c.args.text.now c.in_ok-heading.heading c.get.result.now c.names.result.now c.in_ok-spans.spans c.in_ok-ranges.ranges.items
-    c.in_ok-heading.ensures c.get.ensures c.names.ensures c.in_ok-spans.ensures c.in_ok-ranges.ensures in
-    rw (c.deref.ensures.value, ranges) (lie_so numbered c.args.text.now (c.places_law.ensures [] (one_sheet c.args.text.now) 1))
+    rw (c.deref.ensures.value, c.in_ok-ranges.ensures.places) (lie_so numbered c.args.text.now (c.places_law.ensures [] (one_sheet c.args.text.now) 1))
 
 pub returns : goal.returns
 returns g c =
     let l = g.L.Language.lang in
     let text = c.args.text.now in
     let numbered : Numbered = λ now. (c.ids_law.ensures [] now 1).counted in
-    let ranges = c.deref.ensures.value
-    ∙ found_at text c.in_ok-heading.heading c.get.result.now c.names.result.now c.in_ok-spans.spans c.in_ok-ranges.ranges.items
-    c.in_ok-heading.ensures c.get.ensures c.names.ensures c.in_ok-spans.ensures c.in_ok-ranges.ensures in
-    let first : c.in_ok-begins.begins ≡ begins l (heading_of text) = c.in_ok-begins.ensures ∙ ap (begins l) c.in_ok-heading.ensures in
+    let ranges = c.deref.ensures.value ∙ c.in_ok-ranges.ensures.places in
     let all = reports_from l text (ranges_by text (heading_of text)) (begins l (heading_of text)) in
     let walked : (f : Report → ℕ) → sum_by f c.in_ok-all.all.items ≡ sum_by f all =
     λ f. c.in_ok-all.ensures f
-    ∙ ap (λ (rs : List Range). sum_by f (reports_from l text rs c.in_ok-begins.begins)) ranges
-    ∙ ap (λ (s : g.row.L-State.Denot). sum_by f (reports_from l text (ranges_by text (heading_of text)) s)) first in
+    ∙ ap (λ (rs : List Range). sum_by f (reports_from l text rs c.in_ok-ranges.begins)) ranges
+    ∙ ap (λ (s : g.row.L-State.Denot). sum_by f (reports_from l text (ranges_by text (heading_of text)) s)) c.in_ok-ranges.ensures.begins in
     (c.one_order.ensures.one all).1 c.sort.new.self.items (record {
       same = λ f. sum_by-IsPermutation f _ _ c.in_ok-sort.ensures.permutation ∙ walked f;
       sorted = c.in_ok-sort.ensures.sorted;

@@ -1,4 +1,4 @@
-use Rattle.std.proofs.Common.{◌≡◌, sym, subst, ◌∙◌}
+use Rattle.std.proofs.Common.{◌≡◌, sym, subst, rules}
 use Rattle.std.specs.List.{AllByRecursion}
 use Rattle.exec_rules.specs.declared.version.Version.{Version}
 use Rattle.exec_rules.specs.Assigning.{Update}
@@ -18,25 +18,30 @@ steps_of-requires-clause-follows g c =
     let u : Update = update_by c.args.execs.now.rows c.args.before.now c.args.nodes.now c.args.blobs.now in
     let same = same_update c.of-cancelled.result.execs.now c.args.execs.now c.args.before.now c.args.nodes.now c.args.blobs.now c.in_ok-update.update
     c.of-cancelled.ensures c.in_ok-update.ensures in
-    follows_then u c.in_ok-update.update c.args.next c.in_ok-made.made.assigned c.in_ok-outcome.outcome.version same c.in_ok-made.ensures.assigned
-    c.in_ok-outcome.ensures.version c.in_ok-made.ensures.rows c.in_ok-made.made.standing c.in_ok-outcome.outcome.standing c.in_ok-made.made.next
-    c.in_ok-made.ensures.standing c.in_ok-made.ensures.next c.in_ok-made.ensures.within c.requires.succeeds c.in_ok-outcome.ensures.standing
+    let outcome = c.in_ok-outcome.outcome in
+    let version : outcome.version ≡ record { nodes = u.nodes; blobs = u.blobs; assigned = c.in_ok-made.made.assigned } = search rules in
+    let standing : outcome.standing ≡ c.in_ok-made.made.standing = search rules in
+    follows_then u c.in_ok-update.update c.args.next c.in_ok-made.made.assigned outcome.version same c.in_ok-made.ensures.assigned
+    version c.in_ok-made.ensures.rows c.in_ok-made.made.standing outcome.standing c.in_ok-made.made.next
+    c.in_ok-made.ensures.standing c.in_ok-made.ensures.next c.in_ok-made.ensures.within c.requires.succeeds standing
 
 pub returns-clause-version : goal.returns-clause-version
 returns-clause-version g c =
     let u : Update = update_by c.args.execs.now.rows c.args.before.now c.args.nodes.now c.args.blobs.now in
     let same = same_update c.of-cancelled.result.execs.now c.args.execs.now c.args.before.now c.args.nodes.now c.args.blobs.now c.in_ok-update.update
     c.of-cancelled.ensures c.in_ok-update.ensures in
+    let version : c.in_ok-steps.steps.version ≡ record { nodes = u.nodes; blobs = u.blobs; assigned = c.in_ok-made.made.assigned } = search rules in
     made_then u c.in_ok-update.update c.args.next c.in_ok-made.made.assigned c.in_ok-steps.steps.version same c.in_ok-made.ensures.assigned
-    (c.in_ok-steps.ensures.version ∙ c.in_ok-outcome.ensures.version) c.in_ok-made.ensures.rows
+    version c.in_ok-made.ensures.rows
 
 pub returns-clause-rows : goal.returns-clause-rows
 returns-clause-rows g c =
     let u : Update = update_by c.args.execs.now.rows c.args.before.now c.args.nodes.now c.args.blobs.now in
     let same = same_update c.of-cancelled.result.execs.now c.args.execs.now c.args.before.now c.args.nodes.now c.args.blobs.now c.in_ok-update.update
     c.of-cancelled.ensures c.in_ok-update.ensures in
+    let version : c.in_ok-steps.steps.version ≡ record { nodes = u.nodes; blobs = u.blobs; assigned = c.in_ok-made.made.assigned } = search rules in
     fits_then u c.in_ok-update.update c.args.next c.in_ok-made.made.assigned c.in_ok-steps.steps.version same c.in_ok-made.ensures.assigned
-    (c.in_ok-steps.ensures.version ∙ c.in_ok-outcome.ensures.version) c.in_ok-made.ensures.rows
+    version c.in_ok-made.ensures.rows
 
 pub returns-clause-sees : goal.returns-clause-sees
 returns-clause-sees g c =

@@ -32,8 +32,8 @@ new-requires g c =
     c.in-Job.ensures.claimed in
     c.in-Ok.ensures ∙ ap (λ (p : Part). spelling (tells.Dropped p)) (sym found)
 
-pub invariant_of-self-in-Nothing-1 : goal.invariant_of-self-in-Nothing-1
-invariant_of-self-in-Nothing-1 g c =
+pub invariant_of-self-in-Nothing : goal.invariant_of-self-in-Nothing
+invariant_of-self-in-Nothing g c =
     let inside = c.self.inside in
     still_kept g.L.Language.lang inside.service inside.outbox c.make_room.new.outbox _ inside.last inside.held _ _ c.self.invariant
     c.make_room.ensures.items c.make_room.ensures.waiting c.make_room.ensures.free _ c.in-Nothing.ensures.claimed.1 (λ w. refl)
@@ -46,8 +46,8 @@ returns-in-Nothing-clause-claimed g c =
           c.in-Nothing.ensures.claimed.0,
     )
 
-pub invariant_of-self-in-NoMemory-1 : goal.invariant_of-self-in-NoMemory-1
-invariant_of-self-in-NoMemory-1 g c =
+pub invariant_of-self-in-NoMemory : goal.invariant_of-self-in-NoMemory
+invariant_of-self-in-NoMemory g c =
     let inside = c.self.inside in
     still_kept g.L.Language.lang inside.service inside.outbox c.make_room.new.outbox _ inside.last inside.held _ _ c.self.invariant
     c.make_room.ensures.items c.make_room.ensures.waiting c.make_room.ensures.free _ c.in-NoMemory.ensures.claimed (λ w. refl)

@@ -4,5 +4,5 @@ use Rattle.document_session.proofs.Begun.{begun}
 use Rattle.document_session.proofs.session.Session.new.Goals as goal
 
 pub invariant_of-result : goal.invariant_of-result
-invariant_of-result g c = begun g.L.Language.lang c.args.service _ _ _ _ c.in_ok-outbox.ensures.items c.in_ok-outbox.ensures.waiting
-    c.in_ok-outbox.ensures.free c.new-3.ensures c.in-Ok.ensures c.requires.workers (λ who. ap (lookup (λ x. who == x)) c.new-4.ensures.empty)
+invariant_of-result g c = begun g.L.Language.lang c.args.service _ _ _ _ c.in-Ok-new.ensures.items c.in-Ok-new.ensures.waiting
+    c.in-Ok-new.ensures.free c.new-in-Ok-new.ensures c.in-Ok.ensures c.requires.workers (λ who. ap (lookup (λ x. who == x)) c.new-in-Ok-new-2.ensures.empty)

@@ -82,9 +82,9 @@ invariant_of-self-in-Removed g c =
     subst (λ (h : List Event). IsKept l inside.service c.add.new.self (session_of inside.buffer h inside.protocol true)
     inside.last inside.held (λ who. looked inside.jobs who)) (sym same)
     (c.change_laws.ensures.removed inside.service st c.args.message ids _
-    (replied_by l inside.service inside.outbox s inside.last inside.held (λ who. looked inside.jobs who) k _ _ _ _ _ (c.in_ok-reply.ensures (live_among (doc l past) ids) risen)
+    (replied_by l inside.service inside.outbox s inside.last inside.held (λ who. looked inside.jobs who) k _ _ _ _ _ (c.in-Ok-removed_versions.ensures (live_among (doc l past) ids) risen)
     (going_on l _ _ _ s c.self.view_is k.listed c.requires.going)
-    c.make_room.ensures.items c.make_room.ensures.waiting c.in_ok-make_room.ensures.ok
+    c.make_room.ensures.items c.make_room.ensures.waiting c.in-Ok.ensures.ok
     c.add.ensures.items c.add.ensures.waiting c.add.ensures.free)
     (known_inside l (λ service t. asked (mode_of service) c.args.message ≡ Ok (asks.RemoveVersions ids)) _ _ _ s
     c.self.view_is k.listed c.requires.read) removed)

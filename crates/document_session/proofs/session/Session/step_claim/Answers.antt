@@ -83,8 +83,8 @@ returns-in-Nothing-clause-taken g c =
 pub returns-in-Nothing-clause-err : goal.returns-in-Nothing-clause-err
 returns-in-Nothing-clause-err g c = still_err c.self.inside.service c.self.inside.outbox c.make_step_room.new.outbox _ c.self.view_is c.make_step_room.ensures.items c.make_step_room.ensures.waiting c.refuse-in-Nothing.result c.refuse-in-Nothing.new.self c.refuse-in-Nothing.ensures.err
 
-pub invariant_of-self-in-NoMemory-1 : goal.invariant_of-self-in-NoMemory-1
-invariant_of-self-in-NoMemory-1 g c = still_kept g.L.Language.lang _ _ c.make_step_room.new.outbox _ _ _ _ _ c.self.invariant c.make_step_room.ensures.items
+pub invariant_of-self-in-NoMemory : goal.invariant_of-self-in-NoMemory
+invariant_of-self-in-NoMemory g c = still_kept g.L.Language.lang _ _ c.make_step_room.new.outbox _ _ _ _ _ c.self.invariant c.make_step_room.ensures.items
     c.make_step_room.ensures.waiting c.make_step_room.ensures.free _ c.in-NoMemory.ensures.claimed c.make_step_room.ensures.jobs
 
 pub put-requires-clause-new : goal.put-requires-clause-new

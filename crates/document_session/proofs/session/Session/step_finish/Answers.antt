@@ -119,8 +119,8 @@ put-requires-clause-new g c = at_itself c.number_of-who.result None (λ w. looke
 pub put-requires-clause-room : goal.put-requires-clause-room
 put-requires-clause-room g c = omega (arith, c.in_ok-make_step_room.ensures.spare, c.take_out.ensures.room)
 
-pub invariant_of-self-2 : goal.invariant_of-self-2
-invariant_of-self-2 g c =
+pub invariant_of-self-in-Stopped : goal.invariant_of-self-in-Stopped
+invariant_of-self-in-Stopped g c =
     let back = came_back g.L.Language.lang c.in-Some.job c.in-Stopped.job c.run.result _ _ c.run.ensures c.in-Stopped.is in
     let there = sym c.take_out.ensures.value ∙ c.in-Some.is ∙ ap (λ (j : Work _). Some j) (sym back) in
     still_kept g.L.Language.lang _ _ c.make_step_room.new.outbox _ _ _ _ _ c.self.invariant

@@ -18,16 +18,16 @@ places-preserved g c =
     let places = c.order-place-items.result.now in
     let inv = c.places.invariant in (
       assign_one c.args.self.now inv.0 (get_or places c.places.place-index 0),
-      c.in_ok-progress-2.ensures.ok inv.0 inv.1,
+      c.in_ok-assign_one.ensures.ok inv.0 inv.1,
       turn_next c.args.self.now c.graph.result.now places c.places.place-index c.args.next inv.0 c.graph.ensures c.order-place-items.ensures c.places-test.true inv.2,
     )
 
-pub returns-in_err-progress-2-clause-limit : goal.returns-in_err-progress-2-clause-limit
-returns-in_err-progress-2-clause-limit g c = λ is.
+pub returns-in_err-assign_one-clause-limit : goal.returns-in_err-assign_one-clause-limit
+returns-in_err-assign_one-clause-limit g c = λ is.
     let places = c.order-place-items.result.now in
     let inv = c.places.invariant in
     let one : Work = assign_one c.args.self.now inv.0 (get_or places c.places.place-index 0) in
-    let over : id_end < one.next = c.in_err-progress-2.ensures.limit inv.0 inv.1 (search rules) in
+    let over : id_end < one.next = c.in_err-assign_one.ensures.limit inv.0 inv.1 (search rules) in
     omega (
       arith,
       over,

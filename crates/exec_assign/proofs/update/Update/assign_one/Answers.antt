@@ -20,9 +20,9 @@ returns-in-Some-standing-clause-ok g c = λ work is.
     let are = subst (λ (all : List Assigned). AreAssigned all work.done) (sym c.deref.ensures.value) is.are in
     let key : c.in_ok-key.key ≡ key_of u.nodes work.done node = c.in_ok-key.ensures work.done are ∙ ap (λ (ns : NodeList). key_of ns work.done node) nodes in
     let stands : Stands u c.args.place (c.in-Some.name.now, node) c.in_ok-key.key old = c.in-Some-standing.ensures in
-    work_by u _ (set c.args.progress.all.items c.args.place old) _ c.args.progress.homes.items _ c.args.progress.next _ (set c.args.progress.standing.items c.args.place true) _
-    (c.with_old.ensures.all ∙ ap (set c.args.progress.all.items c.args.place) c.in_ok-copy.ensures) c.with_old.ensures.homes c.with_old.ensures.next c.with_old.ensures.standing
-    (work_standing u c.args.progress.all.items c.args.progress.homes.items c.args.progress.next c.args.progress.standing.items work c.args.place (c.in-Some.name.now, node)
+    work_by u c.keep.new.self.all.items (set c.args.progress.now.all.items c.args.place old) c.keep.new.self.homes.items c.args.progress.now.homes.items c.keep.new.self.next c.args.progress.now.next c.keep.new.self.standing.items (set c.args.progress.now.standing.items c.args.place true) _
+    (c.keep.ensures.all ∙ ap (set c.args.progress.now.all.items c.args.place) c.in_ok-copy.ensures) c.keep.ensures.homes c.keep.ensures.next c.keep.ensures.standing
+    (work_standing u c.args.progress.now.all.items c.args.progress.now.homes.items c.args.progress.now.next c.args.progress.now.standing.items work c.args.place (c.in-Some.name.now, node)
     is at (slice_get_within u.nodes c.args.place _ at) old c.in_ok-key.key key stands)
 
 pub returns-in_err-given-clause-limit : goal.returns-in_err-given-clause-limit
@@ -33,16 +33,16 @@ returns-in_err-given-clause-limit g c = λ work is fault.
     let at : slice_get u.nodes c.args.place ≡ Some (c.in-Some.name.now, node) = search rules in
     let are = subst (λ (all : List Assigned). AreAssigned all work.done) (sym c.deref.ensures.value) is.are in
     let key : c.in_ok-key.key ≡ key_of u.nodes work.done node = c.in_ok-key.ensures work.done are ∙ ap (λ (ns : NodeList). key_of ns work.done node) nodes in
-    limit_given u c.args.progress.all.items c.args.progress.homes.items c.args.progress.next c.args.progress.standing.items work c.args.place (c.in-Some.name.now, node)
+    limit_given u c.args.progress.now.all.items c.args.progress.now.homes.items c.args.progress.now.next c.args.progress.now.standing.items work c.args.place (c.in-Some.name.now, node)
     is at (slice_get_within u.nodes c.args.place _ at) c.in_ok-key.key key (c.in_err-given.ensures.limit (search rules))
 
-pub with_given-requires-clause-all : goal.with_given-requires-clause-all
-with_given-requires-clause-all g c =
+pub give-requires-clause-all : goal.give-requires-clause-all
+give-requires-clause-all g c =
     let at : slice_get c.args.self.now.nodes c.args.place ≡ Some (c.in-Some.name.now, c.in-Some.node.now) = search rules in
     omega (arith, c.requires.all, slice_get_within c.args.self.now.nodes c.args.place _ at)
 
-pub with_given-requires-clause-standing : goal.with_given-requires-clause-standing
-with_given-requires-clause-standing g c =
+pub give-requires-clause-standing : goal.give-requires-clause-standing
+give-requires-clause-standing g c =
     let at : slice_get c.args.self.now.nodes c.args.place ≡ Some (c.in-Some.name.now, c.in-Some.node.now) = search rules in
     omega (arith, c.requires.standing, slice_get_within c.args.self.now.nodes c.args.place _ at)
 
@@ -55,8 +55,8 @@ returns-clause-ok g c = λ work is.
     let at : slice_get u.nodes c.args.place ≡ Some (c.in-Some.name.now, node) = let known = c.in-Some.ensures in cc in
     let are = subst (λ (all : List Assigned). AreAssigned all work.done) (sym c.deref.ensures.value) is.are in
     let key : c.in_ok-key.key ≡ key_of u.nodes work.done node = c.in_ok-key.ensures work.done are ∙ ap (λ (ns : NodeList). key_of ns work.done node) nodes in
-    work_by u _ (set c.args.progress.all.items c.args.place given.assigned) _ (c.args.progress.homes.items ++ given.homes) _ given.next _
-    (set c.args.progress.standing.items c.args.place false) _
-    c.in_ok-more.ensures.all c.in_ok-more.ensures.homes c.in_ok-more.ensures.next c.in_ok-more.ensures.standing
-    (work_given u c.args.progress.all.items c.args.progress.homes.items c.args.progress.next c.args.progress.standing.items work c.args.place (c.in-Some.name.now, node)
+    work_by u c.give.new.self.all.items (set c.args.progress.now.all.items c.args.place given.assigned) c.give.new.self.homes.items (c.args.progress.now.homes.items ++ given.homes) c.give.new.self.next given.next _
+    (set c.args.progress.now.standing.items c.args.place false) _
+    c.in_ok-give.ensures.all c.in_ok-give.ensures.homes c.in_ok-give.ensures.next c.in_ok-give.ensures.standing
+    (work_given u c.args.progress.now.all.items c.args.progress.now.homes.items c.args.progress.now.next c.args.progress.now.standing.items work c.args.place (c.in-Some.name.now, node)
     is at (slice_get_within u.nodes c.args.place _ at) given c.in_ok-key.key key c.in_ok-given.ensures.ok c.in_ok-given.ensures.within)

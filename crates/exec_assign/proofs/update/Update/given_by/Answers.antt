@@ -26,5 +26,5 @@ with_prints-requires-clause-long g c =
       ap length c.as_slice.ensures,
     )
 
-pub homes-requires : goal.homes-requires
-homes-requires g c = omega (arith, c.requires.count, c.in_ok-made.ensures.long, ap length c.as_slice-2.ensures)
+pub homes-homes-requires : goal.homes-homes-requires
+homes-homes-requires g c = omega (arith, c.requires.count, c.in_ok-made.ensures.long, ap length c.as_slice-2.ensures)

@@ -1,4 +1,5 @@
 use Rattle.std.proofs.Common.{◌||◌, ◌∙◌, ap}
+use Rattle.std.proofs.lemmas.Result.{IfOk-at_ok}
 use Rattle.std.specs.List.{cons_option, list_any}
 use Rattle.nj_formula.specs.Meaning.{meaning}
 use Rattle.nj_formula.specs.Free.{is_free}
@@ -8,9 +9,9 @@ use Rattle.proof_state.proofs.facts.Facts.kept_with.Goals as goal
 
 pub returns : goal.returns
 returns c = (
-  c.in_ok-cited.ensures
+  IfOk-at_ok _ c.in_ok-cited.ensures.first c.with_named.ensures
       ∙ ap (cons_option (as_local c.args.fact.now)) (c.self.invariant.0 ∙ ap named c.self.view_is),
-  λ x. c.in_ok-free.ensures x
+  λ x. IfOk-at_ok _ c.in_ok-cited.ensures.second c.with_formula-free.ensures x
       ∙ (ap (λ f. is_free x (meaning f) || has_name c.self.inside.free x) c.get.ensures
       ∙ ap (λ b. is_free x (meaning c.args.fact.now.formula) || b)
       (c.self.invariant.1 x

@@ -1,4 +1,4 @@
-use Rattle.std.proofs.Common.{◌≡◌, true, ◌∷◌, Some, sym, ap, subst, ◌∙◌, arith}
+use Rattle.std.proofs.Common.{◌≡◌, true, ◌∷◌, Some, sym, ap, subst, ◌∙◌, arith, rules}
 use Rattle.std.specs.Prelude.{is_some}
 use Rattle.pide_base.specs.declared.part.Part.{Part}
 use Rattle.core_rules.specs.declared.event.Event.TheVariants.{Finished}
@@ -48,9 +48,9 @@ unreachable-requires g c =
     let right = subst (λ (s : CoreState). IsDoneOf g.L.Language.lang (doc g.L.Language.lang s.past).homes c.args.done) (sym c.self.view_is) c.requires.right in
     let taken = is_taken_in _ _ _ c.self.invariant laws c.args.who c.same-exec.result c.args.done c.same-exec.ensures holds wanted right
     c.brought.result c.forks_told-forks.result c.brought.ensures c.forks_told-forks.ensures in
-    let ok = c.finish.ensures.finished.1 (ap is_some taken) in
-    let no = c.is_err.ensures.negation in
-    let is = c.if-is_err.true in absurd (cc)
+    let ok = c.finish-taken.ensures.finished.1 (ap is_some taken) in
+    let no = c.is_err-is_lost.ensures.negation in
+    let is = c.if-is_lost.true in absurd (cc)
 
 pub invariant_of-self-2 : goal.invariant_of-self-2
 invariant_of-self-2 g c =
@@ -60,7 +60,7 @@ invariant_of-self-2 g c =
     let wanted = there_wanted _ _ _ c.self.invariant laws c.args.who c.same-exec.result holds (sym c.if-not-is_present.ensures) in
     let right = subst (λ (s : CoreState). IsDoneOf g.L.Language.lang (doc g.L.Language.lang s.past).homes c.args.done) (sym c.self.view_is) c.requires.right in
     let one = counted _ _ (c.self.invariant.holders c.args.who ∙ holds) in
-    let updates = on_ok c.finish.result _ (sym c.if-is_err.ensures.value) c.finish.ensures.ok in
+    let updates = on_ok c.finish-taken.result _ (search rules) c.finish-taken.ensures.ok in
     moved _ _ _ _ c.add-2.ensures.items
     (finish_kept _ _ _ c.self.invariant laws c.args.who c.same-exec.result c.args.done c.same-exec.ensures holds wanted right
     c.brought.result c.forks_told-forks.result c.brought.ensures c.forks_told-forks.ensures _ _ _ _ _ _

@@ -12,8 +12,8 @@ use Rattle.prover_core.proofs.EndedKept.{moved}
 use Rattle.prover_core.proofs.RemovedKept.{removed_kept}
 use Rattle.prover_core.proofs.prover.Core.remove.Goals as goal
 
-pub invariant_of-self-in-Removed-1 : goal.invariant_of-self-in-Removed-1
-invariant_of-self-in-Removed-1 g c =
+pub invariant_of-self-in-Removed : goal.invariant_of-self-in-Removed
+invariant_of-self-in-Removed g c =
     let going = subst (λ (s : CoreState). has_ended s.past ≡ false) (sym c.self.view_is) c.requires.going in
     let ids : List ℕ = c.as_slice-ids.result.now in
     let forgot = subst (λ (gs : List ℕ). (e : ℕ) → execution_of c.forget.new.self.rows e

@@ -1,7 +1,6 @@
-use Rattle.std.proofs.Common.{◌++◌, sym, ◌∙◌, ap, subst}
+use Rattle.std.proofs.Common.{sym, ◌∙◌, ap, subst}
 use Rattle.std.specs.Option.{is_some}
 use Rattle.shared_map.specs.Pairs.{IsSorted, found}
-use Rattle.shared_map.specs.Cuts.{before, at_key}
 use Rattle.shared_map.specs.Changes.{without}
 use Rattle.shared_map.proofs.KnownSorted.{IsSorted-without}
 use Rattle.shared_map.proofs.KnownFound.{found_without, without_none}
@@ -22,18 +21,13 @@ returns-clause-had g c =
 
 pub invariant_of-self : goal.invariant_of-self
 invariant_of-self g c =
-    let stored =
-    c.in_ok-pairs.ensures ∙ ap (λ front. front ++ c.in_ok-right.right) c.in_ok-left.ensures
-    ∙ ap (λ back. before (at_key g.K.Ord.cmp c.args.key.now) c.self.inside.pairs ++ back) c.in_ok-right.ensures in
-    subst (IsSorted g.K.Ord.cmp) (sym stored) (IsSorted-without g.met.K.Ord.total c.args.key.now c.self.inside.pairs c.self.invariant)
+    subst (IsSorted g.K.Ord.cmp) (sym (c.replace.ensures.after ∙ c.in_ok-pairs.ensures))
+    (IsSorted-without g.met.K.Ord.total c.args.key.now c.self.inside.pairs c.self.invariant)
 
 pub returns-clause-found : goal.returns-clause-found
 returns-clause-found g c other =
-    let stored =
-    c.in_ok-pairs.ensures ∙ ap (λ front. front ++ c.in_ok-right.right) c.in_ok-left.ensures
-    ∙ ap (λ back. before (at_key g.K.Ord.cmp c.args.key.now) c.self.inside.pairs ++ back) c.in_ok-right.ensures
-    ∙ ap (without g.K.Ord.cmp c.args.key.now) c.self.view_is in
-    ap (found g.K.Ord.cmp other) stored ∙ found_without g.met.K.Ord.total c.args.key.now c.args.self.now other
+    ap (found g.K.Ord.cmp other) (c.replace.ensures.after ∙ c.in_ok-pairs.ensures ∙ ap (without g.K.Ord.cmp c.args.key.now) c.self.view_is)
+    ∙ found_without g.met.K.Ord.total c.args.key.now c.args.self.now other
 
 pub returns-clause-sorted : goal.returns-clause-sorted
 returns-clause-sorted g c = invariant_of-self g c

@@ -1,6 +1,6 @@
 use Rattle.std.proofs.Common.{◌≡◌, ℕ, vec_len, slice_index_or}
 use Rattle.doc_nodes.specs.Aliases.{no_aliases}
-use Rattle.doc_nodes.proofs.inherited.without_aliases.Given as goal
+use Rattle.doc_nodes.proofs.inherited.owners.Given as goal
 
 abbrev pub invariant-nodes : goal.invariant-nodes
 invariant-nodes l = record {
