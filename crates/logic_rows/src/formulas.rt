@@ -100,7 +100,8 @@ fn free(alloc: Global, text: &str, name: &str) -> Result<String, AllocError> {
 
 fn instance(alloc: Global, text: &str, name: &str) -> Result<String, AllocError> {
     let term = ObjTerm::name(alloc, name)?;
-    match known(alloc, text)? {
+    let formula = known(alloc, text)?;
+    match &formula {
         Formula::All(_, body) => print(alloc, &body.get().instance(alloc, &term)?),
         _ => String::from_str(alloc, "no generality"),
     }

@@ -149,7 +149,8 @@ fn printed_term(alloc: Global, text: &str) -> Result<String, AllocError> {
 /// The print of an instance of the quantified formula that the text is.
 fn instance(alloc: Global, text: &str, at: &str) -> Result<String, AllocError> {
     let term = known_term(alloc, at)?;
-    match known(alloc, text)? {
+    let formula = known(alloc, text)?;
+    match &formula {
         Formula::All(_, body) => print(alloc, &body.get().instance(alloc, &term)?),
         _ => String::from_str(alloc, "no generality"),
     }

@@ -1,2 +1,0 @@
-pub mod Span
-pub mod Lengths

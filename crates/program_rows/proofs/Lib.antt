@@ -1,2 +1,0 @@
-mod BoardBytes
-mod Quiet
