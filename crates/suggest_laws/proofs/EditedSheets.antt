@@ -3,7 +3,7 @@ use Rattle.std.proofs.Common.{◌≡◌, ℕ, List, [], ◌∷◌, ◌++◌, sym
 use Rattle.doc_headers.specs.Reading.{header_in}
 use Rattle.buffer_rules.specs.declared.sheet.Sheet.{Sheet}
 use Rattle.buffer_rules.specs.Sheets.{SheetList}
-use Rattle.alias_names.specs.SameHeaders.{SameHeaders}
+use Rattle.suggest_laws.specs.SameHeaders.{SameHeaders}
 use Rattle.suggest_laws.specs.Suggesting.{IsEditedAt}
 
 itself : (sheets : SheetList) → SameHeaders sheets sheets

@@ -25,8 +25,8 @@ use Rattle.isar_rules.specs.Starts.{start}
 use Rattle.isar_rules.specs.Steps.{step}
 use Rattle.theory_laws.specs.Clean.{IsClean}
 use Rattle.inserted_commands.specs.Insertion.{IsUnbroken, IsCommandText, sources_in}
-use Rattle.suggested_commands.specs.CitableStates.{alias_names, IsCitableState}
-use Rattle.suggested_commands.specs.Proving.{IsProvedBy}
+use Rattle.suggest_laws.specs.CitableStates.{alias_names, IsCitableState}
+use Rattle.suggest_laws.specs.Proving.{IsProvedBy}
 use Rattle.suggest_laws.specs.Suggesting.{Beginning, node_of, run_of, Suggests, IsTaken}
 use Rattle.suggest_laws.proofs.RunLemmas.{set, runs, after, sources_run, behind_at, at_place, within_run, after_kept, after_aliases}
 use Rattle.suggest_laws.proofs.CutRuns.{commands_are, entry_range}

@@ -1,1 +1,9 @@
+pub mod Lexemes
+pub mod AliasNames
+pub mod SameHeaders
+pub mod Citable
+pub mod Alike
+pub mod ProofTexts
+pub mod CitableStates
+pub mod Proving
 pub mod Suggesting

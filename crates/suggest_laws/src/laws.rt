@@ -1,4 +1,4 @@
-//! The laws.
+//! Suggested proofs in a document.
 ghost use Rattle.std.specs.Prelude.{◌≡◌, ◌+◌, ℕ, List, None, Some, codes, slice_get, map};
 ghost use Rattle.text_edits.specs.Edits.{Applies};
 ghost use Rattle.nj_suggest.specs.Edits.{edit};
@@ -36,8 +36,8 @@ pub fn suggest_law()
 {
     buffer_rules::ids_law();
     inserted_commands::insertion_law();
-    suggested_commands::citable_states();
-    suggested_commands::suggested_by();
+    crate::commands::citable_states();
+    crate::commands::suggested_by();
 }
 
 /// The same in a node of a document, where no alias can be named as the command `by`; and the
@@ -60,6 +60,6 @@ pub fn document_law()
         → aliases_at (uncut_all others) q ≡ aliases_at (uncut_all sheets) q }
 {
     suggest_law();
-    alias_names::names_law();
-    alias_names::headers_law();
+    crate::aliases::names_law();
+    crate::aliases::headers_law();
 }

@@ -1,9 +1,20 @@
 //! What becomes of a text when a proof that is suggested in it is put in.
 //!
+//! From below to above: the tokens of what is written (`lexemes`), names of aliases (`aliases`),
+//! texts of suggested proofs, each read again as a proof of its goal (`texts`), suggested proofs as
+//! commands in the states that commands come to (`commands`), and in a document (`laws`).
 //! Suggestions are `suggest_rules`, their prints and commands `isar_rules`, the edit `nj_suggest`.
 //! The laws are over definitions alone; they must not know of executions, versions or workers.
 #![tactic(auto)]
 
+mod aliases;
+mod commands;
 mod laws;
+mod lexemes;
+mod texts;
 
+pub use aliases::{headers_law, names_law};
+pub use commands::{citable_states, suggested_by};
 pub use laws::{document_law, suggest_law};
+pub use lexemes::written_tokens;
+pub use texts::{alike_terms, suggested_command, suggested_proof};

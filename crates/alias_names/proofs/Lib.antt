@@ -1,3 +1,0 @@
-mod HeaderNames
-mod AliasFolds
-mod SameAliases

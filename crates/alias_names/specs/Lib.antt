@@ -1,2 +1,0 @@
-pub mod AliasNames
-pub mod SameHeaders

@@ -1,4 +1,0 @@
-mod WordRows
-mod SignRows
-mod QuotedRows
-pub mod KnownLexemes

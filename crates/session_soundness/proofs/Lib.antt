@@ -1,8 +1,0 @@
-mod CleanParts
-mod ScratchRuns
-mod Believing
-mod Resting
-mod Telling
-mod LiveVersions
-mod Required
-mod Beliefs

@@ -1,0 +1,15 @@
+//! What may be believed where no error is seen: the theory is sound. So of a text that is checked
+//! alone (`texts`), and of a theory of which an editor sees no error and nothing pending
+//! (`documents`).
+//!
+//! Derivations are Gentzen's natural deduction (1935); histories and what is shown in them are
+//! those of `session_rules`, for the command language. There is no code here. The laws must not
+//! know how a text is read, how markup is written, what keeps a history, how many work on it, or
+//! where replies go.
+#![tactic(auto)]
+
+mod documents;
+mod texts;
+
+pub use documents::sound_law;
+pub use texts::sound_text_law;

@@ -1,0 +1,68 @@
+-- Names of rules that are no aliases are free, and parts of readable formulas are readable.
+use Rattle.std.proofs.Common.{◌≡◌, ℕ, ◌||◌, Bool, true, false, not, List, refl, ap, ◌∙◌, subst}
+use Rattle.text_words.specs.Identifier.{IsIdentifier}
+use Rattle.text_words.proofs.KnownIdentifiers.{identifier-tested}
+use Rattle.outer_tokens.specs.Words.{is_base_command, is_minor_keyword}
+use Rattle.nj_formula.specs.declared.formula.Formula.{Formula, out-Formula}
+use Rattle.nj_formula.specs.declared.formula.Formula.TheOpen.{Formula-F}
+use Rattle.nj_formula.specs.declared.formula.Formula.TheVariants as F
+use Rattle.nj_formula.specs.declared.formula.Formula.TheVariants.{rolls-Not, rolls-And, rolls-Or, rolls-Implies}
+use Rattle.nj_formula.proofs.KnownFormulas.{fold-False, is_rolled}
+use Rattle.nj_formula.proofs.KnownMeaning.{meaning-False}
+use Rattle.nj_kernel.specs.declared.rule.Rule.{Rule}
+use Rattle.nj_kernel.specs.declared.rule.Rule.TheVariants.{ConjI, ConjE1, ConjE2, DisjI1, DisjI2, DisjE, ImpI, ImpE, NotI, NotE, FalseE, AllI, AllE, ExI, ExE}
+use Rattle.nj_kernel.specs.RuleNames.{rule_name}
+use Rattle.nj_syntax.specs.declared.operator.Operator.{Operator}
+use Rattle.nj_syntax.specs.Deepest.{deepest}
+use Rattle.nj_print.specs.Spellable.{formula_layer}
+use Rattle.nj_print.specs.Within.{is_within}
+use Rattle.nj_print.specs.Readable.{IsReadable}
+use Rattle.nj_print.proofs.KnownReadable.{negated_readable, operands_readable}
+use Rattle.suggest_rules.specs.Names.{is_alias}
+use Rattle.suggest_laws.specs.Citable.{IsFree}
+
+-- an identifier, no command of the language's own and no minor keyword
+abbrev IsBare : List ℕ → Type 0
+IsBare x = IsIdentifier x × (is_base_command x ≡ false) × (is_minor_keyword x ≡ false)
+
+rule_bare : (r : Rule) → IsBare (rule_name r)
+rule_bare ConjI = (identifier-tested (rule_name ConjI) refl, refl, refl)
+rule_bare ConjE1 = (identifier-tested (rule_name ConjE1) refl, refl, refl)
+rule_bare ConjE2 = (identifier-tested (rule_name ConjE2) refl, refl, refl)
+rule_bare DisjI1 = (identifier-tested (rule_name DisjI1) refl, refl, refl)
+rule_bare DisjI2 = (identifier-tested (rule_name DisjI2) refl, refl, refl)
+rule_bare DisjE = (identifier-tested (rule_name DisjE) refl, refl, refl)
+rule_bare ImpI = (identifier-tested (rule_name ImpI) refl, refl, refl)
+rule_bare ImpE = (identifier-tested (rule_name ImpE) refl, refl, refl)
+rule_bare NotI = (identifier-tested (rule_name NotI) refl, refl, refl)
+rule_bare NotE = (identifier-tested (rule_name NotE) refl, refl, refl)
+rule_bare FalseE = (identifier-tested (rule_name FalseE) refl, refl, refl)
+rule_bare AllI = (identifier-tested (rule_name AllI) refl, refl, refl)
+rule_bare AllE = (identifier-tested (rule_name AllE) refl, refl, refl)
+rule_bare ExI = (identifier-tested (rule_name ExI) refl, refl, refl)
+rule_bare ExE = (identifier-tested (rule_name ExE) refl, refl, refl)
+
+denied : (b : Bool) → not b ≡ true → b ≡ false
+denied true e = cc
+denied false e = refl
+
+pub rule_free : (aliases : List (List ℕ)) (r : Rule) → not (is_alias aliases (rule_name r)) ≡ true → IsFree aliases (rule_name r)
+rule_free aliases r usable =
+    let bare = rule_bare r in
+    let unaliased = denied (is_alias aliases (rule_name r)) usable in
+    (bare.0, (λ i. bare.1 i || unaliased i), bare.2)
+
+pub and_readable : (f a b : Formula) → out-Formula f ≡ Formula-F.And a b → IsReadable f → IsReadable a × IsReadable b
+and_readable f a b out readable = operands_readable Operator.And a b (subst IsReadable (is_rolled f (Formula-F.And a b) out ∙ rolls-And a b) readable)
+
+pub or_readable : (f a b : Formula) → out-Formula f ≡ Formula-F.Or a b → IsReadable f → IsReadable a × IsReadable b
+or_readable f a b out readable = operands_readable Operator.Or a b (subst IsReadable (is_rolled f (Formula-F.Or a b) out ∙ rolls-Or a b) readable)
+
+pub implies_readable : (f a b : Formula) → out-Formula f ≡ Formula-F.Implies a b → IsReadable f → IsReadable a × IsReadable b
+implies_readable f a b out readable = operands_readable Operator.Implies a b (subst IsReadable (is_rolled f (Formula-F.Implies a b) out ∙ rolls-Implies a b) readable)
+
+pub not_readable : (f a : Formula) → out-Formula f ≡ Formula-F.Not a → IsReadable f → IsReadable a
+not_readable f a out readable = negated_readable a (subst IsReadable (is_rolled f (Formula-F.Not a) out ∙ rolls-Not a) readable)
+
+pub false_readable : IsReadable F.False
+false_readable = (ap (λ f. f 0) (fold-False formula_layer), ap (λ s. is_within deepest s 10 0) meaning-False)

@@ -1,2 +1,0 @@
-pub mod CitableStates
-pub mod Proving

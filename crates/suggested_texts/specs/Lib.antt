@@ -1,3 +1,0 @@
-pub mod Citable
-pub mod Alike
-pub mod ProofTexts

@@ -1,5 +1,0 @@
-use Rattle.text_laws.proofs.Sounding.{sound_text}
-use Rattle.text_laws.proofs.laws.sound_text_law.Goals as goal
-
-pub returns : goal.returns
-returns c text e = sound_text c.alone_law.ensures text e
