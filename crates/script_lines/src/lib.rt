@@ -4,9 +4,15 @@
 #![tactic(auto)]
 
 mod answers;
+mod call;
 mod fault;
+mod joining;
+mod random;
 mod words;
 
-pub use answers::{Script, answered};
+pub use answers::{Answer, Script, answered, say, say_whether};
+pub use call::Call;
 pub use fault::Fault;
-pub use words::{number, place, put_words, range};
+pub use joining::{joined, once};
+pub use random::{below, next_of};
+pub use words::{lent, number, place, range, words_of};

@@ -1,6 +1,0 @@
-use Rattle.core_rows.specs.Tally.{counting}
-use Rattle.core_rows.proofs.Moved.{cancelled}
-use Rattle.core_rows.proofs.desk.Desk.cancel.Goals as goal
-
-pub invariant_of-self : goal.invariant_of-self
-invariant_of-self c = cancelled counting _ _ _ _ c.self.invariant c.args.exec c.cancel.result _ c.cancel.ensures.cancelled

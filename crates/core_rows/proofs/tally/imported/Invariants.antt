@@ -1,9 +1,0 @@
-use Rattle.std.proofs.Common.{◌≡◌, length}
-use Rattle.core_rows.specs.Tally.{imported}
-use Rattle.core_rows.proofs.tally.imported.Given as goal
-
-abbrev pub invariant-imports : goal.invariant-imports
-invariant-imports l = imported l.sum l.rest ≡ imported l.fn.number l.fn.imports
-
-abbrev pub decreases-imports : goal.decreases-imports
-decreases-imports l = length l.rest

@@ -1,9 +1,0 @@
-use Rattle.std.proofs.Common.{◌≡◌, length}
-use Rattle.core_rows.specs.Tally.{summed}
-use Rattle.core_rows.proofs.tally.summed.Given as goal
-
-abbrev pub invariant-scalars : goal.invariant-scalars
-invariant-scalars l = summed l.sum l.rest ≡ summed l.fn.number l.fn.scalars
-
-abbrev pub decreases-scalars : goal.decreases-scalars
-decreases-scalars l = length l.rest

@@ -1,6 +1,0 @@
--- Each item is taken off.
-use Rattle.std.proofs.Common.{length}
-use Rattle.format_rows.proofs.values.ints.Given as goal
-
-abbrev pub decreases-loop-item : goal.decreases-loop-item
-decreases-loop-item l = length l.bodies

@@ -1,0 +1,51 @@
+//! The editor's document and the core behind it under scripts of calls, which it reads from its
+//! standard input: what updates of the editor's buffer come to, what the core assigns, what comes
+//! of claims, cancellations and removals over a small language, all orders of two workers on a
+//! small document, and jobs. What is shown is compared with a check from nothing. A line is
+//! answered by a line.
+#![tactic(auto)]
+
+mod asking;
+mod buffers;
+mod desk;
+mod editor;
+mod jobs;
+mod laws;
+mod lengths;
+mod long_texts;
+mod never;
+mod open_nodes;
+mod orders;
+mod parity;
+mod plain;
+mod plain_buffer;
+mod running;
+mod sharing;
+mod table;
+mod tally;
+mod telling;
+mod walk;
+mod whole_reports;
+
+use crate::editor::Editor;
+use script_lines::answered;
+use std::io;
+
+fn main(rt: HostRuntime) -> io::Result<()> {
+    let mut editor = Editor::new(rt.alloc())?;
+    let done = answer_all(&rt, &mut editor);
+    drop(editor);
+    done
+}
+
+fn answer_all(rt: &HostRuntime, editor: &mut Editor) -> io::Result<()> {
+    for line in rt.lines(rt.alloc()) {
+        answer(rt, editor, line?.as_str())?;
+    }
+    Ok(())
+}
+
+fn answer(rt: &HostRuntime, editor: &mut Editor, line: &str) -> io::Result<()> {
+    let answer = answered(rt.alloc(), editor, line)?;
+    println!(rt; "{answer}")
+}
