@@ -7,20 +7,18 @@ use crate::input::Input;
 use crate::ran::Ran;
 use doc_nodes::Shared;
 use language::{Answer, Language};
-use pide_base::{Flag, Part, Stop};
+use pide_base::{Part, Stop};
 use std::alloc::Global;
 use std::marker::Model;
 use text_edits::Text;
 
-/// What is needed to work on a part: its command's source and blob, what it takes up, and the flag
-/// by which it is asked to stop. Contracts see all but the flag.
+/// What is needed to work on a part: its command's source and blob, and what it takes up.
 #[derive(Drop)]
 pub struct Job<S> {
     part: Part,
     source: Shared<Text>,
     blob: Option<Shared<Text>>,
     input: Input<S>,
-    flag: Flag,
 }
 
 impl<S> Model for Job<S> {
@@ -44,7 +42,6 @@ impl<S> Job<S> {
         source: Shared<Text>,
         blob: Option<Shared<Text>>,
         input: Input<S>,
-        flag: Flag,
     ) -> Job<S>
         ensures { result ≡ record { part = part; source = source; blob = blob; input = input } }
     {
@@ -53,7 +50,6 @@ impl<S> Job<S> {
             source,
             blob,
             input,
-            flag,
         }
     }
 
@@ -62,11 +58,6 @@ impl<S> Job<S> {
         ensures { result ≡ self.now.part }
     {
         self.part
-    }
-
-    /// The flag of its execution, which whoever cancels that sets.
-    pub fn flag(&self) -> &Flag {
-        &self.flag
     }
 
     /// The command's source, in scalars.

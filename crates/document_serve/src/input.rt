@@ -14,9 +14,8 @@ use crate::piece::{end_status, serve_piece};
 use byte_message::Frames;
 use document_session::Session;
 use language::Language;
-use past_items::Past;
 use pide_base::{Pulled, Sink, Source, Status};
-use reply_outbox::Item;
+use reply_outbox::Past;
 use session_rules::{Entry, Service};
 use std::alloc::{AllocError, Global};
 
@@ -41,7 +40,7 @@ pub(crate) enum Step {
 
 /// Pulls a piece and serves it. Where the run ends with that, the session ends too, but where the
 /// sink failed.
-fn serve_pull<L: Language, P: Past<Item<Service, Entry>> + Drop, S: Source, K: Sink>(
+fn serve_pull<L: Language, P: Past<Service, Entry> + Drop, S: Source, K: Sink>(
     alloc: Global,
     lang: &L,
     source: &mut S,
@@ -95,7 +94,7 @@ fn serve_pull<L: Language, P: Past<Item<Service, Entry>> + Drop, S: Source, K: S
 
 /// Serves what the source has, up to a limit of bytes, and ends the session, but where the sink
 /// failed. Answers how the run ends.
-pub(crate) fn serve_input<L: Language, P: Past<Item<Service, Entry>> + Drop, S: Source, K: Sink>(
+pub(crate) fn serve_input<L: Language, P: Past<Service, Entry> + Drop, S: Source, K: Sink>(
     alloc: Global,
     lang: &L,
     source: &mut S,

@@ -12,9 +12,8 @@ use crate::serving::serve_whole;
 use byte_message::{FeedError, FrameFault, Frames, Truncated};
 use document_session::Session;
 use language::Language;
-use past_items::Past;
 use pide_base::{Sink, Status};
-use reply_outbox::Item;
+use reply_outbox::Past;
 use session_rules::{Entry, Service};
 use std::alloc::{AllocError, Global};
 
@@ -44,7 +43,7 @@ fn feed(frames: &mut Frames, piece: &[u8]) -> Result<Option<FrameFault>, AllocEr
 
 /// Serves a piece. Answers a status where the run ends with it: the session has then ended too, but
 /// where the sink failed.
-pub(crate) fn serve_piece<L: Language, P: Past<Item<Service, Entry>> + Drop, K: Sink>(
+pub(crate) fn serve_piece<L: Language, P: Past<Service, Entry> + Drop, K: Sink>(
     alloc: Global,
     lang: &L,
     session: &mut Session<L, P>,

@@ -9,16 +9,15 @@ ghost use Rattle.document_serve.specs.Headline.{BytesSent, BytesWritten, LosesSo
 use crate::input::serve_input;
 use document_session::Session;
 use language::Language;
-use past_items::Past;
 use pide_base::{Sink, Source, Status};
-use reply_outbox::Item;
+use reply_outbox::Past;
 use session_rules::{Entry, Service};
 use std::alloc::Global;
 
 /// Serves the messages of the source on one thread, each when it is whole, and writes the replies
 /// before more is read. The session must be new, and nobody works beside the reader. At most
 /// `limit` bytes are taken.
-pub fn serve<L: Language, P: Past<Item<Service, Entry>> + Drop, S: Source, K: Sink>(
+pub fn serve<L: Language, P: Past<Service, Entry> + Drop, S: Source, K: Sink>(
     alloc: Global,
     lang: &L,
     source: &mut S,

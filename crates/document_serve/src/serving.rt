@@ -11,14 +11,13 @@ use crate::writing::write_out;
 use byte_message::{Frames, Message};
 use document_session::{Session, Taken};
 use language::Language;
-use past_items::Past;
 use pide_base::Sink;
-use reply_outbox::Item;
+use reply_outbox::Past;
 use session_rules::{Entry, Service};
 use std::alloc::{AllocError, Global};
 
 /// Answers a message, after the parts that it waits for are worked on, and writes what is replied.
-fn serve_message<L: Language, P: Past<Item<Service, Entry>> + Drop, K: Sink>(
+fn serve_message<L: Language, P: Past<Service, Entry> + Drop, K: Sink>(
     alloc: Global,
     lang: &L,
     session: &mut Session<L, P>,
@@ -51,7 +50,7 @@ fn serve_message<L: Language, P: Past<Item<Service, Entry>> + Drop, K: Sink>(
 }
 
 /// Answers the messages that are whole, in order.
-pub(crate) fn serve_whole<L: Language, P: Past<Item<Service, Entry>> + Drop, K: Sink>(
+pub(crate) fn serve_whole<L: Language, P: Past<Service, Entry> + Drop, K: Sink>(
     alloc: Global,
     lang: &L,
     session: &mut Session<L, P>,

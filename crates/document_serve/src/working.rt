@@ -14,14 +14,13 @@ use crate::never::Never;
 use core_jobs::job_law;
 use document_session::{Claim, Session};
 use language::Language;
-use past_items::Past;
-use reply_outbox::Item;
+use reply_outbox::Past;
 use session_jobs::{SessionJob, SessionRan};
 use session_rules::{Entry, Service};
 use std::alloc::{AllocError, Global};
 
 /// Takes the first ready part, and works on it to its end.
-pub(crate) fn work<L: Language, P: Past<Item<Service, Entry>> + Drop>(
+pub(crate) fn work<L: Language, P: Past<Service, Entry> + Drop>(
     alloc: Global,
     lang: &L,
     session: &mut Session<L, P>,
@@ -38,14 +37,17 @@ pub(crate) fn work<L: Language, P: Past<Item<Service, Entry>> + Drop>(
     ensures legal { AreLegal L.lang session.new.service session.new.items }
 {
     match session.claim(alloc, lang, 0) {
-        Claim::Job(job) => work_on(alloc, lang, session, job),
+        Claim::Job { job, flag } => {
+            drop(flag);
+            work_on(alloc, lang, session, job)
+        }
         Claim::NoMemory => Err(AllocError),
         Claim::Nothing => unreachable!(),
     }
 }
 
 /// Works on the part that the reader holds, to its end.
-fn work_on<L: Language, P: Past<Item<Service, Entry>> + Drop>(
+fn work_on<L: Language, P: Past<Service, Entry> + Drop>(
     alloc: Global,
     lang: &L,
     session: &mut Session<L, P>,

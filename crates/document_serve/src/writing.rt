@@ -9,14 +9,13 @@ use crate::laws::list_laws;
 use crate::served::Served;
 use document_session::Session;
 use language::Language;
-use past_items::Past;
 use pide_base::{Sink, push_whole};
-use reply_outbox::Item;
+use reply_outbox::Past;
 use session_rules::{Entry, Service};
 
 /// Writes the replies that wait, the oldest first. Where the sink fails the session loses it, and
 /// nothing is written after that.
-pub(crate) fn write_out<L: Language, P: Past<Item<Service, Entry>> + Drop, K: Sink>(
+pub(crate) fn write_out<L: Language, P: Past<Service, Entry> + Drop, K: Sink>(
     session: &mut Session<L, P>,
     sink: &mut K,
 ) -> Served

@@ -7,8 +7,7 @@ use Rattle.core_jobs.specs.Jobs.{JobContent}
 use Rattle.core_rules.specs.declared.event.Event.{Event}
 use Rattle.core_rules.specs.declared.event.Event.TheVariants as event
 use Rattle.core_rules.specs.Ready.{first_ready}
-use Rattle.prover_core.specs.declared.claiming.Claim.TheVariants as claiming
-use Rattle.prover_core.specs.Claims.{ClaimedSo as CoreClaimedSo}
+use Rattle.prover_core.specs.Claims.{IsClaimed as CoreIsClaimed}
 use Rattle.reply_outbox.specs.declared.item.Item.TheVariants.{Made}
 use Rattle.reply_outbox.specs.Waiting.{Log}
 use Rattle.session_rules.specs.declared.entry.Entry.{Entry}
@@ -21,19 +20,18 @@ use Rattle.session_lists.specs.Items.{SessionItem, session_in}
 use Rattle.session_states.specs.Kept.{IsKept}
 use Rattle.session_states.specs.States.{State, IsSound, with_past}
 use Rattle.session_states.specs.Workers.{FreeLaws}
-use Rattle.document_session.specs.declared.working.Claim.TheVariants as claim
-use Rattle.document_session.specs.Answers.{ClaimedSo}
+use Rattle.document_session.specs.Answers.{IsClaimed}
 use Rattle.document_session.specs.Contents.{SessionState}
 use Rattle.document_session.proofs.Still.{seen}
 use Rattle.document_session.proofs.Worked.{work_taken}
 
 -- the job's part is the one that was found ready
 pub the_part : {S : Type 0} (l : Lang S) (who : ℕ) (h past : List Event) (part : Part) (job : JobContent S)
-    → first_ready l h ≡ Some part → CoreClaimedSo l who h (claiming.Job job) past → job.part ≡ part
+    → first_ready l h ≡ Some part → CoreIsClaimed l who h job past → job.part ≡ part
 the_part l who h past part job first told = let same : Some job.part ≡ Some part = sym told.2 ∙ first in cc
 
 module _ {S : Type 0} (l : Lang S) (service : Service) (st : State S) (who : ℕ) (part : Part) (job : JobContent S) (past : List Event)
-    (first : first_ready l st.session.events ≡ Some part) (told : CoreClaimedSo l who st.session.events (claiming.Job job) past) where
+    (first : first_ready l st.session.events ≡ Some part) (told : CoreIsClaimed l who st.session.events job past) where
   happened : past ≡ event.Claimed who part ∷ st.session.events
   happened = told.4 ∙ ap (λ (p : Part). event.Claimed who p ∷ st.session.events) (the_part l who st.session.events past part job first told)
 
@@ -52,14 +50,14 @@ module _ {S : Type 0} (l : Lang S) (service : Service) (st : State S) (who : ℕ
   pub claimed_so : (new : Log Service Entry) (now : SessionState) → seen service st.log ≡ now
       → IsKept l service new (with_past st.session past) st.last (st.holding + 1) st.jobs
       → new.items ≡ Made (entry.Claimed who part) ∷ st.log.items → (work : Work S)
-      → work ≡ record { job = job; protocol = st.session.protocol } → ClaimedSo l now.service who now.items (claim.Job work) new.items
+      → work ≡ record { job = job; protocol = st.session.protocol } → IsClaimed l now.service who now.items work new.items
   claimed_so new now same kept items work is =
       let jobs : work.job ≡ job = ap (λ (w : Work S). w.job) is in
       let parts : work.job.part ≡ job.part = ap (λ (j : JobContent S). j.part) jobs in
       let found : work.job.part ≡ part = parts ∙ the_part l who st.session.events past part job first told in
       let after : past ≡ event.Claimed who work.job.part ∷ st.session.events =
       told.4 ∙ ap (λ (p : Part). event.Claimed who p ∷ st.session.events) (sym parts) in
-      subst (λ (x : SessionState). ClaimedSo l x.service who x.items (claim.Job work) new.items) same (
+      subst (λ (x : SessionState). IsClaimed l x.service who x.items work new.items) same (
         items ∙ ap (λ (p : Part). Made (entry.Claimed who p) ∷ st.log.items) (sym found),
         work_taken l st.session (session_in l service new.items) who work
             (kept.listed.stands ∙ ap (λ (h : List Event). with_past st.session h) after)

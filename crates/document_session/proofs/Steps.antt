@@ -15,11 +15,10 @@ use Rattle.core_rules.specs.declared.event.Event.{Event}
 use Rattle.core_rules.specs.declared.event.Event.TheVariants as event
 use Rattle.core_rules.specs.Ready.{first_ready}
 use Rattle.core_rules.specs.Standing.{has_ended}
-use Rattle.prover_core.specs.declared.claiming.Claim.TheVariants as claiming
 use Rattle.prover_core.specs.declared.finishing.Finish.{Finish}
 use Rattle.prover_core.specs.declared.finishing.Finish.TheVariants as finish
 use Rattle.prover_core.specs.Answers.{FinishedSo as CoreFinishedSo}
-use Rattle.prover_core.specs.Claims.{ClaimedSo as CoreClaimedSo}
+use Rattle.prover_core.specs.Claims.{IsClaimed as CoreIsClaimed}
 use Rattle.reply_outbox.specs.declared.item.Item.TheVariants.{Made}
 use Rattle.reply_outbox.specs.Waiting.{Log}
 use Rattle.reply_writing.specs.declared.told.Told.TheVariants as tells
@@ -98,7 +97,7 @@ ends_so finish.Dropped who part = refl
 module _ {S : Type 0} (l : Lang S) (service : Service) (st : State S) (k : IsSound l service st) (message : List (List ℕ)) (who : ℕ) where
   -- a part was taken
   module _ (asks_it : asked (mode_of service) message ≡ Ok (asks.Claim who)) (part : Part) (job : JobContent S) (past : List Event)
-      (first : first_ready l st.session.events ≡ Some part) (told : CoreClaimedSo l who st.session.events (claiming.Job job) past)
+      (first : first_ready l st.session.events ≡ Some part) (told : CoreIsClaimed l who st.session.events job past)
       (new : Log Service Entry) (added : IsStepAdded st.log new message (entry.Claimed who part) (spelling (tells.Claimed who part)) (st.holding + 2)) where
     pub step_claimed : StepLaws l → service ≡ Script → IsWorker who → (work : Work S)
         → work ≡ record { job = job; protocol = st.session.protocol } → (before now : ℕ → Option (Work S)) → ((w : ℕ) → before w ≡ st.jobs w)

@@ -63,12 +63,16 @@ abbrev pub IsIdle : {S : Type 0} → Lang S → Session → ℕ → Type 0
 IsIdle l s who = (first_ready l s.events ≡ None)
     ⊎ ((held s.events who ≢ None) ⊎ (has_ended s.events ≡ true))
 
--- a claim takes the first ready part, with its job; nothing exactly where the worker can't
+-- a worker claims the first ready part, with its job
+abbrev pub IsClaimed : {S : Type 0} → Lang S → Service → ℕ → List SessionItem → Work S
+    → List SessionItem → Type 0
+IsClaimed l service who old work new = (new ≡ Made (entry.Claimed who work.job.part) ∷ old)
+    × IsWorkOf l (session_in l service new) who work
+
+-- a claim takes the first ready part; nothing exactly where the worker can't
 abbrev pub ClaimedSo : {S : Type 0} → Lang S → Service → ℕ → List SessionItem → Claim S
     → List SessionItem → Type 0
-ClaimedSo l service who old (claim.Job work) new =
-    (new ≡ Made (entry.Claimed who work.job.part) ∷ old)
-    × IsWorkOf l (session_in l service new) who work
+ClaimedSo l service who old (claim.Job work flag) new = IsClaimed l service who old work new
 ClaimedSo l service who old claim.Nothing new =
     (new ≡ old) × IsIdle l (session_in l service old) who
 ClaimedSo l service who old claim.NoMemory new = new ≡ old

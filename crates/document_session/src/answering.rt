@@ -13,14 +13,13 @@ use crate::taking::Taken;
 use byte_message::Message;
 use language::Language;
 use message_values::Refusal;
-use past_items::Past;
-use reply_outbox::{Item, Outbox};
+use reply_outbox::{Outbox, Past};
 use session_replies::refused;
 use session_rules::{Entry, Service};
 use session_states::look_laws;
 use std::alloc::{AllocError, Global};
 
-impl<L: Language, P: Past<Item<Service, Entry>> + Drop> Session<L, P> {
+impl<L: Language, P: Past<Service, Entry> + Drop> Session<L, P> {
     /// Refuses a message for a reason.
     pub(crate) fn refuse(
         &mut self,
@@ -50,7 +49,7 @@ impl<L: Language, P: Past<Item<Service, Entry>> + Drop> Session<L, P> {
 
 /// Makes room for so many entries, beside the end and those by which parts that are held are
 /// finished or let go.
-pub(crate) fn make_room<P: Past<Item<Service, Entry>> + Drop>(
+pub(crate) fn make_room<P: Past<Service, Entry> + Drop>(
     outbox: &mut Outbox<Service, Entry, P>,
     held: usize,
     entries: usize,

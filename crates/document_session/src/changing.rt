@@ -20,16 +20,15 @@ use exec_table::Cancelling;
 use joined_results::each_of_three;
 use language::Language;
 use message_values::{Protocol, Refusal};
-use past_items::Past;
 use pide_base::{ExecId, VersionId};
-use reply_outbox::Item;
+use reply_outbox::Past;
 use session_replies::{cancelling, removed_law, removed_versions};
 use session_rules::{Entry, Service};
 use session_states::change_laws;
 use sqlite_items::Items;
 use std::alloc::{AllocError, Global};
 
-impl<L: Language, P: Past<Item<Service, Entry>> + Drop> Session<L, P> {
+impl<L: Language, P: Past<Service, Entry> + Drop> Session<L, P> {
     /// Cancels an execution of a live version.
     pub(crate) fn cancel(
         &mut self,

@@ -23,10 +23,9 @@ use byte_message::Message;
 use exec_lists::NodeResults;
 use language::Language;
 use message_values::{Protocol, Refusal};
-use past_items::Past;
 use pide_base::{NodeName, VersionId};
 use prover_core::Settled;
-use reply_outbox::Item;
+use reply_outbox::Past;
 use session_lists::history_law;
 use session_replies::{edited_text, markup, settled, settled_law, snapshot_law};
 use session_rules::{Entry, Service};
@@ -45,7 +44,7 @@ pub(crate) enum Settling {
     Told(Vec<u8>),
 }
 
-impl<L: Language, P: Past<Item<Service, Entry>> + Drop> Session<L, P> {
+impl<L: Language, P: Past<Service, Entry> + Drop> Session<L, P> {
     /// Tells what is known of a node, in the text that the edits make of the version's.
     pub(crate) fn snapshot(
         &mut self,

@@ -10,15 +10,14 @@ ghost use Rattle.session_lists.specs.Pieces.{pieces, AreWaiting};
 
 use crate::session::Session;
 use language::Language;
-use past_items::Past;
-use reply_outbox::Item;
+use reply_outbox::Past;
 use session_rules::{Entry, Service};
 use session_states::writer_laws;
 
 /// The most workers that messages name.
 const MOST_WORKERS: u32 = 16;
 
-impl<L: Language, P: Past<Item<Service, Entry>> + Drop> Session<L, P> {
+impl<L: Language, P: Past<Service, Entry> + Drop> Session<L, P> {
     /// The reply that waited longest, which the writer takes: None exactly where none waits or the
     /// sink is lost. It takes no memory.
     pub fn sent(&mut self) -> Option<Vec<u8>>

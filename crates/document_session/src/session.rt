@@ -1,5 +1,5 @@
 //! The session as a value.
-ghost use Rattle.std.specs.Prelude.{◌≡◌, ◌≤◌, [], ◌∷◌, map, false, IfOk, IfErr};
+ghost use Rattle.std.specs.Prelude.{◌≡◌, ◌≤◌, [], ◌∷◌, map, length, false, IfOk, IfErr};
 ghost use Rattle.reply_outbox.specs.declared.item.Item.TheVariants.{Opened, Made};
 ghost use Rattle.core_rules.specs.Standing.{has_ended};
 ghost use Rattle.message_values.specs.Workers.{most_workers};
@@ -12,9 +12,8 @@ use crate::table::Table;
 use editor_buffer::Buffer;
 use language::Language;
 use message_values::Protocol;
-use past_items::Past;
 use prover_core::Core;
-use reply_outbox::{Item, Outbox};
+use reply_outbox::{Outbox, Past};
 use session_jobs::SessionJob;
 use session_rules::{Entry, Service};
 use session_states::writer_laws;
@@ -25,7 +24,7 @@ use std::marker::Model;
 /// A session over one document. Contracts see how it is served, the items of its list, the newest
 /// first, and the bytes of the replies that wait, the oldest first.
 #[derive(Drop)]
-pub struct Session<L: Language, P: Past<Item<Service, Entry>>> {
+pub struct Session<L: Language, P: Past<Service, Entry>> {
     pub(crate) service: Service,
     pub(crate) buffer: Buffer,
     pub(crate) core: Core<L>,
@@ -41,7 +40,7 @@ pub struct Session<L: Language, P: Past<Item<Service, Entry>>> {
     pub(crate) outbox: Outbox<Service, Entry, P>,
 }
 
-impl<L: Language, P: Past<Item<Service, Entry>>> Model for Session<L, P> {
+impl<L: Language, P: Past<Service, Entry>> Model for Session<L, P> {
     ghost use Rattle.session_states.specs.Kept.{session_of, IsKept};
     ghost use Rattle.document_session.specs.Contents.{SessionState};
     ghost use Rattle.prover_core.specs.Looked.{looked};
@@ -59,7 +58,7 @@ impl<L: Language, P: Past<Item<Service, Entry>>> Model for Session<L, P> {
         (λ who. looked s.jobs who) };
 }
 
-impl<L: Language, P: Past<Item<Service, Entry>> + Drop> Session<L, P> {
+impl<L: Language, P: Past<Service, Entry> + Drop> Session<L, P> {
     /// A session in which nothing happened but that it is served so, by at most 16 workers. The
     /// list must be empty; where there is no memory it is handed back, still empty.
     pub fn new(alloc: Global, service: Service, past: P) -> Result<Session<L, P>, AllocFailed<P>>
@@ -110,6 +109,13 @@ impl<L: Language, P: Past<Item<Service, Entry>> + Drop> Session<L, P> {
         writer_laws::<L>();
         self.core.end();
         self.outbox.add(Entry::Ended, None);
+    }
+
+    /// How many items its list has.
+    pub fn count(&self) -> u64
+        ensures { result ≡ length self.now.items }
+    {
+        self.outbox.count()
     }
 
     /// The list of what has happened.

@@ -23,10 +23,9 @@ use core_jobs::job_law;
 use joined_results::both;
 use language::Language;
 use message_values::{Refusal, Worker, a_message_is_asked_where_it_is_spelled};
-use past_items::Past;
 use pide_base::{Part, Stop};
 use prover_core::Claim as CoreClaim;
-use reply_outbox::{Item, Outbox};
+use reply_outbox::{Outbox, Past};
 use session_jobs::{SessionJob, SessionRan};
 use session_replies::{claimed, dropped};
 use session_rules::{Entry, Service};
@@ -45,7 +44,7 @@ impl Stop for Never {
     }
 }
 
-impl<L: Language, P: Past<Item<Service, Entry>> + Drop> Session<L, P> {
+impl<L: Language, P: Past<Service, Entry> + Drop> Session<L, P> {
     /// The worker takes the first ready part.
     pub(crate) fn step_claim(
         &mut self,
@@ -84,7 +83,8 @@ impl<L: Language, P: Past<Item<Service, Entry>> + Drop> Session<L, P> {
                 drop(message);
                 Err(AllocError)
             }
-            CoreClaim::Job(job) => {
+            CoreClaim::Job { job, flag } => {
+                drop(flag);
                 put(
                     &mut self.jobs,
                     who,
@@ -143,7 +143,7 @@ impl<L: Language, P: Past<Item<Service, Entry>> + Drop> Session<L, P> {
 }
 
 /// Makes room for what a step adds to the list, and for the job of a worker.
-fn make_step_room<T: Drop, P: Past<Item<Service, Entry>> + Drop>(
+fn make_step_room<T: Drop, P: Past<Service, Entry> + Drop>(
     outbox: &mut Outbox<Service, Entry, P>,
     jobs: &mut Table<T>,
     held: usize,

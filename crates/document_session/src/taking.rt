@@ -11,9 +11,8 @@ use crate::session::Session;
 use byte_message::Message;
 use language::Language;
 use message_values::{EditorMessage, Mode, Refusal};
-use past_items::Past;
 use pide_messages::{ReadError, read};
-use reply_outbox::Item;
+use reply_outbox::Past;
 use session_rules::{Entry, Service};
 use std::alloc::{AllocError, Global};
 
@@ -26,7 +25,7 @@ pub enum Taken {
     Waits(Message),
 }
 
-impl<L: Language, P: Past<Item<Service, Entry>> + Drop> Session<L, P> {
+impl<L: Language, P: Past<Service, Entry> + Drop> Session<L, P> {
     /// Answers a message: one that is refused changes nothing but that a message came. A settle is
     /// handed back while its version isn't settled; a message that tells a worker to take or end a
     /// part has that done at once. For want of memory nothing has changed, and the message is lost.

@@ -28,10 +28,9 @@ use editor_buffer::Prepared;
 use exec_assign::AssignFault;
 use language::Language;
 use message_values::{BlobChange, Item as UpdateItem, Refusal};
-use past_items::Past;
 use pide_base::VersionId;
 use prover_core::{Core, Plan};
-use reply_outbox::{Item, Outbox};
+use reply_outbox::{Outbox, Past};
 use session_lists::history_law;
 use session_replies::assign;
 use session_rules::{Entry, Service};
@@ -39,7 +38,7 @@ use session_states::update_law;
 use sheet_edits::PrepareError;
 use std::alloc::{AllocError, Global};
 
-impl<L: Language, P: Past<Item<Service, Entry>> + Drop> Session<L, P> {
+impl<L: Language, P: Past<Service, Entry> + Drop> Session<L, P> {
     /// Makes a version.
     pub(crate) fn update(
         &mut self,
@@ -125,7 +124,7 @@ impl<L: Language, P: Past<Item<Service, Entry>> + Drop> Session<L, P> {
 
 /// The plan of a version that was prepared, once there is room for one entry more, and the reply
 /// when it is made.
-fn plan_prepared<L: Language, P: Past<Item<Service, Entry>> + Drop>(
+fn plan_prepared<L: Language, P: Past<Service, Entry> + Drop>(
     alloc: Global,
     outbox: &mut Outbox<Service, Entry, P>,
     core: &mut Core<L>,

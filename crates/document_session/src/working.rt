@@ -16,10 +16,9 @@ ghost use Rattle.document_session.specs.Answers.{ClaimedSo, FinishedSo, GivenUpS
 use crate::answering::make_room;
 use crate::session::Session;
 use language::Language;
-use past_items::Past;
-use pide_base::Part;
+use pide_base::{Flag, Part};
 use prover_core::{Claim as CoreClaim, Core, Finish, GiveUp as CoreGiveUp};
-use reply_outbox::{Item, Outbox};
+use reply_outbox::{Outbox, Past};
 use session_jobs::{DoneParts, JobParts, SessionDone, SessionJob};
 use session_replies::dropped;
 use session_rules::{Entry, Service};
@@ -29,8 +28,9 @@ use std::alloc::Global;
 /// What a claim gives.
 #[derive(Drop)]
 pub enum Claim<S> {
-    /// The job of the first ready part, which the worker now holds.
-    Job(SessionJob<S>),
+    /// The job of the first ready part, which the worker now holds, and the flag of its execution,
+    /// which is set where that is cancelled or no live version has it any more.
+    Job { job: SessionJob<S>, flag: Flag },
     /// Nothing is ready, the worker holds a part, or all has ended.
     Nothing,
     /// There was not enough memory, and nothing was claimed.
@@ -46,7 +46,7 @@ pub enum GiveUp<S> {
     GoOn(SessionJob<S>),
 }
 
-impl<L: Language, P: Past<Item<Service, Entry>> + Drop> Session<L, P> {
+impl<L: Language, P: Past<Service, Entry> + Drop> Session<L, P> {
     /// The worker takes the first ready part.
     pub fn claim(&mut self, alloc: Global, lang: &L, who: u32) -> Claim<L::State>
         requires who { who ≤ free_workers self.old.service }
@@ -75,11 +75,12 @@ impl<L: Language, P: Past<Item<Service, Entry>> + Drop> Session<L, P> {
                 drop(dropped);
                 Claim::NoMemory
             }
-            CoreClaim::Job(job) => {
+            CoreClaim::Job { job, flag } => {
                 self.held += 1;
                 let part = Part { exec, kind };
                 self.outbox.add(Entry::Claimed { who, part }, None);
-                Claim::Job(SessionJob::new(job, self.protocol, dropped))
+                let job = SessionJob::new(job, self.protocol, dropped);
+                Claim::Job { job, flag }
             }
         }
     }
@@ -126,7 +127,7 @@ impl<L: Language, P: Past<Item<Service, Entry>> + Drop> Session<L, P> {
 }
 
 /// Takes in what came of a part that the worker holds, with its reply. It takes no memory.
-pub(crate) fn take_in<L: Language, P: Past<Item<Service, Entry>> + Drop>(
+pub(crate) fn take_in<L: Language, P: Past<Service, Entry> + Drop>(
     core: &mut Core<L>,
     outbox: &mut Outbox<Service, Entry, P>,
     who: u32,

@@ -1,10 +1,10 @@
 //! The program `pide`: standard input and output, handed to the one call.
 #![tactic(auto)]
 
-use past_items::Unkept;
 use pide_base::Status;
 use pide_io::{StdSink, StdSource};
 use pide_program::pide;
+use reply_outbox::Unkept;
 use std::env;
 use std::process::ExitCode;
 

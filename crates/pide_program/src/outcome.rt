@@ -1,15 +1,14 @@
 //! What a run hands back.
 use document_session::Session;
-use past_items::Past;
 use pide_base::Status;
-use reply_outbox::Item;
+use reply_outbox::Past;
 use session_rules::{Entry, Service};
 use toplevel::Isar;
 
 /// How a run ended, the source and sink that it was given, and its session, which lends the list of
 /// what happened.
 #[derive(Drop)]
-pub struct Outcome<S, K, P: Past<Item<Service, Entry>>> {
+pub struct Outcome<S, K, P: Past<Service, Entry>> {
     /// How it ended.
     pub status: Status,
     /// The source, with what it has left.

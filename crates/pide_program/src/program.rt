@@ -12,9 +12,8 @@ ghost use Rattle.pide_program.specs.Limit.{input_limit};
 use crate::outcome::Outcome;
 use crate::running::{check, serve_as, unserved};
 use command_words::{Request, asked};
-use past_items::Past;
 use pide_base::{Sink, Source, Status};
-use reply_outbox::Item;
+use reply_outbox::Past;
 use session_laws::headline_law;
 use session_rules::{Entry, Service};
 use std::alloc::Global;
@@ -26,7 +25,7 @@ use toplevel::Isar;
 ///
 /// `words` are those of the command line after the program's name. What happens is added to `past`,
 /// which must be empty.
-pub fn pide<S: Source, K: Sink, P: Past<Item<Service, Entry>> + Drop>(
+pub fn pide<S: Source, K: Sink, P: Past<Service, Entry> + Drop>(
     alloc: Global,
     words: &[&str],
     source: S,

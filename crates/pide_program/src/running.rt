@@ -11,10 +11,9 @@ ghost use Rattle.pide_program.specs.Limit.{input_limit};
 use crate::outcome::Outcome;
 use document_serve::serve;
 use document_session::Session;
-use past_items::Past;
 use pide_base::{Sink, Source, Status};
 use pide_check::check_text;
-use reply_outbox::Item;
+use reply_outbox::Past;
 use session_rules::{Entry, Service};
 use std::alloc::{AllocFailed, Global};
 use toplevel::Isar;
@@ -23,7 +22,7 @@ use toplevel::Isar;
 const LIMIT: usize = 1 << 40;
 
 /// No session is begun, and nothing is read or written.
-pub(crate) fn unserved<S, K, P: Past<Item<Service, Entry>>>(
+pub(crate) fn unserved<S, K, P: Past<Service, Entry>>(
     status: Status,
     source: S,
     sink: K,
@@ -43,7 +42,7 @@ pub(crate) fn unserved<S, K, P: Past<Item<Service, Entry>>>(
 }
 
 /// Serves the messages of the source so. No session is begun where there is no memory for one.
-pub(crate) fn serve_as<S: Source, K: Sink, P: Past<Item<Service, Entry>> + Drop>(
+pub(crate) fn serve_as<S: Source, K: Sink, P: Past<Service, Entry> + Drop>(
     alloc: Global,
     service: Service,
     source: S,
@@ -89,7 +88,7 @@ pub(crate) fn serve_as<S: Source, K: Sink, P: Past<Item<Service, Entry>> + Drop>
 }
 
 /// Checks the text of the source. There is no session.
-pub(crate) fn check<S: Source, K: Sink, P: Past<Item<Service, Entry>>>(
+pub(crate) fn check<S: Source, K: Sink, P: Past<Service, Entry>>(
     alloc: Global,
     source: S,
     sink: K,

@@ -9,7 +9,6 @@ use crate::table::Table;
 use core_rules::{Event, tip_law};
 use exec_table::Cancelling;
 use language::Language;
-use past_items::Past;
 use pide_base::ExecId;
 use update_plans::Known;
 

@@ -21,8 +21,7 @@ use doc_nodes::Shared;
 use job_inputs::input_of;
 use joined_results::{both, each_of_three};
 use language::Language;
-use past_items::Past;
-use pide_base::Part;
+use pide_base::{Flag, Part};
 use std::alloc::{AllocError, Global};
 use task_queue::TaskQueue;
 use text_edits::Text;
@@ -30,8 +29,9 @@ use text_edits::Text;
 /// What a claim gives.
 #[derive(Drop)]
 pub enum Claim<S> {
-    /// The job of the first ready part, which the worker now holds.
-    Job(Job<S>),
+    /// The job of the first ready part, which the worker now holds, and the flag of its execution,
+    /// which is set where that is cancelled or no live version has it any more.
+    Job { job: Job<S>, flag: Flag },
     /// Nothing is ready, the worker holds a part, or all has ended.
     Nothing,
     /// There was not enough memory, and nothing was claimed.
@@ -77,25 +77,31 @@ impl<L: Language> Core<L> {
         first_law::<L>();
         match self.job_of(alloc, lang, &part) {
             Err(_) => Claim::NoMemory,
-            Ok(job) => {
+            Ok((job, flag)) => {
                 if make_room(&mut self.holders, &mut self.queue).is_err() {
                     drop(job);
+                    drop(flag);
                     return Claim::NoMemory;
                 }
                 put(&mut self.holders, who, same(&part));
                 self.queue.dequeue();
                 let claimed = Event::Claimed { who, part };
                 self.past.add(claimed);
-                Claim::Job(job)
+                Claim::Job { job, flag }
             }
         }
     }
 
-    /// The job of the first ready part.
-    fn job_of(&self, alloc: Global, lang: &L, part: &Part) -> Result<Job<L::State>, AllocError>
+    /// The job of the first ready part, and the flag of its execution.
+    fn job_of(
+        &self,
+        alloc: Global,
+        lang: &L,
+        part: &Part,
+    ) -> Result<(Job<L::State>, Flag), AllocError>
         requires first { first_ready L.lang self.now.past ≡ Some part.now }
-        ensures { IfOk result (λ job. (job.part ≡ part.now)
-            × IsJobOf L.lang (doc L.lang self.now.past).homes job) }
+        ensures { IfOk result (λ both. (both.0.part ≡ part.now)
+            × IsJobOf L.lang (doc L.lang self.now.past).homes both.0) }
     {
         tip_law::<L>();
         holders_law::<L>();
@@ -109,7 +115,7 @@ impl<L: Language> Core<L> {
         let input = input_of(alloc, lang, &self.execs, nodes, home);
         let texts = both(home.source.copy(), copied(&home.blob));
         let (input, (source, blob), flag) = each_of_three(input, texts, known.flag.share())?;
-        Ok(Job::new(same(part), source, blob, input, flag))
+        Ok((Job::new(same(part), source, blob, input), flag))
     }
 }
 

@@ -12,7 +12,6 @@ use crate::table::take_out;
 use core_jobs::{Done, Job};
 use core_rules::{Event, holders_law, tip_law};
 use language::Language;
-use past_items::Past;
 use pide_base::Part;
 
 /// What became of a part that was done.

@@ -13,7 +13,7 @@ use doc_versions::Versions;
 use exec_rules::{Blobs, Version};
 use exec_table::Execs;
 use language::Language;
-use past_items::{Past, Unkept};
+use past_items::GhostList;
 use pide_base::{ExecId, Part};
 use sqlite_items::Items;
 use std::alloc::{AllocError, Global};
@@ -28,7 +28,7 @@ use version_losses::Losses;
 #[derive(Drop)]
 pub struct Core<L: Language> {
     pub(crate) alloc: Global,
-    pub(crate) past: Unkept<Event>,
+    pub(crate) past: GhostList<Event>,
     pub(crate) versions: Versions<Version>,
     /// What live versions had and later ones have not.
     pub(crate) losses: Losses,
@@ -97,7 +97,7 @@ impl<L: Language> Core<L> {
         let start = shared_version(alloc, start)?;
         Ok(Core {
             alloc,
-            past: Unkept::new(),
+            past: GhostList::new(),
             versions: Versions::new(alloc, start),
             losses: Losses::new(alloc),
             next: 1,

@@ -11,7 +11,6 @@ use crate::prover::Core;
 use core_rules::Event;
 use doc_versions::Removing;
 use language::Language;
-use past_items::Past;
 use pide_base::VersionId;
 use sqlite_items::Items;
 use std::alloc::AllocError;

@@ -15,7 +15,6 @@ use crate::plan::Plan;
 use crate::prover::Core;
 use exec_assign::ToldNode;
 use language::Language;
-use past_items::Past;
 use version_losses::Loss;
 
 impl<L: Language> Core<L> {

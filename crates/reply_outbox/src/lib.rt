@@ -7,7 +7,13 @@
 #![tactic(auto)]
 
 mod item;
+mod kept;
 mod outbox;
+mod past;
+mod unkept;
 
 pub use item::Item;
+pub use kept::Kept;
 pub use outbox::{Outbox, Parts};
+pub use past::Past;
+pub use unkept::Unkept;

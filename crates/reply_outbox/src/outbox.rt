@@ -6,7 +6,7 @@ ghost use Rattle.reply_outbox.specs.Items.{is_lost};
 ghost use Rattle.reply_outbox.specs.Waiting.{IsSent, IsStill};
 
 use crate::item::Item;
-use past_items::Past;
+use crate::past::Past;
 use std::alloc::{AllocError, AllocFailed, Global};
 use std::collections::VecDeque;
 use std::marker::{Model, PhantomData};
@@ -15,7 +15,7 @@ use std::marker::{Model, PhantomData};
 /// see the items, the newest first, the bytes of the replies, the oldest first, and for how many
 /// entries, each with a reply, there is room.
 #[derive(Drop)]
-pub struct Outbox<O, E, P: Past<Item<O, E>>> {
+pub struct Outbox<O, E, P: Past<O, E>> {
     past: P,
     waiting: VecDeque<Vec<u8>>,
     /// The entries that can still be added without memory.
@@ -24,7 +24,7 @@ pub struct Outbox<O, E, P: Past<Item<O, E>>> {
     of: PhantomData<(O, E)>,
 }
 
-impl<O, E, P: Past<Item<O, E>>> Model for Outbox<O, E, P> {
+impl<O, E, P: Past<O, E>> Model for Outbox<O, E, P> {
     ghost use Rattle.std.specs.Prelude.{◌≡◌, map};
     ghost use Rattle.std.specs.VecDeque.{deque_len, deque_capacity};
     ghost use Rattle.reply_outbox.specs.Items.{is_lost};
@@ -49,7 +49,7 @@ pub struct Parts<P> {
     pub waiting: VecDeque<Vec<u8>>,
 }
 
-impl<O: Drop, E: Drop, P: Past<Item<O, E>> + Drop> Outbox<O, E, P> {
+impl<O: Drop, E: Drop, P: Past<O, E> + Drop> Outbox<O, E, P> {
     /// An outbox in which nothing happened but that it began so, with room for one entry. The list
     /// must be empty; where there is no memory it is handed back, still empty.
     pub fn new(alloc: Global, past: P, opened: O) -> Result<Outbox<O, E, P>, AllocFailed<P>>
@@ -149,6 +149,13 @@ impl<O: Drop, E: Drop, P: Past<Item<O, E>> + Drop> Outbox<O, E, P> {
         ensures { result ≡ (length self.now.waiting == 0) }
     {
         self.waiting.is_empty()
+    }
+
+    /// How many items the list has.
+    pub fn count(&self) -> u64
+        ensures { result ≡ length self.now.items }
+    {
+        self.past.count()
     }
 
     /// The list.

@@ -10,7 +10,7 @@ use crate::ran::SessionRan;
 use core_jobs::{Done, Job};
 use language::{Answer, Language};
 use message_values::Protocol;
-use pide_base::{Flag, Part, Stop};
+use pide_base::{Part, Stop};
 use session_replies::report;
 use std::alloc::{AllocError, Global};
 use std::marker::Model;
@@ -62,11 +62,6 @@ impl<S> SessionJob<S> {
         ensures { result ≡ self.now.job.part }
     {
         self.job.part()
-    }
-
-    /// The flag of its execution, which whoever cancels that sets.
-    pub fn flag(&self) -> &Flag {
-        self.job.flag()
     }
 
     /// How its reports are told.

@@ -4,7 +4,7 @@ use core_jobs::{Done, Evaluated, Input, Job, Ran};
 use doc_nodes::Shared;
 use joined_results::both;
 use language::Language;
-use pide_base::{ExecId, Flag, Part, PartKind};
+use pide_base::{ExecId, Part, PartKind};
 use pide_io::NthStop;
 use report_markup::Report;
 use std::alloc::{AllocError, Global};
@@ -16,12 +16,12 @@ fn job<S: Drop>(
     command: &Command,
     state: &Shared<S>,
 ) -> Result<Job<S>, AllocError> {
-    let ((source, blob), (state, flag)) = both(
+    let ((source, blob), state) = both(
         both(command.source.copy(), command.shared_blob()),
-        both(state.copy(), Flag::new(alloc)),
+        state.copy(),
     )?;
     let exec = ExecId::numbered(1);
-    Ok(Job::new(Part { exec, kind }, source, blob, Input::State(state), flag))
+    Ok(Job::new(Part { exec, kind }, source, blob, Input::State(state)))
 }
 
 /// The kind of a report and its text, each behind a blank.

@@ -8,17 +8,16 @@ ghost use Rattle.pide_program.specs.Words.{is_served};
 use crate::exchange::Exchange;
 use document_serve::serve;
 use document_session::Session;
-use past_items::Kept;
 use pide_base::Status;
 use pide_io::{MemSink, MemSource};
 use pide_program::{Outcome, pide};
-use reply_outbox::Item;
+use reply_outbox::{Item, Kept};
 use session_rules::{Entry, Service};
 use std::alloc::{AllocError, Global};
 use toplevel::Isar;
 
 /// The list of what has happened.
-type Past = Kept<Item<Service, Entry>>;
+type Past = Kept<Service, Entry>;
 
 /// What a run comes to.
 #[derive(Drop)]

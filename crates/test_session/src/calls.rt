@@ -58,7 +58,7 @@ fn is_ended<L: Language>(
     }
     match session.claim(alloc, lang, WORKER) {
         Claim::Nothing => Ok(()),
-        Claim::Job(_) | Claim::NoMemory => Err(Fail::new("something was claimed")),
+        Claim::Job { .. } | Claim::NoMemory => Err(Fail::new("something was claimed")),
     }
 }
 

@@ -10,16 +10,15 @@ use core_jobs::job_law;
 use document_session::{Claim, Finish, Session, Taken};
 use language::Language;
 use message_values::a_message_is_asked_where_it_is_spelled;
-use past_items::Kept;
 use pide_io::NthStop;
-use reply_outbox::Item;
+use reply_outbox::Kept;
 use session_jobs::{SessionJob, SessionRan};
 use session_rules::{Entry, Service};
 use std::alloc::Global;
 use std::test::Fail;
 
 /// The list of what has happened.
-pub(crate) type Past = Kept<Item<Service, Entry>>;
+pub(crate) type Past = Kept<Service, Entry>;
 
 /// The worker.
 pub(crate) const WORKER: u32 = 1;
@@ -68,7 +67,10 @@ pub(crate) fn claimed<L: Language>(
         session.new.items) 1 job) }
 {
     match session.claim(alloc, lang, WORKER) {
-        Claim::Job(job) => Ok(job),
+        Claim::Job { job, flag } => {
+            drop(flag);
+            Ok(job)
+        }
         Claim::Nothing | Claim::NoMemory => Err(Fail::new("no part was taken")),
     }
 }

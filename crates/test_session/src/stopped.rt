@@ -7,9 +7,9 @@ ghost use Rattle.session_states.specs.Works.{IsWorkOf};
 
 use crate::messages::{CANCEL, CANCELLED, LET_GO, PROVED, UPDATE, message};
 use crate::steps::{Past, WORKER, begun, claimed, finished, replied, told, worked};
-use document_session::{GiveUp, Session};
+use document_session::{Claim, GiveUp, Session};
 use language::Language;
-use pide_base::PartKind;
+use pide_base::{Flag, PartKind};
 use pide_io::NthStop;
 use session_jobs::{SessionJob, SessionRan};
 use std::alloc::Global;
@@ -146,6 +146,41 @@ fn is_let_go<L: Language>(
     replied(session, LET_GO)
 }
 
+/// The worker takes the first ready part: the flag that comes with its job.
+fn flag_of<L: Language>(
+    alloc: Global,
+    lang: &L,
+    session: &mut Session<L, Past>,
+) -> Result<Flag, Fail>
+    requires worker { session.old.service ≡ service_is.Workers 1 }
+    ensures service { session.new.service ≡ session.old.service }
+{
+    match session.claim(alloc, lang, WORKER) {
+        Claim::Job { job, flag } => {
+            drop(job);
+            Ok(flag)
+        }
+        Claim::Nothing | Claim::NoMemory => Err(Fail::new("no part was taken")),
+    }
+}
+
+/// The flag that comes with the proof's job is set once the proof is cancelled, and not before.
+fn is_asked_to_stop<L: Language>(
+    alloc: Global,
+    lang: &L,
+    session: &mut Session<L, Past>,
+) -> Result<bool, Fail>
+    requires worker { session.old.service ≡ service_is.Workers 1 }
+{
+    told(alloc, lang, session, message(alloc, UPDATE)?)?;
+    worked(alloc, lang, session)?;
+    worked(alloc, lang, session)?;
+    let flag = flag_of(alloc, lang, session)?;
+    let before = flag.is_set();
+    told(alloc, lang, session, message(alloc, CANCEL)?)?;
+    Ok(!before && flag.is_set())
+}
+
 /// It goes on in a session that begins.
 fn goes_on_from_the_beginning<L: Language>(alloc: Global, lang: &L) -> Result<(), Fail> {
     let mut session = begun(alloc)?;
@@ -162,6 +197,18 @@ fn asks_once_from_the_beginning<L: Language>(alloc: Global, lang: &L) -> Result<
 fn is_let_go_from_the_beginning<L: Language>(alloc: Global, lang: &L) -> Result<(), Fail> {
     let mut session = begun(alloc)?;
     is_let_go(alloc, lang, &mut session)
+}
+
+/// It is asked to stop in a session that begins.
+fn is_asked_to_stop_from_the_beginning<L: Language>(alloc: Global, lang: &L) -> Result<bool, Fail> {
+    let mut session = begun(alloc)?;
+    is_asked_to_stop(alloc, lang, &mut session)
+}
+
+#[test]
+fn a_cancellation_asks_the_job_to_stop(rt: HostRuntime) -> Result<(), Fail> {
+    assert!(rt; is_asked_to_stop_from_the_beginning(rt.alloc(), &Isar)?);
+    Ok(())
 }
 
 #[test]

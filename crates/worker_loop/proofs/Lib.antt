@@ -3,3 +3,4 @@ mod Held
 mod Rounds
 mod Writes
 pub mod KnownWorkers
+pub mod KnownGathered

@@ -2,7 +2,7 @@
 ghost use Rattle.std.specs.Prelude.{◌≡◌, ◌≤◌, ◌+◌, ◌<◌, ◌^◌, [], ◌∷◌, ◌++◌, vec_len, vec_capacity};
 ghost use Rattle.std.specs.Prelude.{IfSome, IfNone, IfOk, IfErr};
 ghost use Rattle.std.specs.Thread.{IsSync};
-ghost use Rattle.worker_loop.specs.Crew.{AreWorkers, HasWorked, HaveWorked, IsWorker};
+ghost use Rattle.worker_loop.specs.Crew.{AreBack, AreWorkers, HasWorked, HaveWorked, IsWorker};
 
 use crate::jobs::Work;
 use crate::worker::{Shift, work};
@@ -12,8 +12,11 @@ use std::alloc::{AllocFailed, Global};
 use std::sync::Wait;
 use std::thread::{Threads, join};
 
-// Takes the pass of the last worker.
-fn last_worker<S: State, W: Work<S>>(lock: &Shared<S>, passes: &mut Vec<Pass<S>>) -> Option<Pass<S>>
+/// Takes the pass of the last worker.
+pub(crate) fn last_worker<S: State, W: Work<S>>(
+    lock: &Shared<S>,
+    passes: &mut Vec<Pass<S>>,
+) -> Option<Pass<S>>
     requires workers { AreWorkers W.says lock.now 1 passes.old.items }
     ensures none { IfNone result (passes.old.items ≡ []) }
     ensures some { IfSome result (λ p. passes.old.items ≡ passes.new.items ++ p ∷ []) }
@@ -24,14 +27,14 @@ fn last_worker<S: State, W: Work<S>>(lock: &Shared<S>, passes: &mut Vec<Pass<S>>
     passes.pop()
 }
 
-// Puts what a worker brought back behind the others'. There is room for it.
-fn put<S: State>(shifts: &mut Vec<Shift<S>>, last: Shift<S>)
-    requires room { vec_len shifts.old < vec_capacity shifts.old }
-    ensures put { shifts.new.items ≡ shifts.old.items ++ last ∷ [] }
-    ensures length { vec_len shifts.new ≡ vec_len shifts.old + 1 }
-    ensures room { vec_capacity shifts.old ≤ vec_capacity shifts.new }
+/// Puts something behind the others. There is room for it.
+pub(crate) fn put<T: Drop>(items: &mut Vec<T>, last: T)
+    requires room { vec_len items.old < vec_capacity items.old }
+    ensures put { items.new.items ≡ items.old.items ++ last ∷ [] }
+    ensures length { vec_len items.new ≡ vec_len items.old + 1 }
+    ensures room { vec_capacity items.old ≤ vec_capacity items.new }
 {
-    if shifts.push(last).is_err() {
+    if items.push(last).is_err() {
         unreachable!();
     }
 }
@@ -94,6 +97,8 @@ pub fn run_workers<S: State + Send, W: Work<S> + Sync, R: Threads + Wait + Sync,
     requires few { vec_len passes < 2 ^ 32 }
     requires workers { AreWorkers W.says lock.now 1 passes.items }
     ensures ok { IfOk result (λ shifts. HaveWorked W.says lock.now passes.items shifts.items) }
+    ensures length { IfOk result (λ shifts. vec_len shifts ≡ vec_len passes) }
+    ensures back { IfOk result (λ shifts. AreBack W.says lock.now 1 shifts.items) }
     ensures err { IfErr result (λ failed. failed.value ≡ passes) }
 {
     let count = passes.len() as u32;

@@ -74,7 +74,8 @@ pub trait Work<S: State> {
     /// The job was stopped by a yes of its stop.
     ghost was_stopped: { Self.Job → Type 0 };
 
-    /// Claims the first part that is ready. The caller holds none.
+    /// Claims the first part that is ready, and nothing where the caller may not claim. The caller
+    /// holds none.
     fn claim<R: Wait>(
         &self,
         rt: &R,

@@ -5,19 +5,26 @@
 //! this project's own. It must not know what a job computes, what a state is, or what is sent.
 #![tactic(auto)]
 
+mod attempt;
 mod carry;
 mod crew;
 mod flag_stop;
+mod gathering;
+mod helping;
 mod jobs;
 mod outbox;
 mod said;
+mod splitting;
 mod worker;
 mod writer;
 
 pub use crew::run_workers;
 pub use flag_stop::FlagStop;
+pub use gathering::{gather, gather_idle};
+pub use helping::help;
 pub use jobs::{Claim, Finish, GiveUp, Ran, Work};
 pub use outbox::{Next, Outbox};
 pub use said::Said;
+pub use splitting::split_workers;
 pub use worker::{Shift, Worked, work};
 pub use writer::{Written, Wrote, write_out};

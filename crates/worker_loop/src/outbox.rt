@@ -1,5 +1,5 @@
 //! What the writer asks of a state in turns.
-ghost use Rattle.std.specs.Prelude.{◌≡◌, ℕ, List};
+ghost use Rattle.std.specs.Prelude.{◌≡◌, ◌≢◌, ℕ, List, []};
 ghost use mathlib.Core.List.{IsPrefix};
 ghost use Rattle.hist_lock.specs.Entries.{own};
 ghost use Rattle.hist_lock.specs.Known.{IsSameCaller};
@@ -28,7 +28,8 @@ pub trait Outbox<S: State> {
     /// All bytes that were handed to this caller in this history, in order.
     ghost sent: { ℕ → List S.Entry → List ℕ };
 
-    /// Takes the next piece. The caller has made entries for pieces alone.
+    /// Takes the next piece, and nothing where the caller isn't the writer. The caller has made
+    /// entries for pieces alone.
     fn next<R: Wait>(&self, rt: &R, lock: &Shared<S>, pass: &mut Pass<S>, who: u32) -> Next
         requires own { IsPassOf lock.now pass.old }
         requires who { (view pass.old).caller ≡ who }
@@ -39,10 +40,11 @@ pub trait Outbox<S: State> {
         ensures knows { KnowsOwn S.whose (view pass.new) }
         ensures given { NextSo says (sent who) S.idle (view pass.old) result (view pass.new) };
 
-    /// Tells that the sink failed. It takes no memory.
+    /// Tells that the sink failed at a piece that was handed out. It takes no memory.
     fn lose<R: Wait>(&self, rt: &R, lock: &Shared<S>, pass: &mut Pass<S>, who: u32)
         requires own { IsPassOf lock.now pass.old }
         requires who { (view pass.old).caller ≡ who }
+        requires handed { (view pass.old).mine ≢ [] }
         requires only_sent { HasOnlySent says (view pass.old) }
         requires knows { KnowsOwn S.whose (view pass.old) }
         ensures own { IsPassOf lock.now pass.new }

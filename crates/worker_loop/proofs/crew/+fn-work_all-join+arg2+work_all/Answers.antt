@@ -10,5 +10,5 @@ returns-clause-worked g t c =
     let before = c.last_worker.new.passes.items in let pass = c.in-Some.pass in
     let others = c.join-shifts.result.0.items in let last = c.join-shifts.result.1 in
     let all = worked_more says lock before others pass last c.join-shifts.ensures.first.0 c.join-shifts.ensures.second in
-    subst (λ ps. HaveWorked says lock ps c.put.new.shifts.items) (sym c.in-Some.ensures.some)
+    subst (λ ps. HaveWorked says lock ps c.put.new.items.items) (sym c.in-Some.ensures.some)
     (subst (λ ss. HaveWorked says lock (before ++ pass ∷ []) ss) (sym c.put.ensures.put) all)

@@ -1,5 +1,4 @@
 -- The part of the claim is held.
-use Rattle.worker_loop.specs.declared.said.Said.TheVariants as said
 use Rattle.worker_loop.proofs.Held.{held_made}
 use Rattle.worker_loop.proofs.worker.round.Goals as goal
 

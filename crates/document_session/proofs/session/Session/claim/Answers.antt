@@ -26,8 +26,8 @@ returns-in_default-clause-claimed g c =
 pub overflow_add-self : goal.overflow_add-self
 overflow_add-self g c = omega (arith, on_ok c.make_room.result _ (sym c.if-is_err.ensures.value) c.make_room.ensures.fits)
 
-pub new-requires : goal.new-requires
-new-requires g c =
+pub new-job-requires : goal.new-job-requires
+new-job-requires g c =
     let found = the_part g.L.Language.lang c.args.who c.self.inside.core.past _ _ c.in-Job.job (sym c.first.ensures ∙ c.in-Some.is)
     c.in-Job.ensures.claimed in
     c.in-Ok.ensures ∙ ap (λ (p : Part). spelling (tells.Dropped p)) (sym found)
@@ -68,7 +68,7 @@ returns-in-Job-clause-claimed g c =
     claimed_so g.L.Language.lang c.self.inside.service (state_kept c.self.invariant) c.args.who _ c.in-Job.job _
     (sym c.first.ensures ∙ c.in-Some.is) c.in-Job.ensures.claimed c.add.new.self _ c.self.view_is (invariant_of-self-in-Job g c)
     (c.add.ensures.items ∙ ap (λ (is : List SessionItem). Made (entry.Claimed c.args.who c.in-Some.first) ∷ is)
-    c.make_room.ensures.items) c.new.result c.new.ensures
+    c.make_room.ensures.items) c.new-job.result c.new-job.ensures
 
 pub returns-in-Job-clause-legal : goal.returns-in-Job-clause-legal
 returns-in-Job-clause-legal g c = (invariant_of-self-in-Job g c).listed.legal
