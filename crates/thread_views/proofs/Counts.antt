@@ -1,0 +1,106 @@
+-- How many replies were sent, by the items of the writer and by all.
+use Rattle.std.proofs.Common.{◌≡◌, ℕ, ◌+◌, ◌≤◌, Bool, true, false, cond, List, [], ◌∷◌, ◌++◌, length, reverse, refl, sym, ap, subst, ◌∙◌, arith, eq-eqb, length-append, zero-add}
+use Rattle.std.specs.Prelude.{◌==◌}
+use Rattle.std.proofs.lemmas.List.{length-map, length-reverse}
+use Rattle.language.specs.Lang.{Lang}
+use Rattle.hist_lock.specs.Entries.{own}
+use Rattle.reply_outbox.specs.declared.item.Item.TheVariants as item
+use Rattle.reply_outbox.specs.Items.{lengths_sent}
+use Rattle.session_rules.specs.declared.service.Service.{Service}
+use Rattle.session_rules.specs.declared.service.Service.TheVariants.{Workers}
+use Rattle.session_lists.specs.Items.{SessionItem, heard_in}
+use Rattle.session_lists.specs.Legal.{AreLegal, MayStand}
+use Rattle.session_lists.specs.Pieces.{pieces}
+use Rattle.session_lists.specs.Sent.{IsFrontSent}
+use Rattle.thread_views.specs.Callers.{maker, service_of, whose, worker_count}
+use Rattle.thread_views.specs.Histories.{IsLegalLog, replies_after}
+use Rattle.thread_views.specs.Sent.{sent_count}
+use Rattle.thread_views.proofs.Own.{either, on_log, own_more}
+
+pub count_more : (xs ys : List SessionItem) → sent_count (xs ++ ys) ≡ sent_count xs + sent_count ys
+count_more [] ys = sym (zero-add (sent_count ys))
+count_more (item.Opened service ∷ xs) ys = count_more xs ys
+count_more (item.Made entry ∷ xs) ys = count_more xs ys
+count_more (item.Sent writer len ∷ xs) ys = let rest = count_more xs ys in omega (arith, rest)
+count_more (item.Lost writer ∷ xs) ys = count_more xs ys
+
+-- a caller's count grows by its own items alone
+pub own_count_more : (who : ℕ) (x : SessionItem) (items : List SessionItem)
+    → sent_count (own whose who (reverse (x ∷ items))) ≡ sent_count (own whose who (reverse items)) + sent_count (cond (whose x == who) (x ∷ []) [])
+own_count_more who x items = ap (λ (xs : List SessionItem). sent_count xs) (own_more who x items)
+    ∙ count_more (own whose who (reverse items)) (cond (whose x == who) (x ∷ []) [])
+
+one_fewer : (b : Bool) (x : SessionItem) (items : List SessionItem) → sent_count (cond b (x ∷ []) []) + sent_count items ≤ sent_count (x ∷ items)
+one_fewer true (item.Opened service) items = omega arith
+one_fewer true (item.Made entry) items = omega arith
+one_fewer true (item.Sent writer len) items = omega arith
+one_fewer true (item.Lost writer) items = omega arith
+one_fewer false (item.Opened service) items = omega arith
+one_fewer false (item.Made entry) items = omega arith
+one_fewer false (item.Sent writer len) items = omega arith
+one_fewer false (item.Lost writer) items = omega arith
+
+own_fewer : (who : ℕ) (items : List SessionItem) → sent_count (own whose who (reverse items)) ≤ sent_count items
+own_fewer who [] = omega arith
+own_fewer who (x ∷ items) = omega (arith, own_count_more who x items, one_fewer (whose x == who) x items, own_fewer who items)
+
+module _ {S : Type 0} (l : Lang S) where
+  -- what was sent is a front of the replies
+  abbrev pub FrontLaw : Type 0
+  FrontLaw = (service : Service) (items : List SessionItem) → AreLegal l service items → IsFrontSent l service items
+
+  within_replies : FrontLaw → (service : Service) (items : List SessionItem) → AreLegal l service items
+      → sent_count items ≤ length (pieces l service (heard_in service items))
+  within_replies law service items are =
+      let f = law service items are in
+      omega (
+        arith,
+        ap (λ (xs : List (List ℕ)). length xs) f.front,
+        length-append f.sent f.waiting,
+        ap (λ (ns : List ℕ). length ns) f.lengths,
+        length-map f.sent length,
+        length-reverse (lengths_sent items),
+      )
+
+  -- a caller was handed no more replies than there are
+  pub own_within_replies : FrontLaw → (who : ℕ) (log : List SessionItem) → IsLegalLog l log
+      → sent_count (own whose who log) ≤ length (replies_after l log)
+  own_within_replies law who log are =
+      let fewer = on_log (λ items xs. sent_count (own whose who xs) ≤ sent_count items) (own_fewer who) log in
+      omega (arith, fewer, within_replies law (service_of log) (reverse log) are)
+
+  module _ (count : ℕ) where
+    abbrev service : Service
+    service = Workers count
+
+    abbrev writer : ℕ
+    writer = count + 1
+
+    taken_one : (x : SessionItem) (rest : List SessionItem) → MayStand l service rest x
+        → sent_count (cond (whose x == writer) (x ∷ []) []) + sent_count rest ≡ sent_count (x ∷ rest)
+    taken_one (item.Opened other) rest may = absurd (may)
+    taken_one (item.Made made) rest may =
+        let none : sent_count (cond (maker made == writer) (item.Made made ∷ []) []) ≡ 0 =
+        either (λ (xs : List SessionItem). sent_count xs) (maker made == writer) (item.Made made ∷ []) [] refl in
+        omega (arith, none)
+    taken_one (item.Lost w) rest may =
+        let none : sent_count (cond (w == writer) (item.Lost w ∷ []) []) ≡ 0 =
+        either (λ (xs : List SessionItem). sent_count xs) (w == writer) (item.Lost w ∷ []) [] refl in
+        omega (arith, none)
+    taken_one (item.Sent w len) rest may =
+        let one : sent_count (cond (w == writer) (item.Sent w len ∷ []) []) ≡ 1 =
+        ap (λ b. sent_count (cond b (item.Sent w len ∷ []) [])) (eq-eqb w writer may.writer_is) in
+        omega (arith, one)
+
+    -- all that was sent the writer took
+    own_counts : (items : List SessionItem) → AreLegal l service items → sent_count (own whose writer (reverse items)) ≡ sent_count items
+    own_counts [] are = absurd (are)
+    own_counts (oldest ∷ []) are = subst (λ (x : SessionItem). sent_count (own whose writer (x ∷ [])) ≡ sent_count (x ∷ [])) (sym are)
+        (either (λ (xs : List SessionItem). sent_count xs) (0 == writer) (item.Opened service ∷ []) [] refl)
+    own_counts (newest ∷ before ∷ items) are =
+        omega (arith, own_count_more writer newest (before ∷ items), own_counts (before ∷ items) are.0, taken_one newest (before ∷ items) are.1)
+
+  pub own_counts_log : (log : List SessionItem) → IsLegalLog l log
+      → sent_count (own whose (worker_count log + 1) log) ≡ sent_count (reverse log)
+  own_counts_log log are = on_log (λ items xs. AreLegal l (service_of log) items → sent_count (own whose (worker_count log + 1) xs) ≡ sent_count items)
+      (own_counts (worker_count log)) log are

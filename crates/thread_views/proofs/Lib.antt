@@ -1,0 +1,11 @@
+mod Own
+mod Holding
+mod Turns
+mod Begins
+mod Ends
+mod Works
+mod Right
+mod Counts
+mod Takers
+mod Losses
+mod Handed
