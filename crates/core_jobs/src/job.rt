@@ -83,7 +83,7 @@ impl<S> Job<S> {
     }
 }
 
-impl<S: Send + Sync + Drop> Job<S> {
+impl<S: Drop> Job<S> {
     /// Works on the part. Done has the language's answer to the command, its blob and the state
     /// that is taken up, whatever `stop` says: an evaluation runs the command, a fork has what is
     /// reported of it later, a print what is printed of it. Stopped comes only where `stop`

@@ -16,7 +16,7 @@ use report_markup::Report;
 use sqlite_items::Items;
 use std::alloc::{AllocError, Global};
 
-impl<S: Send + Sync + Drop> Job<S> {
+impl<S: Drop> Job<S> {
     /// Works on the part, as `run` does, and leaves the job to the caller.
     pub fn worked_on<L: Language<State = S>, P: Stop>(
         &self,

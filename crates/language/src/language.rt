@@ -17,7 +17,7 @@ use std::alloc::{AllocError, Global};
 /// wherever a command is worked on, and whatever `stop` says.
 pub trait Language {
     /// What stands between two commands.
-    type State: Send + Sync + Drop;
+    type State: Drop;
 
     /// The language as a record of functions.
     ghost lang: { Lang Self.State };

@@ -83,7 +83,7 @@ impl<S> SessionJob<S> {
     }
 }
 
-impl<S: Send + Sync + Drop> SessionJob<S> {
+impl<S: Drop> SessionJob<S> {
     /// Works on the part, and writes the reply that tells its reports. Done has what the core's job
     /// gives, whatever `stop` says. Stopped comes only where `stop` answered yes in this call.
     /// There and for want of memory the job is as it was.

@@ -1,6 +1,4 @@
 -- What an editor that sees no error may believe.
-use denote.Param.Send.{sendable}
-use Rattle.toplevel.proofs.Crossing.{crosses}
 use Rattle.session_rules.specs.History.{session}
 use Rattle.isar_rules.specs.Isar.{isar}
 use Rattle.soundness_laws.proofs.Believing.{laws_from}
@@ -25,33 +23,3 @@ returns-clause-settled c = λ service h id v name p legal live place. sound_sett
 pub returns-clause-required : goal.returns-clause-required
 returns-clause-required c = λ service h id v p pair legal live at required ordered. whole_required c.covers_law.ensures c.wanted_law.ensures
     (session isar service h).events (c.events_law.ensures.legal service h legal) id v live p pair at required ordered
-
-pub covers_law-requires-send-L-State : goal.covers_law-requires-send-L-State
-covers_law-requires-send-L-State c κs = search (crosses, sendable)
-
-pub covers_law-requires-sync-L-State : goal.covers_law-requires-sync-L-State
-covers_law-requires-sync-L-State c κs = search (crosses, sendable)
-
-pub core_law-requires-send-L-State : goal.core_law-requires-send-L-State
-core_law-requires-send-L-State c κs = search (crosses, sendable)
-
-pub core_law-requires-sync-L-State : goal.core_law-requires-sync-L-State
-core_law-requires-sync-L-State c κs = search (crosses, sendable)
-
-pub homes_law-requires-send-L-State : goal.homes_law-requires-send-L-State
-homes_law-requires-send-L-State c κs = search (crosses, sendable)
-
-pub homes_law-requires-sync-L-State : goal.homes_law-requires-sync-L-State
-homes_law-requires-sync-L-State c κs = search (crosses, sendable)
-
-pub places_law-requires-send-L-State : goal.places_law-requires-send-L-State
-places_law-requires-send-L-State c κs = search (crosses, sendable)
-
-pub places_law-requires-sync-L-State : goal.places_law-requires-sync-L-State
-places_law-requires-sync-L-State c κs = search (crosses, sendable)
-
-pub events_law-requires-send-L-State : goal.events_law-requires-send-L-State
-events_law-requires-send-L-State c κs = search (crosses, sendable)
-
-pub events_law-requires-sync-L-State : goal.events_law-requires-sync-L-State
-events_law-requires-sync-L-State c κs = search (crosses, sendable)

@@ -5,7 +5,7 @@ use Rattle.session_states.specs.Works.{IsWorkOf}
 use Rattle.test_session.proofs.stopped.goes_on.Goals as goal
 
 pub still_wanted-requires-clause-job : goal.still_wanted-requires-clause-job
-still_wanted-requires-clause-job g c = λ κs outlives.
+still_wanted-requires-clause-job g c =
     let l = g.L.Language.lang in
     let s = c.fork_of.new.session in
     subst (λ w. IsWorkOf l (session_in l s.service s.items) 1 w) (sym c.in_ok-back.ensures) c.in_ok-taken.ensures.job

@@ -3,5 +3,5 @@ use Rattle.std.proofs.Common.{Some, sym, ap, ◌∙◌}
 use Rattle.test_session.proofs.stopped.is_let_go.Goals as goal
 
 pub let_go-requires-clause-holds : goal.let_go-requires-clause-holds
-let_go-requires-clause-holds g c = λ κs outlives.
+let_go-requires-clause-holds g c =
     c.told.ensures.holds ∙ c.in_ok-taken.ensures.job.holds ∙ ap (λ w. Some w.job.part) (sym c.in_ok-job.ensures)

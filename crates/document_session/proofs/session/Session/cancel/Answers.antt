@@ -6,8 +6,8 @@ use Rattle.document_session.proofs.Inside.{going_on, known_inside}
 use Rattle.document_session.proofs.Rooms.{state_kept, replied_by}
 use Rattle.document_session.proofs.session.Session.cancel.Goals as goal
 
-pub cancel-answer-requires-clause-going : goal.cancel-answer-requires-clause-going
-cancel-answer-requires-clause-going g c κs within = going_on g.L.Language.lang _ _ _ _ c.self.view_is c.self.invariant.listed c.requires.going
+pub cancel-answer-requires : goal.cancel-answer-requires
+cancel-answer-requires g c = record { going = going_on g.L.Language.lang _ _ _ _ c.self.view_is c.self.invariant.listed c.requires.going }
 
 pub invariant_of-self-2 : goal.invariant_of-self-2
 invariant_of-self-2 g c =

@@ -6,8 +6,8 @@ use Rattle.document_session.proofs.Inside.{going_on}
 use Rattle.document_session.proofs.Rooms.{state_kept}
 use Rattle.document_session.proofs.session.Session.end.Goals as goal
 
-pub end-requires-clause-going : goal.end-requires-clause-going
-end-requires-clause-going g c κs within = going_on g.L.Language.lang _ _ _ _ c.self.view_is c.self.invariant.listed c.requires.going
+pub end-requires : goal.end-requires
+end-requires g c = record { going = going_on g.L.Language.lang _ _ _ _ c.self.view_is c.self.invariant.listed c.requires.going }
 
 pub invariant_of-self : goal.invariant_of-self
 invariant_of-self g c =

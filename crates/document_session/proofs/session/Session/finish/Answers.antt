@@ -11,17 +11,17 @@ use Rattle.document_session.proofs.Worked.{finished_so}
 use Rattle.document_session.proofs.session.Session.finish.Goals as goal
 
 pub take_in-finish-requires-clause-holds : goal.take_in-finish-requires-clause-holds
-take_in-finish-requires-clause-holds g c κs within =
+take_in-finish-requires-clause-holds g c =
     let l = g.L.Language.lang in
     (known_inside l (λ service s. IsDoneWorkOf l s c.args.who c.args.done) _ _ _ _ c.self.view_is c.self.invariant.listed c.requires.done).holds
 
 pub take_in-finish-requires-clause-right : goal.take_in-finish-requires-clause-right
-take_in-finish-requires-clause-right g c κs within =
+take_in-finish-requires-clause-right g c =
     let l = g.L.Language.lang in
     (known_inside l (λ service s. IsDoneWorkOf l s c.args.who c.args.done) _ _ _ _ c.self.view_is c.self.invariant.listed c.requires.done).right
 
 pub take_in-finish-requires-clause-room : goal.take_in-finish-requires-clause-room
-take_in-finish-requires-clause-room g c κs within =
+take_in-finish-requires-clause-room g c =
     let l = g.L.Language.lang in
     let holds = (known_inside l (λ service s. IsDoneWorkOf l s c.args.who c.args.done) _ _ _ _ c.self.view_is c.self.invariant.listed c.requires.done).holds in
     let one = one_held c.self.inside.core.past c.args.who c.self.inside.held c.args.done.done.part c.self.invariant.holders_are holds in

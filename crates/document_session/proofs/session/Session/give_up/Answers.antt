@@ -11,11 +11,12 @@ use Rattle.document_session.proofs.Rooms.{state, room_kept}
 use Rattle.document_session.proofs.Worked.{same_work}
 use Rattle.document_session.proofs.session.Session.give_up.Goals as goal
 
-pub give_up-requires-clause-holds : goal.give_up-requires-clause-holds
-give_up-requires-clause-holds g c κs within =
-    subst (λ (j : JobContent _). held c.self.inside.core.past c.args.who ≡ Some j.part) (sym c.into_parts-job.ensures.job)
-    (known_inside g.L.Language.lang (λ service s. held s.events c.args.who ≡ Some c.args.job.job.part) _ _ _ _ c.self.view_is
-    c.self.invariant.listed c.requires.holds)
+pub give_up-requires : goal.give_up-requires
+give_up-requires g c = record {
+  holds = subst (λ (j : JobContent _). held c.self.inside.core.past c.args.who ≡ Some j.part) (sym c.into_parts-job.ensures.job)
+      (known_inside g.L.Language.lang (λ service s. held s.events c.args.who ≡ Some c.args.job.job.part) _ _ _ _ c.self.view_is
+      c.self.invariant.listed c.requires.holds);
+}
 
 pub invariant_of-self : goal.invariant_of-self
 invariant_of-self g c =

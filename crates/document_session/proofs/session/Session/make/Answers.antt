@@ -31,22 +31,22 @@ agrees g c = subst (λ (t : Session). Agrees t.buffer (document g.L.Language.lan
     (c.history_law.ensures.agree c.self.inside.service c.self.inside.outbox.items c.self.invariant.listed.legal)
 
 pub plan_prepared-requires-clause-going : goal.plan_prepared-requires-clause-going
-plan_prepared-requires-clause-going g c κs within = going_on g.L.Language.lang _ _ _ _ c.self.view_is c.self.invariant.listed c.requires.going
+plan_prepared-requires-clause-going g c = going_on g.L.Language.lang _ _ _ _ c.self.view_is c.self.invariant.listed c.requires.going
 
 pub plan_prepared-requires-clause-fits : goal.plan_prepared-requires-clause-fits
-plan_prepared-requires-clause-fits g c κs within =
+plan_prepared-requires-clause-fits g c =
     let here = (goal.at.plan_prepared-requires-clause-fits g c).After-self in
     plan_fits g.L.Language.lang c.self.inside.service (session_kept c.self.invariant) c.args.version (asked (mode_of c.self.inside.service) c.args.message) c.args.made (made g here)
     c.args.made.after.nodes c.args.made.after.document.blobs refl refl c.fits_law.ensures.fits (agrees g here)
 
 pub plan_prepared-requires-clause-changed : goal.plan_prepared-requires-clause-changed
-plan_prepared-requires-clause-changed g c κs within =
+plan_prepared-requires-clause-changed g c =
     let here = (goal.at.plan_prepared-requires-clause-changed g c).After-self in
     plan_changed g.L.Language.lang c.self.inside.service (session_kept c.self.invariant) c.args.version (asked (mode_of c.self.inside.service) c.args.message) c.args.made (made g here)
     c.args.made.after.nodes c.args.made.after.document.blobs refl refl c.self.invariant.blobs_are c.args.made.changed refl
 
 pub plan_prepared-requires-clause-commands : goal.plan_prepared-requires-clause-commands
-plan_prepared-requires-clause-commands g c κs within =
+plan_prepared-requires-clause-commands g c =
     let here = (goal.at.plan_prepared-requires-clause-commands g c).After-self in
     plan_commands g.L.Language.lang c.self.inside.service (session_kept c.self.invariant) c.args.version (asked (mode_of c.self.inside.service) c.args.message) c.args.made (made g here)
     c.args.made.after.nodes c.args.made.after.document.blobs refl refl (agrees g here) c.args.made.untouched refl
@@ -62,10 +62,10 @@ invariant_of-self-in-Err-Limit g c = room_kept g.L.Language.lang _ _ _ _ _ _ c.s
     (ap (λ (h : List Event). session_of c.self.inside.buffer h c.self.inside.protocol c.self.inside.called) (sym c.plan_prepared.ensures.past))
 
 pub refuse-requires-clause-going : goal.refuse-requires-clause-going
-refuse-requires-clause-going g c κs within = still_going g.L.Language.lang _ _ c.self.view_is _ c.plan_prepared.ensures.items c.requires.going
+refuse-requires-clause-going g c = still_going g.L.Language.lang _ _ c.self.view_is _ c.plan_prepared.ensures.items c.requires.going
 
 pub refuse-requires-clause-refused : goal.refuse-requires-clause-refused
-refuse-requires-clause-refused g c κs within =
+refuse-requires-clause-refused g c =
     let l = g.L.Language.lang in
     let read = asked (mode_of c.self.inside.service) c.args.message in
     let limit : c.plan_prepared.result ≡ Err fault.Limit = cc in
@@ -74,7 +74,7 @@ refuse-requires-clause-refused g c κs within =
     c.args.made.after.nodes c.args.made.after.document.blobs refl refl (c.plan_prepared.ensures.limit limit))
 
 pub update-requires-clause-going : goal.update-requires-clause-going
-update-requires-clause-going g c κs within = ap (λ (h : List Event). has_ended h) c.plan_prepared.ensures.past
+update-requires-clause-going g c = ap (λ (h : List Event). has_ended h) c.plan_prepared.ensures.past
     ∙ going_on g.L.Language.lang _ _ _ _ c.self.view_is c.self.invariant.listed c.requires.going
 
 pub invariant_of-self-in-Ok : goal.invariant_of-self-in-Ok

@@ -22,8 +22,8 @@ use Rattle.document_session.proofs.Inside.{going_on, known_inside}
 use Rattle.document_session.proofs.Rooms.{state, replied_by, room_kept}
 use Rattle.document_session.proofs.session.Session.remove.Goals as goal
 
-pub remove-requires-clause-going : goal.remove-requires-clause-going
-remove-requires-clause-going g c κs within = going_on g.L.Language.lang _ _ _ _ c.self.view_is c.self.invariant.listed c.requires.going
+pub remove-requires : goal.remove-requires
+remove-requires g c = record { going = going_on g.L.Language.lang _ _ _ _ c.self.view_is c.self.invariant.listed c.requires.going }
 
 pub invariant_of-self-in_err-remove : goal.invariant_of-self-in_err-remove
 invariant_of-self-in_err-remove g c = room_kept g.L.Language.lang _ _ _ _ _ _ c.self.invariant _ _
@@ -41,7 +41,7 @@ invariant_of-self-in-Unknown g c =
     (ap (λ (h : List Event). session_of c.self.inside.buffer h c.self.inside.protocol c.self.inside.called) (sym same))
 
 pub refuse-requires-clause-going : goal.refuse-requires-clause-going
-refuse-requires-clause-going g c κs within =
+refuse-requires-clause-going g c =
     let l = g.L.Language.lang in
     subst (λ (is : List SessionItem). has_ended (session_in l c.self.inside.service is).events ≡ false) (sym c.make_room.ensures.items)
     (subst (λ (x : SessionState). has_ended (session_in l x.service x.items).events ≡ false) (sym c.self.view_is) c.requires.going)
@@ -57,7 +57,7 @@ invariant_of-self-in-Tip g c =
     (ap (λ (h : List Event). session_of c.self.inside.buffer h c.self.inside.protocol c.self.inside.called) (sym same))
 
 pub refuse-requires-in-Tip-clause-going : goal.refuse-requires-in-Tip-clause-going
-refuse-requires-in-Tip-clause-going g c κs within =
+refuse-requires-in-Tip-clause-going g c =
     let l = g.L.Language.lang in
     subst (λ (is : List SessionItem). has_ended (session_in l c.self.inside.service is).events ≡ false) (sym c.make_room.ensures.items)
     (subst (λ (x : SessionState). has_ended (session_in l x.service x.items).events ≡ false) (sym c.self.view_is) c.requires.going)

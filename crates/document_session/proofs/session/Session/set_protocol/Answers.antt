@@ -11,7 +11,7 @@ use Rattle.document_session.proofs.Rooms.{state_kept, replied_by}
 use Rattle.document_session.proofs.session.Session.set_protocol.Goals as goal
 
 pub refuse-requires-clause-refused : goal.refuse-requires-clause-refused
-refuse-requires-clause-refused g c κs within =
+refuse-requires-clause-refused g c =
     let l = g.L.Language.lang in
     let inside = c.self.inside in
     let s = session_of inside.buffer inside.core.past inside.protocol inside.called in

@@ -20,10 +20,12 @@ returns-in_err-text-in-Ok-clause-looked g c =
     (not_edited l now.service s c.args.version c.args.node.now c.args.edits.now c.in-Ok.text.now c.in-Ok.ensures.found
     (λ (reply : Vec ℕ Global). reply.items) c.in_err-text-in-Ok.field-0.0 c.in_err-text-in-Ok.ensures.text)
 
-pub marked-requires-clause-seen : goal.marked-requires-clause-seen
-marked-requires-clause-seen g c κs within = record {
-  before = c.in-Ok.text.now;
-  found = c.in-Ok.ensures.found;
-  edited = c.in_ok-text-in-Ok.ensures.text ∙ ap (λ (t : List ℕ). Ok t) (sym c.scalars.ensures);
-  fits = c.in_ok-text-in-Ok.ensures.fit;
+pub marked-requires : goal.marked-requires
+marked-requires g c = record {
+  seen = record {
+    before = c.in-Ok.text.now;
+    found = c.in-Ok.ensures.found;
+    edited = c.in_ok-text-in-Ok.ensures.text ∙ ap (λ (t : List ℕ). Ok t) (sym c.scalars.ensures);
+    fits = c.in_ok-text-in-Ok.ensures.fit;
+  };
 }

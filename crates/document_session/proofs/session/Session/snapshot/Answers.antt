@@ -8,7 +8,7 @@ use Rattle.document_session.proofs.Passed.{refused_look, told_look}
 use Rattle.document_session.proofs.session.Session.snapshot.Goals as goal
 
 pub refuse-requires-clause-refused : goal.refuse-requires-clause-refused
-refuse-requires-clause-refused g c κs within =
+refuse-requires-clause-refused g c =
     let l = g.L.Language.lang in
     let now = c.args.self.now in
     let is : c.shown.result ≡ Err (Refused c.in-Err-Refused.reason) = cc in
@@ -16,7 +16,7 @@ refuse-requires-clause-refused g c κs within =
     (λ (reply : Vec ℕ Global). reply.items) c.shown.result _ c.in-Err-Refused.reason c.requires.read is c.shown.ensures.looked
 
 pub tell-requires-clause-told : goal.tell-requires-clause-told
-tell-requires-clause-told g c κs within =
+tell-requires-clause-told g c =
     let l = g.L.Language.lang in
     let now = c.args.self.now in
     let is : c.shown.result ≡ Ok c.in-Ok.reply = cc in

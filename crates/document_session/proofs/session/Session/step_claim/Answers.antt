@@ -44,10 +44,10 @@ invariant_of-self-in_default g c = still_kept g.L.Language.lang _ _ c.make_step_
     c.make_step_room.ensures.waiting c.make_step_room.ensures.free _ refl c.make_step_room.ensures.jobs
 
 pub refuse-requires-clause-going : goal.refuse-requires-clause-going
-refuse-requires-clause-going g c κs within = still_going g.L.Language.lang c.self.inside.service c.self.inside.outbox c.make_step_room.new.outbox _ c.self.view_is c.make_step_room.ensures.items c.make_step_room.ensures.waiting c.requires.going
+refuse-requires-clause-going g c = still_going g.L.Language.lang c.self.inside.service c.self.inside.outbox c.make_step_room.new.outbox _ c.self.view_is c.make_step_room.ensures.items c.make_step_room.ensures.waiting c.requires.going
 
 pub refuse-requires-clause-refused : goal.refuse-requires-clause-refused
-refuse-requires-clause-refused g c κs within =
+refuse-requires-clause-refused g c =
     nothing_claimed g.L.Language.lang c.self.inside.service c.self.inside.outbox c.make_step_room.new.outbox (session_kept c.self.invariant) c.self.invariant.listed c.make_step_room.ensures.items c.args.message
     c.args.worker (asked_inside c.self.inside.service c.self.inside.outbox _ c.self.view_is c.args.message _ c.requires.read)
     (going_on g.L.Language.lang _ _ _ _ c.self.view_is c.self.invariant.listed c.requires.going) (inl (sym c.first.ensures ∙ c.in_default.is))
@@ -68,10 +68,10 @@ invariant_of-self-in-Nothing g c = still_kept g.L.Language.lang _ _ c.make_step_
     c.make_step_room.ensures.waiting c.make_step_room.ensures.free _ c.in-Nothing.ensures.claimed.1 c.make_step_room.ensures.jobs
 
 pub refuse-requires-in-Nothing-clause-going : goal.refuse-requires-in-Nothing-clause-going
-refuse-requires-in-Nothing-clause-going g c κs within = still_going g.L.Language.lang c.self.inside.service c.self.inside.outbox c.make_step_room.new.outbox _ c.self.view_is c.make_step_room.ensures.items c.make_step_room.ensures.waiting c.requires.going
+refuse-requires-in-Nothing-clause-going g c = still_going g.L.Language.lang c.self.inside.service c.self.inside.outbox c.make_step_room.new.outbox _ c.self.view_is c.make_step_room.ensures.items c.make_step_room.ensures.waiting c.requires.going
 
 pub refuse-requires-in-Nothing-clause-refused : goal.refuse-requires-in-Nothing-clause-refused
-refuse-requires-in-Nothing-clause-refused g c κs within =
+refuse-requires-in-Nothing-clause-refused g c =
     nothing_claimed g.L.Language.lang c.self.inside.service c.self.inside.outbox c.make_step_room.new.outbox (session_kept c.self.invariant) c.self.invariant.listed c.make_step_room.ensures.items c.args.message
     c.number_of-who.result (claims g (goal.at.refuse-requires-in-Nothing-clause-refused g c).After-number_of-who)
     (going_on g.L.Language.lang _ _ _ _ c.self.view_is c.self.invariant.listed c.requires.going) c.in-Nothing.ensures.claimed.0

@@ -61,10 +61,10 @@ invariant_of-self-in_default g c = still_kept g.L.Language.lang _ _ c.make_step_
     (sym c.take_out.ensures.value ∙ c.in_default.is) c.take_out.ensures.others w ∙ c.make_step_room.ensures.jobs w)
 
 pub refuse-requires-clause-going : goal.refuse-requires-clause-going
-refuse-requires-clause-going g c κs within = still_going g.L.Language.lang c.self.inside.service c.self.inside.outbox c.make_step_room.new.outbox _ c.self.view_is c.make_step_room.ensures.items c.make_step_room.ensures.waiting c.requires.going
+refuse-requires-clause-going g c = still_going g.L.Language.lang c.self.inside.service c.self.inside.outbox c.make_step_room.new.outbox _ c.self.view_is c.make_step_room.ensures.items c.make_step_room.ensures.waiting c.requires.going
 
 pub refuse-requires-clause-refused : goal.refuse-requires-clause-refused
-refuse-requires-clause-refused g c κs within =
+refuse-requires-clause-refused g c =
     let script = script_finishes c.self.inside.service ((c.a_message_is_asked_where_it_is_spelled.ensures (mode_of c.self.inside.service) c.args.message
     (asks.Finish c.args.worker)).0 (asked_inside c.self.inside.service c.self.inside.outbox _ c.self.view_is c.args.message _ c.requires.read)).2 in
     nothing_finished g.L.Language.lang c.self.inside.service c.self.inside.outbox c.make_step_room.new.outbox (session_kept c.self.invariant) c.self.invariant.listed c.make_step_room.ensures.items c.args.message
@@ -80,13 +80,13 @@ pub returns-in_default-clause-err : goal.returns-in_default-clause-err
 returns-in_default-clause-err g c = still_err c.self.inside.service c.self.inside.outbox c.make_step_room.new.outbox _ c.self.view_is c.make_step_room.ensures.items c.make_step_room.ensures.waiting c.refuse.result c.refuse.new.self c.refuse.ensures.err
 
 pub take_in-requires-clause-holds : goal.take_in-requires-clause-holds
-take_in-requires-clause-holds g c κs within = (done_work g (goal.at.take_in-requires-clause-holds g c).In-Done).holds
+take_in-requires-clause-holds g c = (done_work g (goal.at.take_in-requires-clause-holds g c).In-Done).holds
 
 pub take_in-requires-clause-right : goal.take_in-requires-clause-right
-take_in-requires-clause-right g c κs within = (done_work g (goal.at.take_in-requires-clause-right g c).In-Done).right
+take_in-requires-clause-right g c = (done_work g (goal.at.take_in-requires-clause-right g c).In-Done).right
 
 pub take_in-requires-clause-room : goal.take_in-requires-clause-room
-take_in-requires-clause-room g c κs within = omega (arith, c.in_ok-make_step_room.ensures.ok, c.add.ensures.free)
+take_in-requires-clause-room g c = omega (arith, c.in_ok-make_step_room.ensures.ok, c.add.ensures.free)
 
 pub overflow_sub-self : goal.overflow_sub-self
 overflow_sub-self g c = omega (arith, held_one g (goal.at.overflow_sub-self g c).In-Some)

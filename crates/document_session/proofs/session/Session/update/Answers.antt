@@ -19,7 +19,7 @@ use Rattle.document_session.proofs.Refusing.{refused_outside}
 use Rattle.document_session.proofs.session.Session.update.Goals as goal
 
 pub refuse-requires-clause-refused : goal.refuse-requires-clause-refused
-refuse-requires-clause-refused g c κs within =
+refuse-requires-clause-refused g c =
     let l = g.L.Language.lang in
     let inside = c.self.inside in
     let s = session_of inside.buffer inside.core.past inside.protocol inside.called in
@@ -29,7 +29,7 @@ refuse-requires-clause-refused g c κs within =
     c.self.invariant.listed c.requires.read (not_higher l inside.service s c.args.version wanted least)
 
 pub refuse-requires-in-Err-Refused-clause-refused : goal.refuse-requires-in-Err-Refused-clause-refused
-refuse-requires-in-Err-Refused-clause-refused g c κs within =
+refuse-requires-in-Err-Refused-clause-refused g c =
     let l = g.L.Language.lang in
     let inside = c.self.inside in
     let s = session_of inside.buffer inside.core.past inside.protocol inside.called in
@@ -45,7 +45,7 @@ refuse-requires-in-Err-Refused-clause-refused g c κs within =
     (subst (λ (n : ℕ). prepared inside.buffer n wanted ≡ Err reason) live after)))
 
 pub make-requires-clause-made : goal.make-requires-clause-made
-make-requires-clause-made g c κs within =
+make-requires-clause-made g c =
     let l = g.L.Language.lang in
     let inside = c.self.inside in
     let s = session_of inside.buffer inside.core.past inside.protocol inside.called in

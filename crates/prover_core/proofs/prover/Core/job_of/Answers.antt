@@ -31,10 +31,7 @@ input_of-input-requires g c =
     let nodes = ap (λ (v : Version). v.nodes) (c.get-2.ensures ∙ c.tip.ensures) in
     let there = job_there _ _ _ c.self.invariant laws (c.first_law.ensures.first c.self.inside.past) (c.first_law.ensures.none c.self.inside.past)
     (λ e is. c.homes_law.ensures.tip c.self.inside.past e c.self.invariant.legal is)
-    (λ p going. c.homes_law.ensures.begun c.self.inside.past p c.self.invariant.legal going) c.args.part.now first c.get-2.result.now.nodes nodes c.get-home.result.now home in (
-      search rules,
-      (search rules, there),
-    )
+    (λ p going. c.homes_law.ensures.begun c.self.inside.past p c.self.invariant.legal going) c.args.part.now first c.get-2.result.now.nodes nodes c.get-home.result.now home in there
 
 pub returns : goal.returns
 returns g c =

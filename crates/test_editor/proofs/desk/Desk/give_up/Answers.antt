@@ -7,8 +7,8 @@ use Rattle.test_editor.proofs.desk.Desk.give_up.Goals as goal
 pub invariant_of-self : goal.invariant_of-self
 invariant_of-self c = let_go counting _ _ _ _ c.self.invariant c.args.who _ c.take_out.ensures.others
 
-pub give_up-requires-clause-holds : goal.give_up-requires-clause-holds
-give_up-requires-clause-holds c κs = (c.self.invariant.holds c.args.who c.in-Some.job (sym c.in-Some.ensures.value)).part
+pub give_up-requires : goal.give_up-requires
+give_up-requires c = record { holds = (c.self.invariant.holds c.args.who c.in-Some.job (sym c.in-Some.ensures.value)).part }
 
 pub invariant_of-self-in-Dropped : goal.invariant_of-self-in-Dropped
 invariant_of-self-in-Dropped c = later counting _ _ _ _ _ c.in-Dropped.ensures.given_up.1

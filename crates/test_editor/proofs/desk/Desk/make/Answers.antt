@@ -13,10 +13,10 @@ use Rattle.prover_core.proofs.KnownPrepared.{changed, commands, fits, same_updat
 use Rattle.test_editor.proofs.desk.Desk.make.Goals as goal
 
 pub plan-requires-clause-going : goal.plan-requires-clause-going
-plan-requires-clause-going c κs = subst (λ (s : DeskState). has_ended s.past ≡ false) (sym c.self.view_is) c.requires.going
+plan-requires-clause-going c = subst (λ (s : DeskState). has_ended s.past ≡ false) (sym c.self.view_is) c.requires.going
 
 pub plan-requires-clause-fits : goal.plan-requires-clause-fits
-plan-requires-clause-fits c κs =
+plan-requires-clause-fits c =
     let p = subst (λ (s : DeskState). IsPreparedBy s.buffer c.args.made) (sym c.self.view_is) c.requires.prepared in
     let newer = subst (λ (s : DeskState). (doc counting s.past).last < c.args.id) (sym c.self.view_is) c.requires.newer in
     fits _ c.args.id _ c.args.made.after.nodes _ c.args.made.after.document.blobs c.nodes.ensures c.blobs.ensures
@@ -24,7 +24,7 @@ plan-requires-clause-fits c κs =
     c.self.invariant.agrees p.after newer)
 
 pub plan-requires-clause-changed : goal.plan-requires-clause-changed
-plan-requires-clause-changed c κs =
+plan-requires-clause-changed c =
     let p = subst (λ (s : DeskState). IsPreparedBy s.buffer c.args.made) (sym c.self.view_is) c.requires.prepared in
     let d = doc counting c.self.inside.core.past in
     let base = changed c.args.made.changed c.self.inside.buffer.document.blobs d.tip.blobs c.args.made.after.document.blobs
@@ -33,7 +33,7 @@ plan-requires-clause-changed c κs =
     (subst (λ (y : BlobList). AreChanged c.args.made.changed d.tip.blobs y) (sym c.blobs.ensures) base)
 
 pub plan-requires-clause-commands : goal.plan-requires-clause-commands
-plan-requires-clause-commands c κs =
+plan-requires-clause-commands c =
     let p = subst (λ (s : DeskState). IsPreparedBy s.buffer c.args.made) (sym c.self.view_is) c.requires.prepared in
     let d = doc counting c.self.inside.core.past in
     let base = commands d.tip c.self.inside.buffer.nodes c.args.made.after.nodes c.args.made.untouched c.self.invariant.agrees.nodes p.kept in
@@ -47,7 +47,7 @@ pub invariant_of-self-in-Err-Limit : goal.invariant_of-self-in-Err-Limit
 invariant_of-self-in-Err-Limit c = later counting _ _ _ _ _ c.plan.ensures.past c.self.invariant
 
 pub update-told-requires-clause-going : goal.update-told-requires-clause-going
-update-told-requires-clause-going c κs =
+update-told-requires-clause-going c =
     subst (λ h. has_ended h ≡ false) (sym c.plan.ensures.past)
     (subst (λ (s : DeskState). has_ended s.past ≡ false) (sym c.self.view_is) c.requires.going)
 
