@@ -1,5 +1,5 @@
 -- A message that is answered.
-use Rattle.std.proofs.Common.{◌≡◌, ℕ, false, List, [], ◌∷◌, ◌++◌, Option, None, refl, sym, ap, subst, ◌∙◌}
+use Rattle.std.proofs.Common.{◌≡◌, ℕ, false, List, [], ◌∷◌, ◌++◌, Option, None, Result, Ok, Err, OnOk, IfErr, sym, ap, subst, ◌∙◌}
 use Rattle.std.specs.Io.KnownBytes.{Appends}
 use Rattle.language.specs.Lang.{Lang}
 use Rattle.core_rules.specs.Standing.{has_ended}
@@ -13,12 +13,13 @@ use Rattle.session_lists.specs.Legal.{AreLegal}
 use Rattle.document_session.specs.Contents.{SessionState}
 use Rattle.document_serve.specs.Served.{AllSent, IsLostLast, WritesFront, WritesOn, WritesSome, calls, calls_in, sent_in}
 use Rattle.document_serve.specs.Going.{IsGoing}
-use Rattle.document_serve.specs.Runs.{Fails, GoesOn, IsSame, ServedSo, WrittenSo}
+use Rattle.message_input.specs.declared.answering.Halt.{Halt}
+use Rattle.message_input.specs.declared.answering.Halt.TheVariants as halt
+use Rattle.document_serve.specs.Runs.{Fails, GoesOn, IsSame, WrittenSo}
 use Rattle.session_laws.proofs.KnownNamed.{AskedLaw}
 use Rattle.document_serve.proofs.Stepping.{IsAfter, going_same, same_in}
-use Rattle.document_serve.specs.declared.served.Served.{Served}
-use Rattle.document_serve.specs.declared.served.Served.TheVariants as served
 use Rattle.document_serve.proofs.At.{IsAt}
+use Rattle.document_serve.proofs.Stops.{StopsAmong, fails_behind}
 
 module _ {S : Type 0} (l : Lang S) (law : AskedLaw)
     (held now : Option (List ℕ)) (old s : SessionState) (came message : List (List ℕ)) (a : IsAt l held now old s came message) where
@@ -56,16 +57,11 @@ module _ {S : Type 0} (l : Lang S) (law : AskedLaw)
       }
 
       -- it is, but the sink fails
-      pub answer_fails : IsSame l mid new → WritesFront l now then mid new → WritesSome l now then mid new → IsLostLast new → Fails l held then old new (came ∷ [])
+      pub answer_fails : IsSame l mid new → WritesFront l now then mid new → WritesSome l now then mid new → IsLostLast new → Fails l held then old new (came ∷ []) []
       answer_fails written front some lost = record {
-        rest = [];
-        halted = record {
-          service = same_service written;
-          legal = written.legal;
-          front = came ∷ [];
-          parts = refl;
-          called = calls_after written;
-        };
+        service = same_service written;
+        legal = written.legal;
+        called = calls_after written;
         alone = same_in l (λ v es. IsAlone l v None (all_heard v es)) mid new written mid_going.alone;
         writes = λ first w. front first (subst (Appends first now) (sym sent_after) (a.writes first w));
         sends = λ first w. some first (subst (Appends first now) (sym sent_after) (a.writes first w));
@@ -73,6 +69,11 @@ module _ {S : Type 0} (l : Lang S) (law : AskedLaw)
       }
 
       -- the one or the other
-      pub answer_served : (r : Served) → WrittenSo l now then mid new r → ServedSo l held then old new (came ∷ []) r
-      answer_served served.All w = goes_on w.0 w.1 w.2 w.3
-      answer_served served.WriteFault w = answer_fails w.0 w.1 w.2 w.3
+      pub answer_ok : (r : Result (Unit {0}) Halt) → WrittenSo l now then mid new r → OnOk r (GoesOn l held then old new (came ∷ []))
+      answer_ok (Ok done) w = goes_on w.0 w.1 w.2 w.3
+      answer_ok (Err h) w = tt
+
+      pub answer_err : (r : Result (Unit {0}) Halt) → WrittenSo l now then mid new r → IfErr r (λ h. StopsAmong l held then old (came ∷ []) h new)
+      answer_err (Ok done) w = tt
+      answer_err (Err halt.WriteFault) w = fails_behind l held then old new came (answer_fails w.0 w.1 w.2 w.3)
+      answer_err (Err halt.NoMemory) w = absurd (w)

@@ -10,19 +10,13 @@ use Rattle.session_rules.specs.declared.service.Service.{Service}
 use Rattle.session_rules.specs.Legal.{IsLegal}
 use Rattle.session_rules.specs.Alone.{IsAlone}
 use Rattle.session_lists.specs.Items.{SessionItem, heard_in, session_in}
-use Rattle.session_lists.specs.Legal.{AreLegal}
 use Rattle.session_lists.specs.Pieces.{pieces}
 use Rattle.document_session.specs.Contents.{SessionState}
 use Rattle.document_serve.specs.Laws.{ListLaws}
 use Rattle.document_serve.specs.Served.{AllSent, calls_in, replies_in, sent_in}
 use Rattle.document_serve.specs.Going.{IsAtRest}
-use Rattle.document_serve.proofs.Sent.{sent_made, sent_whole}
-
--- the session has ended
-pub record IsEnded {S : Type 0} (l : Lang S) (s t : SessionState) : Type 0 where
-  pub service : t.service ≡ s.service
-  pub items : t.items ≡ Made entry.Ended ∷ s.items
-  pub legal : AreLegal l t.service t.items
+use Rattle.document_serve.specs.Runs.{IsEnded}
+use Rattle.document_serve.proofs.KnownSent.{sent_made, sent_whole}
 
 module _ {S : Type 0} (l : Lang S) (laws : ListLaws l) (s t : SessionState) (e : IsEnded l s t) where
   at_end : (P : Service → List SessionItem → Type 0) → P s.service (Made entry.Ended ∷ s.items) → P t.service t.items

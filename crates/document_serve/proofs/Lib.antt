@@ -1,4 +1,5 @@
-mod Sent
+mod Stops
+pub mod KnownSent
 mod Wrote
 mod Worked
 mod Stepping
@@ -8,12 +9,6 @@ mod Answered
 mod OneMore
 mod Short
 mod HandedBack
-mod Decoding
-mod GoingOn
 mod Ended
-mod Stopping
-mod Ends
-mod Unread
-mod Pulling
-mod Completes
-mod Refused
+mod Came
+mod Inputs

@@ -69,16 +69,11 @@ module _ {S : Type 0} (l : Lang S) (laws : WorkLaws l) (law : AskedLaw)
       }
 
       -- it is, but the sink fails
-      pub work_fails : WritesFront l now then mid new → WritesSome l now then mid new → IsLostLast new → Fails l held then old new (came ∷ [])
+      pub work_fails : WritesFront l now then mid new → WritesSome l now then mid new → IsLostLast new → Fails l held then old new [] (came ∷ [])
       work_fails front some lost = record {
-        rest = came ∷ [];
-        halted = record {
-          service = same_service;
-          legal = written.legal;
-          front = [];
-          parts = refl;
-          called = calls_kept ∙ sym (append-nil (calls_in old.items));
-        };
+        service = same_service;
+        legal = written.legal;
+        called = calls_kept ∙ sym (append-nil (calls_in old.items));
         alone = same_in l (λ v es. IsAlone l v (awaited_by l v (all_heard v es) came) (all_heard v es)) mid new written
             (subst (λ (m : List (List ℕ)). IsAlone l mid.service (awaited_by l mid.service (heard_in mid.service mid.items) m) (heard_in mid.service mid.items))
             a.same mid_worked.alone);

@@ -30,7 +30,7 @@ use Rattle.document_serve.specs.Going.{IsGoing}
 use Rattle.document_serve.specs.Runs.{IsSame}
 use Rattle.session_laws.proofs.KnownNamed.{AskedLaw, claims_asked, finishes_asked}
 use Rattle.session_laws.proofs.KnownHolding.{message_goes}
-use Rattle.document_serve.proofs.Sent.{sent_made}
+use Rattle.document_serve.proofs.KnownSent.{sent_made}
 use Rattle.document_serve.proofs.Worked.{legal_made}
 
 -- nothing of a history has changed

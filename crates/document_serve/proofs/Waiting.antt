@@ -23,7 +23,7 @@ use Rattle.document_serve.specs.Served.{calls_in, sent_in}
 use Rattle.document_serve.specs.Going.{IsGoing, awaited_by}
 use Rattle.session_laws.proofs.KnownNamed.{AskedLaw}
 use Rattle.session_laws.proofs.KnownHolding.{reader_idle}
-use Rattle.document_serve.proofs.Sent.{sent_made}
+use Rattle.document_serve.proofs.KnownSent.{sent_made}
 use Rattle.session_laws.proofs.KnownStays.{awaited_stays}
 use Rattle.session_laws.proofs.KnownWaited.{awaits, some_ready}
 use Rattle.document_serve.proofs.Worked.{MayWork, legal_made}

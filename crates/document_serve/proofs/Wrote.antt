@@ -17,7 +17,7 @@ use Rattle.session_lists.specs.Pieces.{pieces, AreWaiting}
 use Rattle.document_session.specs.Contents.{SessionState}
 use Rattle.document_serve.specs.Served.{AllSent, IsLostLast, WritesFront, WritesOn, WritesSome, replies_in, sent_in}
 use Rattle.document_serve.specs.Runs.{IsSame}
-use Rattle.document_serve.proofs.Sent.{joined, none_waits, sent_front, sent_next}
+use Rattle.document_serve.proofs.KnownSent.{joined, none_waits, sent_front, sent_next}
 
 -- the replies of a session that wait
 abbrev pub Waits : {S : Type 0} → Lang S → SessionState → List (List ℕ) → Type 0

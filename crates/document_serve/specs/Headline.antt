@@ -1,13 +1,11 @@
 -- What is promised of a run. `s` is the session after it, with the items of its list, the newest
 -- first; the bytes taken are those that were left before and no more after (this project's own).
-use Rattle.std.specs.Prelude.{◌≡◌, ◌≢◌, ℕ, true, false, List, ◌++◌, Option, None, ⊤}
+use Rattle.std.specs.Prelude.{◌≡◌, ℕ, true, false, List, ◌++◌, Option, None, ⊤}
 use Rattle.std.specs.Io.KnownBytes.{Appends, Consumes}
 use Rattle.pide_base.specs.Moves.{AppendsFront}
 use Rattle.pide_base.specs.declared.status.Status.{Status}
 use Rattle.pide_base.specs.declared.status.Status.TheVariants as status
 use Rattle.byte_message.specs.Stream.{Ending, IsReadAs}
-use Rattle.byte_message.specs.Stream.Ending.{Whole, Bad, Short}
-use Rattle.byte_message.specs.declared.frame_fault.FrameFault.{FrameFault}
 use Rattle.language.specs.Lang.{Lang}
 use Rattle.core_rules.specs.Standing.{has_ended}
 use Rattle.reply_outbox.specs.Items.{is_lost}
@@ -18,7 +16,7 @@ use Rattle.session_lists.specs.Legal.{AreLegal}
 use Rattle.document_session.specs.Contents.{SessionState}
 use Rattle.document_serve.specs.Served.{AllSent, IsLostLast, calls_in, replies_in, sent_in}
 use Rattle.document_serve.specs.Going.{IsWorkedFor, IsLeftFor}
-use Rattle.document_serve.specs.Causes.{place_of, DoneSo, TruncatedSo, BadFrameSo, LongSo}
+use Rattle.message_input.specs.Causes.{HasCause, Tells}
 
 -- the bytes written are the replies of the history; where writing fails, a front of them
 abbrev pub BytesWritten : {S : Type 0} → Lang S → Status → Option (List ℕ) → Option (List ℕ)
@@ -51,16 +49,6 @@ pub record OneLegalHistory {S : Type 0} (l : Lang S) (how : Status) (s : Session
   pub legal : IsLegal l s.service (heard_in s.service s.items)
   pub list : AreLegal l s.service s.items
   pub closed : Closed l how s
-
--- the status tells how the bytes end: between messages, at a line at fault, or within a message.
--- They end at no fault where they are too many
-abbrev pub Tells : Status → Ending → Type 0
-Tells status.Done ending = ending ≡ Whole
-Tells (status.BadFrame at) ending =
-    (fault : FrameFault) × (ending ≡ Bad fault) × (at ≡ place_of fault)
-Tells (status.Truncated at) ending = ending ≡ Short at
-Tells status.LongInput ending = (fault : FrameFault) → ending ≢ Bad fault
-Tells _ ending = ⊤
 
 -- these messages, and others after them of which this holds, are those of the bytes
 pub record IsFront (bytes : List ℕ) (messages : List (List (List ℕ)))
@@ -106,9 +94,4 @@ pub record IsRun {S : Type 0} (l : Lang S) (limit : ℕ) (how : Status)
   pub legal : OneLegalHistory l how s
   pub read : MessagesRead how left left' s
   pub alone : MadeAlone l how left left' s
-  pub bad_frame : (at : ℕ) → how ≡ status.BadFrame at → BadFrameSo at left left'
-  pub truncated : (at : ℕ) → how ≡ status.Truncated at → TruncatedSo at left left'
-  pub long_input : LongSo limit how left left'
-  pub done : how ≡ status.Done → DoneSo left left'
-  pub never : (at : ℕ) → how ≢ status.BadText at
-  pub words : how ≢ status.Usage
+  pub cause : HasCause limit how left left'

@@ -12,7 +12,8 @@ use Rattle.session_lists.specs.Items.{heard_in}
 use Rattle.session_laws.specs.Promises.{EachMessage}
 use Rattle.document_session.specs.Contents.{SessionState}
 
--- messages are served where no workers are asked for: so far there are none
+-- messages are served where no workers are asked for: so far there are none, and nothing is built
+-- or made
 abbrev pub serves : Option Request → Bool
 serves (Some (request.Serve workers)) = workers == 0
 serves (Some request.Replay) = true

@@ -2,7 +2,7 @@
 ghost use Rattle.std.specs.Prelude.{◌≡◌, ◌⊎◌, ℕ, true, false, [], map, IsOk, IsErr, IfOk, IfErr};
 ghost use Rattle.pide_base.specs.Faults.{Rose};
 ghost use Rattle.pide_check.specs.Checked.{ChecksWhole, IsChecked};
-ghost use Rattle.document_serve.specs.Causes.{BadFrameSo, CompleteSo, DoneSo, LongSo, TruncatedSo};
+ghost use Rattle.message_input.specs.Causes.{BadFrameSo, CompleteSo, DoneSo, LongSo, TruncatedSo};
 ghost use Rattle.document_serve.specs.Headline.{BytesWritten, MadeAlone, MessagesRead, OneLegalHistory};
 ghost use Rattle.isar_rules.specs.Isar.{isar};
 ghost use Rattle.session_laws.specs.Promises.{CoversSo, ShowsSo};

@@ -2,14 +2,14 @@
 ghost use Rattle.std.specs.Prelude.{◌≡◌, ◌⊎◌, ℕ, [], Err, IsOk, IsErr, IfOk, IfErr};
 ghost use Rattle.pide_base.specs.Faults.{Rose};
 ghost use Rattle.pide_check.specs.Checked.{ChecksWhole, IsChecked};
-ghost use Rattle.document_serve.specs.Causes.{BadFrameSo, CompleteSo, DoneSo, LongSo, TruncatedSo};
+ghost use Rattle.message_input.specs.Causes.{BadFrameSo, CompleteSo, DoneSo, LongSo, TruncatedSo};
 ghost use Rattle.document_serve.specs.Headline.{IsRun};
 ghost use Rattle.isar_rules.specs.Isar.{isar};
 ghost use Rattle.session_rules.specs.Services.{free_workers};
 ghost use Rattle.pide_program.specs.Limit.{input_limit};
 
 use crate::outcome::Outcome;
-use document_serve::serve;
+use document_serve::{Served, serve};
 use document_session::Session;
 use pide_base::{Sink, Source, Status};
 use pide_check::check_text;
@@ -73,12 +73,15 @@ pub(crate) fn serve_as<S: Source, K: Sink, P: Past<Service, Entry> + Drop>(
         (S.faults result.source) (K.faults sink) (K.faults result.sink) result.status }
 {
     let mut source = source;
-    let mut sink = sink;
-    let mut session = match Session::<Isar, P>::new(alloc, service, past) {
+    let session = match Session::<Isar, P>::new(alloc, service, past) {
         Ok(session) => session,
         Err(AllocFailed { value }) => return unserved(Status::NoMemory, source, sink, value),
     };
-    let status = serve(alloc, &Isar, &mut source, &mut sink, &mut session, LIMIT);
+    let Served {
+        status,
+        session,
+        sink,
+    } = serve(alloc, &Isar, &mut source, sink, session, LIMIT);
     Outcome {
         status,
         source,

@@ -1,12 +1,12 @@
 //! Runs of exchanges.
 ghost use Rattle.std.specs.Prelude.{◌≡◌, ◌⊎◌, ◌<◌, true, length, map};
 ghost use Rattle.byte_message.specs.Stream.Ending.{Whole};
-ghost use Rattle.document_serve.specs.Causes.{HasEnding};
+ghost use Rattle.message_input.specs.Causes.{HasEnding};
 ghost use Rattle.pide_program.specs.Limit.{input_limit};
 ghost use Rattle.pide_program.specs.Words.{is_served};
 
 use crate::exchange::Exchange;
-use document_serve::serve;
+use document_serve::{Served, serve};
 use document_session::Session;
 use pide_base::Status;
 use pide_io::{MemSink, MemSource};
@@ -155,8 +155,12 @@ fn run_within(
     limit: usize,
 ) -> Result<Ran, AllocError> {
     let mut source = source;
-    let mut sink = sink;
-    let (status, entries) = served(alloc, &mut source, &mut sink, limit)?;
+    let Served {
+        status,
+        session,
+        sink,
+    } = served(alloc, &mut source, sink, limit)?;
+    let entries = entries_of(&session);
     let pulls = source.faults();
     let pushes = sink.faults();
     Ok(Ran {
@@ -168,22 +172,17 @@ fn run_within(
     })
 }
 
-/// Serves the source up to this limit, into the sink, in a session in which nothing happened: how
-/// that ends, and how many entries its list has.
+/// Serves the source up to this limit, into the sink, in a session in which nothing happened.
 fn served(
     alloc: Global,
     source: &mut MemSource,
-    sink: &mut MemSink,
+    sink: MemSink,
     limit: usize,
-) -> Result<(Status, usize), AllocError> {
+) -> Result<Served<Isar, Past, MemSink>, AllocError> {
     let service = Service::Workers { count: 0 };
     let past = Past::new(alloc);
     match Session::new(alloc, service, past) {
-        Ok(mut session) => {
-            let status = serve(alloc, &Isar, source, sink, &mut session, limit);
-            let entries = entries_of(&session);
-            Ok((status, entries))
-        }
+        Ok(session) => Ok(serve(alloc, &Isar, source, sink, session, limit)),
         Err(_) => Err(AllocError),
     }
 }

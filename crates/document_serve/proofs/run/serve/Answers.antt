@@ -1,11 +1,9 @@
 -- Nothing else hinders a run whose bytes end between messages.
-use Rattle.std.proofs.Common.{Ok, ap}
-use Rattle.document_serve.proofs.Completes.{completes}
+use Rattle.message_input.proofs.KnownCompletes.{completes}
 use Rattle.document_serve.proofs.run.serve.Goals as goal
 
-pub returns-in-Ok-clause-complete : goal.returns-in-Ok-clause-complete
-returns-in-Ok-clause-complete g c = completes g.L.Language.lang c.args.limit (g.S.Source.left c.args.source.now) (g.S.Source.left c.serve_input.new.source)
-    (g.K.Sink.contents c.args.sink.now) (g.K.Sink.contents c.serve_input.new.sink)
-    (g.S.Source.faults c.args.source.now) (g.S.Source.faults c.serve_input.new.source)
-    (g.K.Sink.faults c.args.sink.now) (g.K.Sink.faults c.serve_input.new.sink) c.in-Ok.status c.serve_input.new.session
-    c.in-Ok.ensures.ok (λ e. c.in-Ok.ensures.read_fault (ap (λ s. Ok s) e)) (λ e. c.in-Ok.ensures.write_fault (ap (λ s. Ok s) e))
+pub returns-clause-complete : goal.returns-clause-complete
+returns-clause-complete g c = completes c.args.limit (g.S.Source.left c.args.source.now) (g.S.Source.left c.serve_alone.new.source)
+    (g.S.Source.faults c.args.source.now) (g.S.Source.faults c.serve_alone.new.source)
+    (g.K.Sink.faults c.args.sink) (g.K.Sink.faults c.serve_alone.result.sink) c.serve_alone.result.status
+    c.serve_alone.ensures.run.cause c.serve_alone.ensures.read_fault c.serve_alone.ensures.write_fault

@@ -11,14 +11,14 @@ use Rattle.document_serve.proofs.Worked.{claimed_wanted, never_idle}
 use Rattle.document_serve.proofs.working.work.Goals as goal
 
 pub work_on-requires-clause-holds : goal.work_on-requires-clause-holds
-work_on-requires-clause-holds g c = λ κs outlives.
+work_on-requires-clause-holds g c =
     let l = g.L.Language.lang in
     let s = c.args.session.now in
     let so = subst (λ r. ClaimedSo l s.service 0 s.items r c.claim.new.self.items) c.in-Job.is c.claim.ensures.claimed in
     subst (λ (v : Service). IsWorkOf l (session_in l v c.claim.new.self.items) 0 c.in-Job.job) (sym c.claim.ensures.service) so.1
 
 pub work_on-requires-clause-wanted : goal.work_on-requires-clause-wanted
-work_on-requires-clause-wanted g c = λ κs outlives.
+work_on-requires-clause-wanted g c =
     let l = g.L.Language.lang in
     let s = c.args.session.now in
     let so = subst (λ r. ClaimedSo l s.service 0 s.items r c.claim.new.self.items) c.in-Job.is c.claim.ensures.claimed in

@@ -1,0 +1,5 @@
+mod Decoding
+mod Halting
+mod Pulling
+mod Ends
+pub mod KnownCompletes
