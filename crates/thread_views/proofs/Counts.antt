@@ -1,17 +1,18 @@
 -- How many replies were sent, by the items of the writer and by all.
-use Rattle.std.proofs.Common.{◌≡◌, ℕ, ◌+◌, ◌≤◌, Bool, true, false, cond, List, [], ◌∷◌, ◌++◌, length, reverse, refl, sym, ap, subst, ◌∙◌, arith, eq-eqb, length-append, zero-add}
+use Rattle.std.proofs.Common.{◌≡◌, ℕ, ◌+◌, ◌≤◌, Bool, true, false, cond, List, [], ◌∷◌, ◌++◌, length, map, reverse, refl, sym, ap, subst, ◌∙◌, arith, eq-eqb, length-append, zero-add}
 use Rattle.std.specs.Prelude.{◌==◌}
-use Rattle.std.proofs.lemmas.List.{length-map, length-reverse}
 use Rattle.language.specs.Lang.{Lang}
 use Rattle.hist_lock.specs.Entries.{own}
 use Rattle.reply_outbox.specs.declared.item.Item.TheVariants as item
 use Rattle.reply_outbox.specs.Items.{lengths_sent}
 use Rattle.session_rules.specs.declared.service.Service.{Service}
 use Rattle.session_rules.specs.declared.service.Service.TheVariants.{Workers}
+use Rattle.session_rules.specs.Heard.{heard}
+use Rattle.session_rules.specs.Replies.{told}
+use Rattle.session_replies.specs.Spelling.{spelling}
 use Rattle.session_lists.specs.Items.{SessionItem, heard_in}
 use Rattle.session_lists.specs.Legal.{AreLegal, MayStand}
 use Rattle.session_lists.specs.Pieces.{pieces}
-use Rattle.session_lists.specs.Sent.{IsFrontSent}
 use Rattle.thread_views.specs.Callers.{maker, service_of, whose, worker_count}
 use Rattle.thread_views.specs.Histories.{IsLegalLog, replies_after}
 use Rattle.thread_views.specs.Sent.{sent_count}
@@ -45,29 +46,36 @@ own_fewer who [] = omega arith
 own_fewer who (x ∷ items) = omega (arith, own_count_more who x items, one_fewer (whose x == who) x items, own_fewer who items)
 
 module _ {S : Type 0} (l : Lang S) where
-  -- what was sent is a front of the replies
-  abbrev pub FrontLaw : Type 0
-  FrontLaw = (service : Service) (items : List SessionItem) → AreLegal l service items → IsFrontSent l service items
-
-  within_replies : FrontLaw → (service : Service) (items : List SessionItem) → AreLegal l service items
+  -- no more replies were sent than there are
+  within_replies : (service : Service) (items : List SessionItem) → AreLegal l service items
       → sent_count items ≤ length (pieces l service (heard_in service items))
-  within_replies law service items are =
-      let f = law service items are in
+  within_replies service [] are = absurd (are)
+  within_replies service (oldest ∷ []) are =
+      subst (λ (x : SessionItem). sent_count (x ∷ []) ≤ length (pieces l service (heard_in service (x ∷ [])))) (sym are) (omega arith)
+  within_replies service (item.Opened other ∷ before ∷ items) are = absurd (are.1)
+  within_replies service (item.Lost w ∷ before ∷ items) are = within_replies service (before ∷ items) are.0
+  within_replies service (item.Made entry ∷ before ∷ items) are =
+      let h = heard_in service (before ∷ items) in
       omega (
         arith,
-        ap (λ (xs : List (List ℕ)). length xs) f.front,
-        length-append f.sent f.waiting,
-        ap (λ (ns : List ℕ). length ns) f.lengths,
-        length-map f.sent length,
-        length-reverse (lengths_sent items),
+        within_replies service (before ∷ items) are.0,
+        length-append (pieces l service h) (map spelling (told l service h (heard service entry))),
+      )
+  within_replies service (item.Sent w len ∷ before ∷ items) are =
+      let first = are.1.first in
+      omega (
+        arith,
+        first.count,
+        ap (λ (xs : List (List ℕ)). length xs) first.replies,
+        length-append first.gone (are.1.bytes ∷ are.1.behind),
       )
 
   -- a caller was handed no more replies than there are
-  pub own_within_replies : FrontLaw → (who : ℕ) (log : List SessionItem) → IsLegalLog l log
+  pub own_within_replies : (who : ℕ) (log : List SessionItem) → IsLegalLog l log
       → sent_count (own whose who log) ≤ length (replies_after l log)
-  own_within_replies law who log are =
+  own_within_replies who log are =
       let fewer = on_log (λ items xs. sent_count (own whose who xs) ≤ sent_count items) (own_fewer who) log in
-      omega (arith, fewer, within_replies law (service_of log) (reverse log) are)
+      omega (arith, fewer, within_replies (service_of log) (reverse log) are)
 
   module _ (count : ℕ) where
     abbrev service : Service

@@ -8,4 +8,4 @@ mod Right
 mod Counts
 mod Takers
 mod Losses
-mod Handed
+pub mod KnownHanded

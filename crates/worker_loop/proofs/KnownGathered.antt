@@ -20,7 +20,7 @@ use Rattle.worker_loop.specs.declared.worker.Worked.TheVariants as worked
 use Rattle.worker_loop.specs.Held.{held_in}
 use Rattle.worker_loop.specs.Worked.{WorkedSo}
 use Rattle.worker_loop.specs.Crew.{AreBack, AreWorkers, HasGathered, HasWorked, HaveWorked, HoldNothing, IsBack, IsWorker, is_short}
-use Rattle.worker_loop.proofs.Rounds.{goes_held}
+use Rattle.worker_loop.proofs.KnownRounds.{goes_held}
 
 module _ {E : Type 0} (v u w : View E) (joined : HasJoined v u w) where
   now_joined : w.joined ≡ v.joined ++ brings u

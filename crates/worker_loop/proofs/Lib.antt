@@ -1,6 +1,6 @@
 pub mod KnownTurns
-mod Held
-mod Rounds
+pub mod KnownHeld
+pub mod KnownRounds
 mod Writes
 pub mod KnownWorkers
 pub mod KnownGathered

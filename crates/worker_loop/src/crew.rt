@@ -51,6 +51,9 @@ fn work_all<S: State + Send, W: Work<S> + Sync, R: Threads + Wait + Sync, G: Gat
     gate: &G,
     shifts: Vec<Shift<S>>,
 ) -> Vec<Shift<S>>
+where
+    W::Job: Send,
+    W::Done: Send,
     requires count { vec_len passes ≡ count }
     requires workers { AreWorkers W.says lock.now 1 passes.items }
     requires room { vec_len passes ≤ vec_capacity shifts }
@@ -94,6 +97,9 @@ pub fn run_workers<S: State + Send, W: Work<S> + Sync, R: Threads + Wait + Sync,
     passes: Vec<Pass<S>>,
     gate: &G,
 ) -> Result<Vec<Shift<S>>, AllocFailed<Vec<Pass<S>>>>
+where
+    W::Job: Send,
+    W::Done: Send,
     requires few { vec_len passes < 2 ^ 32 }
     requires workers { AreWorkers W.says lock.now 1 passes.items }
     ensures ok { IfOk result (λ shifts. HaveWorked W.says lock.now passes.items shifts.items) }

@@ -21,7 +21,7 @@ pub enum Claim<J> {
     Nothing,
     Ended,
     Lost,
-    /// There was not enough memory, and nothing was claimed.
+    /// Nothing was claimed: there was not enough memory, or the caller may not claim.
     NoMemory,
 }
 
@@ -52,9 +52,9 @@ pub enum Ran<J, D> {
 
 /// How parts of a state are worked on. The calls that take a pass are one turn each.
 pub trait Work<S: State> {
-    type Job: Drop + Send;
+    type Job: Drop;
 
-    type Done: Drop + Send;
+    type Done: Drop;
 
     /// What an entry says.
     ghost says: { S.Entry → Said };
@@ -74,8 +74,8 @@ pub trait Work<S: State> {
     /// The job was stopped by a yes of its stop.
     ghost was_stopped: { Self.Job → Type 0 };
 
-    /// Claims the first part that is ready, and nothing where the caller may not claim. The caller
-    /// holds none.
+    /// Claims the first part that is ready. The caller holds none. One that may not claim is given
+    /// none, and answered NoMemory.
     fn claim<R: Wait>(
         &self,
         rt: &R,

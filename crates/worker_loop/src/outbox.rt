@@ -28,8 +28,8 @@ pub trait Outbox<S: State> {
     /// All bytes that were handed to this caller in this history, in order.
     ghost sent: { ℕ → List S.Entry → List ℕ };
 
-    /// Takes the next piece, and nothing where the caller isn't the writer. The caller has made
-    /// entries for pieces alone.
+    /// Takes the next piece. The caller has made entries for pieces alone. One that isn't the writer
+    /// is answered nothing but that all has ended.
     fn next<R: Wait>(&self, rt: &R, lock: &Shared<S>, pass: &mut Pass<S>, who: u32) -> Next
         requires own { IsPassOf lock.now pass.old }
         requires who { (view pass.old).caller ≡ who }
@@ -49,6 +49,7 @@ pub trait Outbox<S: State> {
         requires knows { KnowsOwn S.whose (view pass.old) }
         ensures own { IsPassOf lock.now pass.new }
         ensures same { IsSameCaller (view pass.old) (view pass.new) }
+        ensures knows { KnowsOwn S.whose (view pass.new) }
         ensures lost { LostSo says (sent who) (view pass.old) (view pass.new) };
 
     /// Entries of others hand this caller nothing.

@@ -1,5 +1,5 @@
 //! The writer's loop.
-ghost use Rattle.std.specs.Prelude.{◌≡◌, ◌≤◌, IfNone};
+ghost use Rattle.std.specs.Prelude.{◌≡◌, ◌≤◌};
 ghost use Rattle.hist_lock.specs.Known.{IsSameCaller};
 ghost use Rattle.hist_lock.specs.Passes.{view, IsPassOf};
 ghost use Rattle.worker_loop.specs.Sending.{HasOnlySent, KnowsOwn};
@@ -47,7 +47,7 @@ fn send_next<S: State, O: Outbox<S>, K: Sink, R: Wait>(
         result
         (view pass.new) (record { contents = K.contents sink.new; faults = K.faults sink.new }) }
     ensures steady { K.faults sink.old ≤ K.faults sink.new }
-    ensures knows { IfNone result (KnowsOwn S.whose (view pass.new)) }
+    ensures knows { KnowsOwn S.whose (view pass.new) }
 {
     match outbox.next(rt, lock, pass, who) {
         Next::Piece(piece) => {
@@ -81,6 +81,7 @@ pub fn write_out<S: State, O: Outbox<S>, K: Sink, R: Wait>(
     requires knows { KnowsOwn S.whose (view pass) }
     ensures own { IsPassOf lock.now result.pass }
     ensures same { IsSameCaller (view pass) (view result.pass) }
+    ensures knows { KnowsOwn S.whose (view result.pass) }
     ensures wrote { WrittenSo O.says (O.sent who)
         (view pass) (record { contents = K.contents sink; faults = K.faults sink })
         result.written (view result.pass)

@@ -1,5 +1,5 @@
 use Rattle.thread_views.proofs.Takers.{taker_is_writer}
-use Rattle.thread_views.proofs.Handed.{all_replies, loses_nothing, next_sent, others_hand_nothing}
+use Rattle.thread_views.proofs.KnownHanded.{all_replies, loses_nothing, next_sent, others_hand_nothing}
 use Rattle.thread_views.proofs.Losses.{lost_log}
 use Rattle.thread_views.proofs.handing.handed_law.Goals as goal
 
@@ -11,7 +11,7 @@ returns-clause-lost g c = λ log are. lost_log g.L.Language.lang log are
 
 pub returns-clause-others : goal.returns-clause-others
 returns-clause-others g c = λ who seen log are p same.
-    others_hand_nothing g.L.Language.lang c.sent_law.ensures.front who seen log are p same
+    others_hand_nothing g.L.Language.lang who seen log are p same
 
 pub returns-clause-next : goal.returns-clause-next
 returns-clause-next g c = λ log bytes waiting are w. next_sent g.L.Language.lang log bytes waiting are w

@@ -1,4 +1,4 @@
-use Rattle.thread_views.proofs.Handed.{waiting_grows}
+use Rattle.thread_views.proofs.KnownHanded.{waiting_grows}
 use Rattle.thread_views.proofs.handing.waiting_law.Goals as goal
 
 pub returns : goal.returns

@@ -2,7 +2,7 @@
 use Rattle.std.proofs.Common.{Some, Bool, subst, ◌∙◌}
 use Rattle.hist_lock.specs.Passes.{view}
 use Rattle.worker_loop.specs.Answers.{LookedSo}
-use Rattle.worker_loop.proofs.Rounds.{stands}
+use Rattle.worker_loop.proofs.KnownRounds.{stands}
 use Rattle.worker_loop.proofs.carry.carry_out.Goals as goal
 
 pub returns-then-ended-clause-round : goal.returns-then-ended-clause-round

@@ -2,7 +2,7 @@
 use Rattle.std.proofs.Common.{None, rules}
 use Rattle.hist_lock.specs.Passes.{view}
 use Rattle.worker_loop.specs.Rounds.{GoesOn}
-use Rattle.worker_loop.proofs.Rounds.{goes_held, goes_then, stopped_then}
+use Rattle.worker_loop.proofs.KnownRounds.{goes_held, goes_then, stopped_then}
 use Rattle.worker_loop.proofs.worker.work.Goals as goal
 
 pub returns-in-Some-round-clause-worked : goal.returns-in-Some-round-clause-worked

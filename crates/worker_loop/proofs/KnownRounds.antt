@@ -9,7 +9,7 @@ use Rattle.worker_loop.specs.declared.worker.Worked.TheVariants as worked
 use Rattle.worker_loop.specs.Held.{held_after, held_from, held_in}
 use Rattle.worker_loop.specs.Rounds.{Steps, AreRounds, GoesOn}
 use Rattle.worker_loop.specs.Worked.{StoppedSo}
-use Rattle.worker_loop.proofs.Held.{held-append}
+use Rattle.worker_loop.proofs.KnownHeld.{held-append}
 
 -- a step tells what is held after it
 pub step_held : (held : Option Part) (what : Said) (next : Option Part) → Steps held what next → held_after held what ≡ next
@@ -29,7 +29,7 @@ step_held (Some p) said.Ended next s = absurd s
 step_held (Some p) said.Other next s = absurd s
 
 module _ {E : Type 0} (says : E → Said) where
-  rounds_held : (held : Option Part) (es : List E) (after : Option Part) → AreRounds says held es after → held_from says held es ≡ after
+  pub rounds_held : (held : Option Part) (es : List E) (after : Option Part) → AreRounds says held es after → held_from says held es ≡ after
   rounds_held held [] after r = sym r
   rounds_held held (e ∷ es) after r =
       ap (λ h. held_from says h es) (step_held held (says e) r.0 r.1) ∙ rounds_held r.0 es after r.2

@@ -21,7 +21,7 @@ use Rattle.thread_views.specs.Histories.{IsLegalLog, replies_after}
 use Rattle.thread_views.specs.Idle.{Waits}
 use Rattle.thread_views.specs.Sent.{sent_count, joined_bytes, bytes_sent}
 use Rattle.thread_views.proofs.Begins.{begins_reversed, legal_begins, same_workers, some_legal, workers_front}
-use Rattle.thread_views.proofs.Counts.{FrontLaw, count_more, own_counts_log, own_within_replies}
+use Rattle.thread_views.proofs.Counts.{count_more, own_counts_log, own_within_replies}
 
 abbrev Replies : Type 0
 Replies = List (List ℕ)
@@ -68,11 +68,11 @@ module _ {S : Type 0} (l : Lang S) where
       ∙ ap (λ b. own whose who log ++ cond b (x ∷ []) []) (eq-eqb (whose x) who is)
 
   -- what others do hands a caller nothing
-  pub others_hand_nothing : FrontLaw l → (who : ℕ) (seen log : List SessionItem) → IsLegalLog l log → IsPrefix seen log
+  pub others_hand_nothing : (who : ℕ) (seen log : List SessionItem) → IsLegalLog l log → IsPrefix seen log
       → own whose who log ≡ own whose who seen → bytes_sent l who log ≡ bytes_sent l who seen
-  others_hand_nothing law who [] log are p same =
+  others_hand_nothing who [] log are p same =
       ap (λ (mine : List SessionItem). joined_bytes (take (sent_count mine) (replies_after l log))) same
-  others_hand_nothing law who (x ∷ rest) log are p same =
+  others_hand_nothing who (x ∷ rest) log are p same =
       let seen : List SessionItem = x ∷ rest in
       let some : seen ≢ [] = λ e. absurd (let no : ⊥ = cc in no) in
       let g = replies_grow seen log some p in
@@ -80,7 +80,7 @@ module _ {S : Type 0} (l : Lang S) where
       ap (λ (mine : List SessionItem). joined_bytes (take (sent_count mine) (replies_after l log))) same
       ∙ (ap (λ (all : Replies). joined_bytes (take k all)) g.is
       ∙ ap (λ (all : Replies). joined_bytes all) (take-append-le k (replies_after l seen) g.more
-      (own_within_replies l law who seen (legal_begins l seen log some p are))))
+      (own_within_replies l who seen (legal_begins l seen log some p are))))
 
   -- the replies that are gone are those that the writer took
   gone_taken : (log : List SessionItem) (waiting : Replies) → IsLegalLog l log → (w : Waits l log waiting)

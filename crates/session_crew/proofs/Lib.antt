@@ -1,0 +1,6 @@
+mod Lists
+mod Turns
+mod Claims
+mod Ended
+mod Sends
+mod Takes

@@ -1,0 +1,4 @@
+mod Logs
+mod Turned
+mod Pieces
+mod Replied

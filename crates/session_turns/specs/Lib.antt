@@ -1,0 +1,4 @@
+pub mod Contents
+pub mod Ends
+pub mod Sending
+pub mod Working

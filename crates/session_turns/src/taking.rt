@@ -1,0 +1,93 @@
+//! How the reader has a message answered.
+ghost use Rattle.std.specs.Prelude.{◌≡◌, IfOk, OnErr};
+ghost use Rattle.hist_lock.specs.Entries.{Grows};
+ghost use Rattle.thread_views.specs.Histories.{IsLegalLog};
+ghost use Rattle.session_turns.specs.Ends.{IsGoing};
+ghost use Rattle.session_turns.specs.Working.{AnswersSo, TakesSo};
+
+use crate::locked::Locked;
+use byte_message::Message;
+use document_session::{Claim, Taken};
+use hist_lock::Turn;
+use language::Language;
+use reply_outbox::Past;
+use session_rules::{Entry, Service};
+use std::alloc::{AllocError, Global};
+use thread_views::list_law;
+
+/// What became of a message.
+#[derive(Drop)]
+pub enum Taking<S> {
+    /// It is answered.
+    Replied,
+    /// The version that it waits for isn't settled: here it is back, and what the reader claimed.
+    Waits { message: Message, claim: Claim<S> },
+    /// The sink is lost, and the message is given up.
+    Lost,
+    /// There was not enough memory: nothing has changed, and the message is given up.
+    NoMemory,
+}
+
+impl<L: Language, P: Past<Service, Entry> + Drop> Locked<L, P> {
+    /// A message is answered, or handed back where it waits. For want of memory nothing has
+    /// changed.
+    fn answer(&mut self, alloc: Global, lang: &L, message: Message) -> Result<Taken, AllocError>
+        requires going { IsGoing L.lang self.old.log }
+        ensures taken { IfOk result (λ taken. AnswersSo L.lang message self.old.log taken
+            self.new.log) }
+        ensures err { OnErr result (self.new.log ≡ self.old.log) }
+        ensures adds { Grows self.old.log self.new.log }
+        ensures legal { IsLegalLog L.lang self.new.log }
+    {
+        list_law::<L>();
+        self.session.take(alloc, lang, message)
+    }
+
+    /// A message is answered; where it waits the reader claims the first ready part. All has not
+    /// ended.
+    fn take(&mut self, alloc: Global, lang: &L, message: Message) -> Taking<L::State>
+        requires legal { IsLegalLog L.lang self.old.log }
+        requires going { IsGoing L.lang self.old.log }
+        ensures takes { TakesSo L.lang message self.old.log result self.new.log }
+        ensures adds { Grows self.old.log self.new.log }
+        ensures legal { IsLegalLog L.lang self.new.log }
+    {
+        if self.is_lost() {
+            drop(message);
+            return Taking::Lost;
+        }
+        match self.answer(alloc, lang, message) {
+            Err(_) => Taking::NoMemory,
+            Ok(Taken::Replied) => Taking::Replied,
+            Ok(Taken::Waits(message)) => {
+                let claim = self.try_claim(alloc, lang, 0);
+                Taking::Waits { message, claim }
+            }
+        }
+    }
+}
+
+/// The reader has a message answered, and claims a part where it waits. All has not ended.
+#[derive(Drop)]
+pub struct TakeTurn<'a, L> {
+    pub alloc: Global,
+    pub lang: &'a L,
+    pub message: Message,
+}
+
+impl<'a, L: Language, P: Past<Service, Entry> + Drop> Turn<Locked<L, P>> for TakeTurn<'a, L> {
+    type Answer = Taking<L::State>;
+
+    ghost asks = { λ call old. IsGoing L.lang old.log };
+
+    ghost gives = { λ call old answer new. TakesSo L.lang call.message old.log answer new.log };
+
+    fn run(self, state: &mut Locked<L, P>) -> Taking<L::State> {
+        let TakeTurn {
+            alloc,
+            lang,
+            message,
+        } = self;
+        state.take(alloc, lang, message)
+    }
+}
