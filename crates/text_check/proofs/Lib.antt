@@ -1,7 +1,5 @@
-mod Added
 mod Alike
 pub mod KnownOneNode
 mod OneWalk
 mod OneRanges
 mod OneMarkup
-mod Tidy

@@ -20,9 +20,10 @@ use Rattle.buffer_rules.specs.Numbers.{ids_of}
 use Rattle.markup_lines.specs.OneText.{markup_of, name_of, named, one_sheet, reported}
 use Rattle.text_check.specs.declared.heading.Heading.{Heading}
 use Rattle.text_check.specs.Headings.{begins, headed, heading_in, heading_of}
-use Rattle.text_check.specs.Walking.{LiesIn, reports_from}
+use Rattle.node_check.specs.Walking.{LiesIn, reports_from}
+use Rattle.node_check.proofs.KnownRuns.{reported_so}
 use Rattle.text_check.proofs.Alike.{aliases_alike}
-use Rattle.text_check.proofs.OneWalk.{scratch_one, walked}
+use Rattle.text_check.proofs.OneWalk.{scratch_one}
 use Rattle.text_check.proofs.OneRanges.{lie_within, ranges_so}
 
 -- the sheet, the aliases and the node of a text
@@ -72,7 +73,7 @@ markup_so l numbered text =
     let heading = told (name_of text) (header_in text) in
     subst (λ h. markup_of l text ≡ in_order (reports_from l text (ranges_by text h) (begins l h))) (told_so (name_of text) (header_in text))
     (ap in_order (ap (λ settings. flat_map (reported l) (zip (node_of text).entries settings)) (scratch_one l (name_of text) (node_of text))
-    ∙ walked l (node_of text) (node_of text).entries (begins l heading)
+    ∙ reported_so l (node_of text) (node_of text).entries (begins l heading)
     ∙ ap (λ ranges. reports_from l text ranges (begins l heading)) (ranges_at numbered text)))
 
 -- its commands lie in the text

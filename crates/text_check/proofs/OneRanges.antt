@@ -7,7 +7,7 @@ use Rattle.buffer_rules.specs.declared.sheet.Sheet.{Sheet}
 use Rattle.doc_blobs.specs.Needs.{AliasList}
 use Rattle.buffer_rules.specs.Nodes.{entry}
 use Rattle.core_rules.specs.Updates.{AreRising}
-use Rattle.text_check.specs.Walking.{LiesIn}
+use Rattle.node_check.specs.Walking.{LiesIn}
 
 -- the commands of these ids and ranges stand at these ranges
 pub ranges_so : (sheet : Sheet) (aliases : AliasList) (ids : List ℕ) (ranges : List Range) → length ids ≡ length ranges

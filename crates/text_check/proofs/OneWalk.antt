@@ -1,45 +1,17 @@
 -- The commands of one node, checked from nothing: one after the other.
-use Rattle.std.proofs.Common.{◌≡◌, ℕ, ◌==◌, List, [], ◌∷◌, ◌++◌, Option, Some, None, map, find, refl, ap, ◌∙◌}
-use Rattle.std.specs.List.{flat_map, zip}
+use Rattle.std.proofs.Common.{◌≡◌, ℕ, ◌==◌, List, [], ◌∷◌, find, ap, ◌∙◌}
 use Rattle.std.specs.Option.{option_map_or}
-use Rattle.doc_nodes.specs.declared.node.Entry.{Entry}
 use Rattle.doc_nodes.specs.declared.node.Node.{Node}
 use Rattle.doc_nodes.specs.Imports.{NodeList, is_bad}
 use Rattle.doc_nodes.specs.Aliases.{aliases_at}
-use Rattle.exec_rules.specs.Kept.{blob_of}
 use Rattle.language.specs.Lang.{Lang}
 use Rattle.core_rules.specs.Settings.{Setting}
-use Rattle.core_rules.specs.Scratch.{begins_at, run_all, run_from, scratch_at, set_in}
-use Rattle.core_rules.specs.Updates.{source_in}
-use Rattle.markup_lines.specs.OneText.{reported}
-use Rattle.text_check.specs.Walking.{reports_at, reports_from, setting_at, state_at}
+use Rattle.core_rules.specs.Scratch.{begins_at, run_all, run_from, scratch_at}
 use Rattle.text_check.specs.Headings.{alone, begins, headed, imports_of}
 use Rattle.text_check.proofs.Alike.{aliases_alike, first_alike}
 use Rattle.text_check.proofs.KnownOneNode.{imports_one, order_one}
 
--- where there are no blobs no command has one
-no_blob : (needs : Option (List ℕ)) → blob_of [] needs ≡ None
-no_blob None = refl
-no_blob (Some name) = refl
-
--- a command with a blob in a state
-abbrev set_with : {S : Type 0} → Node → Entry → S → Option (List ℕ) → Setting S
-set_with node e state blob = record { source = source_in node e; blob = blob; state = state }
-
--- a command is set in its source and state alone
-set_so : {S : Type 0} (node : Node) (e : Entry) (state : S)
-    → set_in node [] e state ≡ setting_at node.text e.range state
-set_so node e state = ap (set_with node e state) (no_blob e.needs)
-
--- what the commands report is what they report one after the other
-pub walked : {S : Type 0} (l : Lang S) (node : Node) (es : List Entry) (state : S)
-    → flat_map (reported l) (zip es (run_from l node [] es state))
-    ≡ reports_from l node.text (map (λ e. e.range) es) state
-walked l node [] state = refl
-walked l node (e ∷ es) state = rw (set_so node e state)
-    (ap (λ more. reports_at l node.text e.range state ++ more) (walked l node es (state_at l node.text e.range state)))
-
--- so the only node begins as its heading says
+-- the only node begins as its heading says
 begins_one : {S : Type 0} (l : Lang S) (name : List ℕ) (node : Node)
     → begins_at l ((name, node) ∷ []) [] 0 (name, node) ≡ begins l (headed name node.imports node.keywords)
 begins_one l name node =

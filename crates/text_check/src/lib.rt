@@ -9,8 +9,6 @@
 mod heading;
 mod line;
 mod markup;
-mod never;
-mod walk;
 
 pub use line::write_line;
 pub use markup::markup_of;

@@ -5,15 +5,15 @@ ghost use Rattle.markup_lines.specs.OneText.{markup_of};
 ghost use Rattle.text_check.specs.Headings.{begins, heading_of};
 
 use crate::heading::Heading;
-use crate::walk::walk;
 use buffer_laws::places_law;
 use buffer_rules::ids_law;
 use command_spans::Spans;
 use joined_results::both;
 use language::Language;
+use node_check::{NodeRun, run_commands};
 use node_commands::command_ranges;
 use pide_base::Range;
-use report_markup::{Report, one_order};
+use report_markup::Report;
 use sqlite_items::Items;
 use std::alloc::{AllocError, Global};
 
@@ -28,11 +28,11 @@ pub fn markup_of<L: Language>(
 {
     ids_law();
     places_law();
-    one_order();
     let (ranges, begins) = begun(alloc, language, text)?;
-    let mut all = walk(alloc, language, text, &ranges, begins)?;
-    all.sort()?;
-    Ok(all)
+    let run = run_commands(alloc, language, text, &ranges, begins)?;
+    let NodeRun { reports, behind } = run;
+    drop(behind);
+    Ok(reports)
 }
 
 /// The places of the text's commands, and the state in which the first of them begins.

@@ -1,0 +1,88 @@
+//! The nodes of a batch.
+ghost use Rattle.std.specs.Prelude.{length, slice_index, ◌≡◌, IfOk, IsPermutation};
+ghost use Rattle.std.specs.List.{range_with_len};
+ghost use Rattle.task_round.specs.Rounds.{AreMade};
+ghost use Rattle.batch_check.specs.Tasks.{IsReady, MakesSo};
+
+use doc_nodes::Node;
+use language::Language;
+use node_check::{NodeRun, check_node};
+use node_starts::{Before, begin};
+use pide_base::{ExecId, Gate, Part, PartKind, Point};
+use std::alloc::{AllocError, Global};
+use std::sync::Wait;
+use std::thread::Threads;
+use task_round::{Round, Tasks, run_round};
+
+/// The nodes at these places, when others were done before them.
+#[derive(Drop)]
+pub struct Batch<'a, L: Language, G> {
+    pub language: &'a L,
+    pub before: &'a Before<'a, L::State>,
+    pub places: &'a [usize],
+    pub gate: &'a G,
+}
+
+/// Tells the gate of a node, as of an evaluation with the number after its place.
+fn tell<G: Gate>(gate: &G, worker: u32, place: usize) {
+    if let Some(exec) = ExecId::new((place as u64).saturating_add(1)) {
+        let kind = PartKind::Eval;
+        gate.at(worker, Point::Claimed(Part { exec, kind }));
+    }
+}
+
+impl<'a, L: Language, G: Gate> Tasks for Batch<'a, L, G>
+where
+    L::State: Send,
+{
+    type Made = NodeRun<L::State>;
+
+    ghost count = { λ b. length b.places.now };
+
+    ghost ready = { λ b. IsReady b.before.now.nodes.now b.before.now.graph.now
+        b.before.now.aliases.now b.places.now };
+
+    ghost makes = { λ b task made. MakesSo L.lang b.before.now.nodes.now b.before.now.behind.now
+        (slice_index b.places.now task) made };
+
+    fn count(&self) -> usize {
+        self.places.len()
+    }
+
+    fn run(
+        &self,
+        alloc: Global,
+        worker: u32,
+        task: usize,
+    ) -> Result<NodeRun<L::State>, AllocError> {
+        let place = self.places[task];
+        tell(self.gate, worker, place);
+        let Some((_, node)) = self.before.nodes.at(place) else {
+            unreachable!()
+        };
+        let begins = begin(alloc, self.language, self.before, place)?;
+        check_node(alloc, self.language, node, begins)
+    }
+}
+
+/// Checks the nodes of a batch, in this thread and in at most so many others.
+pub fn check_batch<L: Language + Sync, G: Gate + Sync, R: Threads + Wait + Sync>(
+    rt: &R,
+    alloc: Global,
+    batch: &Batch<'_, L, G>,
+    workers: u32,
+) -> Result<Round<NodeRun<L::State>>, AllocError>
+where
+    L::State: Send + Sync,
+    requires { IsReady batch.now.before.now.nodes.now batch.now.before.now.graph.now
+        batch.now.before.now.aliases.now batch.now.places.now }
+    ensures length { IfOk result (λ round. length round.made.items
+        ≡ length batch.now.places.now) }
+    ensures made { IfOk result (λ round. AreMade (λ task. MakesSo L.lang
+        batch.now.before.now.nodes.now batch.now.before.now.behind.now
+        (slice_index batch.now.places.now task)) 0 round.made.items) }
+    ensures once { IfOk result (λ round. IsPermutation
+        (range_with_len 0 (length batch.now.places.now)) round.taken.items) }
+{
+    run_round(rt, alloc, batch, workers)
+}

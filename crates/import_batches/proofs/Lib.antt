@@ -1,0 +1,5 @@
+mod Rounds
+mod Cuts
+mod Joined
+mod Marks
+mod Steps

@@ -1,0 +1,3 @@
+mod Added
+mod Tidy
+pub mod KnownRuns

@@ -1,0 +1,4 @@
+mod Hands
+mod Moves
+mod Ranges
+mod Results
