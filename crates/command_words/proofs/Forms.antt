@@ -2,7 +2,7 @@
 use Rattle.std.proofs.Common.{◌≡◌, ℕ, zero, suc, ◌≤◌, List, [], ◌∷◌, codes, refl, sym, subst, arith}
 use Rattle.std.specs.Prelude.{decimal, Some}
 use Rattle.clap.proofs.OnLiterals.{clap_on_literals}
-use Rattle.command_words.specs.declared.request.Request.TheVariants.{Serve, Replay, Check}
+use Rattle.command_words.specs.declared.request.Request.TheVariants.{Serve, Replay, Check, Build, Gen}
 use Rattle.command_words.specs.Asked.{asked}
 use Rattle.command_words.specs.Forms.{AreTaken}
 use Rattle.command_words.proofs.WrittenNumbers.{written_0, written_1, written_2, written_3, written_4, written_5, written_6, written_7, written_8, written_9, written_10, written_11, written_12, written_13, written_14, written_15, written_16}
@@ -18,6 +18,34 @@ replay = refl
 pub check : asked (codes "check" ∷ []) ≡ Some Check
 unfolding clap_on_literals
 check = refl
+
+build : asked (codes "build" ∷ []) ≡ Some (Build 0)
+unfolding clap_on_literals
+build = refl
+
+build_by : asked (codes "build" ∷ codes "--workers" ∷ codes "16" ∷ []) ≡ Some (Build 16)
+unfolding clap_on_literals
+build_by = refl
+
+gen : asked (codes "gen" ∷ codes "1" ∷ []) ≡ Some (Gen 1 0)
+unfolding clap_on_literals
+gen = refl
+
+most : asked (codes "gen" ∷ codes "1000" ∷ []) ≡ Some (Gen 1000 0)
+unfolding clap_on_literals
+most = refl
+
+gen_by : asked (codes "gen" ∷ codes "3" ∷ codes "--workers" ∷ codes "2" ∷ []) ≡ Some (Gen 3 2)
+unfolding clap_on_literals
+gen_by = refl
+
+gen_behind : asked (codes "gen" ∷ codes "--workers" ∷ codes "2" ∷ codes "3" ∷ []) ≡ Some (Gen 3 2)
+unfolding clap_on_literals
+gen_behind = refl
+
+gen_joined : asked (codes "gen" ∷ codes "--workers=2" ∷ codes "3" ∷ []) ≡ Some (Gen 3 2)
+unfolding clap_on_literals
+gen_joined = refl
 
 -- so many workers are taken, where this is how their number is written
 taken_as : (n : ℕ) (text : List ℕ) → decimal n ≡ text → asked (codes "serve" ∷ codes "--workers" ∷ text ∷ []) ≡ Some (Serve n)
@@ -113,4 +141,16 @@ workers (suc (suc (suc (suc (suc (suc (suc (suc (suc (suc (suc (suc (suc (suc (s
 workers (suc (suc (suc (suc (suc (suc (suc (suc (suc (suc (suc (suc (suc (suc (suc (suc (suc n))))))))))))))))) few = absurd (omega arith)
 
 pub are_taken : AreTaken
-are_taken = record { serve = serve; workers = workers; replay = replay; check = check }
+are_taken = record {
+  serve = serve;
+  workers = workers;
+  replay = replay;
+  check = check;
+  build = build;
+  build_by = build_by;
+  gen = gen;
+  most = most;
+  gen_by = gen_by;
+  gen_behind = gen_behind;
+  gen_joined = gen_joined;
+}

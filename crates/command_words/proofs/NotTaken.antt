@@ -4,7 +4,6 @@ use Rattle.std.specs.Prelude.{None}
 use Rattle.clap.proofs.OnLiterals.{clap_on_literals}
 use Rattle.command_words.specs.Asked.{asked}
 use Rattle.command_words.specs.Forms.{AreNotTaken}
-use Rattle.command_words.proofs.Forms.{serve, check}
 
 none : asked ([]) ≡ None
 unfolding clap_on_literals
@@ -38,6 +37,42 @@ help : asked (codes "--help" ∷ []) ≡ None
 unfolding clap_on_literals
 help = refl
 
+zeros : asked (codes "serve" ∷ codes "--workers" ∷ codes "00" ∷ []) ≡ None
+unfolding clap_on_literals
+zeros = refl
+
+plus : asked (codes "serve" ∷ codes "--workers" ∷ codes "+0" ∷ []) ≡ None
+unfolding clap_on_literals
+plus = refl
+
+numberless : asked (codes "gen" ∷ []) ≡ None
+unfolding clap_on_literals
+numberless = refl
+
+few_nodes : asked (codes "gen" ∷ codes "0" ∷ []) ≡ None
+unfolding clap_on_literals
+few_nodes = refl
+
+many_nodes : asked (codes "gen" ∷ codes "1001" ∷ []) ≡ None
+unfolding clap_on_literals
+many_nodes = refl
+
+many_makers : asked (codes "gen" ∷ codes "3" ∷ codes "--workers" ∷ codes "17" ∷ []) ≡ None
+unfolding clap_on_literals
+many_makers = refl
+
+plus_nodes : asked (codes "gen" ∷ codes "+3" ∷ []) ≡ None
+unfolding clap_on_literals
+plus_nodes = refl
+
+zeros_nodes : asked (codes "gen" ∷ codes "03" ∷ []) ≡ None
+unfolding clap_on_literals
+zeros_nodes = refl
+
+two_numbers : asked (codes "gen" ∷ codes "1" ∷ codes "2" ∷ []) ≡ None
+unfolding clap_on_literals
+two_numbers = refl
+
 pub are_not_taken : AreNotTaken
 are_not_taken = record {
   none = none;
@@ -48,4 +83,13 @@ are_not_taken = record {
   twice = twice;
   more = more;
   help = help;
+  zeros = zeros;
+  plus = plus;
+  numberless = numberless;
+  few_nodes = few_nodes;
+  many_nodes = many_nodes;
+  many_makers = many_makers;
+  plus_nodes = plus_nodes;
+  zeros_nodes = zeros_nodes;
+  two_numbers = two_numbers;
 }

@@ -1,16 +1,16 @@
--- Numbers that are read, and values of options.
-use Rattle.std.proofs.Common.{◌≡◌, ℕ, ◌^◌, Bool, true, false, cond, List, [], ◌∷◌, length, Option, Some, None, refl, sym, ap, ◌∙◌}
-use Rattle.std.proofs.lemmas.Bool.{ltb-true, lt-ltb, and_from, and_parts}
-use Rattle.std.specs.Prelude.{◌&&◌, nat_lt, Result, Ok, Err, option_and_then, codes, slice_get}
-use Rattle.std.specs.Borrow.{Bor}
-use Rattle.std.specs.Option.{option_map, option_map_or}
+-- Numbers that are read, and values that are given.
+use Rattle.std.proofs.Common.{◌≡◌, ℕ, ◌^◌, ◌<◌, Bool, true, false, cond, List, [], ◌∷◌, length, drop, Option, Some, None, refl, sym, ap, subst, ◌∙◌}
+use Rattle.std.proofs.lemmas.Bool.{ltb-true, lt-ltb, and_from, and_parts, or_parts}
+use Rattle.std.specs.Prelude.{◌&&◌, ◌==◌, nat_lt, Result, Ok, Err, OkIff, option_and_then, codes}
+use Rattle.std.specs.Result.{result_ok}
+use Rattle.std.specs.Option.{option_map_or}
 use Rattle.std.specs.List.{list_all}
 use Rattle.std.specs.Char.{digit_value}
-use Rattle.std.specs.Str.Parse.{AllDigits, ParsesUnsigned, digits_value, without_leading_plus}
-use Rattle.clap.specs.Words.{first_value, one_text, rows_of, ReadsOne, read_as, matched_of}
-use Rattle.clap.proofs.WalkLemmas.{one_text-rows}
+use Rattle.std.specs.Str.Parse.{AllDigits, IsNumeral, ParsesUnsigned, digits_value, without_leading_plus}
+use Rattle.clap.specs.Words.{first_value, rows_of}
+use Rattle.clap.proofs.WalkLemmas.{first_value-rows}
 use Rattle.clap.specs.declared.parser.matches.Found.{Found}
-use Rattle.command_words.specs.Asked.{is_digit, number_of, workers_in}
+use Rattle.command_words.specs.Asked.{has_needless, is_digit, nodes_in, number_of, workers_in}
 
 all_true : (ds : List ℕ) → AllDigits 10 ds → list_all is_digit ds ≡ true
 all_true [] all = refl
@@ -20,76 +20,49 @@ true_all : (ds : List ℕ) → list_all is_digit ds ≡ true → AllDigits 10 ds
 true_all [] e = tt
 true_all (c ∷ cs) e = let parts = and_parts (is_digit c) (list_all is_digit cs) e in (ltb-true (digit_value c) 10 parts.0, true_all cs parts.1)
 
+-- where no plus stands first, none is left out
+no_plus : (text : List ℕ) → has_needless text ≡ false → without_leading_plus text ≡ text
+no_plus [] e = refl
+no_plus (c ∷ cs) e = ap (λ b. drop (cond b 1 0) (c ∷ cs)) (or_parts (c == 43) ((c == 48) && nat_lt 0 (length cs)) e).0
+
 -- the test of a number
 abbrev fits : List ℕ → Bool
 fits ds = nat_lt 0 (length ds) && list_all is_digit ds && nat_lt (digits_value 10 ds) (2 ^ 32)
 
--- what is read of a text is its number
-pub read_number : {E : Type 0} (t : List ℕ) (r : Option ℕ) (G : List ℕ → Result ℕ E → Type 0)
-    → ((u : List ℕ) (x : Result ℕ E) → G u x → ParsesUnsigned 32 10 u x) → ReadsOne G t r → r ≡ number_of t
-read_number {E} t r G only read = go r read
+-- what is read of a text is the number that is printed so
+pub read_number : {E : Type 0} (text : List ℕ) (r : Result ℕ E) (o : Option ℕ) → has_needless text ≡ false
+    → ParsesUnsigned 32 10 text r → o ≡ result_ok r → o ≡ number_of text
+read_number {E} text r o plain read is = go r (subst (λ ds. OkIff r (IsNumeral 10 ds × (digits_value 10 ds < 2 ^ 32)) (digits_value 10 ds)) (no_plus text plain) read) is
+    ∙ ap (λ b. cond b None (cond (fits text) (Some (digits_value 10 text)) None)) (sym plain)
   where
-    ds : List ℕ
-    ds = without_leading_plus t
+    go : (s : Result ℕ E) → OkIff s (IsNumeral 10 text × (digits_value 10 text < 2 ^ 32)) (digits_value 10 text)
+        → o ≡ result_ok s → o ≡ cond (fits text) (Some (digits_value 10 text)) None
+    go (Ok v) p same = same ∙ ap (λ n. Some n) p.1
+        ∙ sym (ap (λ b. cond b (Some (digits_value 10 text)) None)
+        (and_from (nat_lt 0 (length text) && list_all is_digit text) (nat_lt (digits_value 10 text) (2 ^ 32))
+        (and_from (nat_lt 0 (length text)) (list_all is_digit text) (lt-ltb 0 (length text) p.0.0.0) (all_true text p.0.0.1))
+        (lt-ltb (digits_value 10 text) (2 ^ 32) p.0.1)))
+    go (Err e) p same = same ∙ none (fits text) refl
+      where
+        none : (b : Bool) → fits text ≡ b → None ≡ cond b (Some (digits_value 10 text)) None
+        none false f = refl
+        none true f =
+            let outer = and_parts (nat_lt 0 (length text) && list_all is_digit text) (nat_lt (digits_value 10 text) (2 ^ 32)) f in
+            let inner = and_parts (nat_lt 0 (length text)) (list_all is_digit text) outer.0 in
+            absurd (p (
+              (ltb-true 0 (length text) inner.0, true_all text inner.1),
+              ltb-true (digits_value 10 text) (2 ^ 32) outer.1,
+            ))
 
-    yes : (v : ℕ) → ParsesUnsigned {E = E} 32 10 t (Ok v) → Some v ≡ number_of t
-    yes v p = sym (ap (λ b. cond b (Some (digits_value 10 (without_leading_plus t))) None)
-        (and_from (nat_lt 0 (length (without_leading_plus t)) && list_all is_digit (without_leading_plus t)) (nat_lt (digits_value 10 (without_leading_plus t)) (2 ^ 32))
-        (and_from (nat_lt 0 (length (without_leading_plus t))) (list_all is_digit (without_leading_plus t)) (lt-ltb 0 (length (without_leading_plus t)) p.0.0.0)
-        (all_true (without_leading_plus t) p.0.0.1)) (lt-ltb (digits_value 10 (without_leading_plus t)) (2 ^ 32) p.0.1))
-        ∙ ap (λ n. Some n) (sym p.1))
+-- the values that are given, by the rows
+pub workers_given : (f : Found) (t : List ℕ) → first_value f (codes "workers") ≡ Some t → workers_in (rows_of f) ≡ number_of t
+workers_given f t e = ap (λ o. option_map_or number_of o (Some 0)) (sym (first_value-rows f (codes "workers")) ∙ e)
 
-    no : (e : E) → ParsesUnsigned 32 10 t (Err e) → (b : Bool) → fits (without_leading_plus t) ≡ b
-        → None ≡ cond b (Some (digits_value 10 (without_leading_plus t))) None
-    no e p false is = refl
-    no e p true is =
-        let outer = and_parts (nat_lt 0 (length (without_leading_plus t)) && list_all is_digit (without_leading_plus t))
-        (nat_lt (digits_value 10 (without_leading_plus t)) (2 ^ 32)) is in
-        let inner = and_parts (nat_lt 0 (length (without_leading_plus t))) (list_all is_digit (without_leading_plus t)) outer.0 in
-        absurd (p (
-          (ltb-true 0 (length (without_leading_plus t)) inner.0, true_all (without_leading_plus t) inner.1),
-          ltb-true (digits_value 10 (without_leading_plus t)) (2 ^ 32) outer.1,
-        ))
+pub no_workers : (f : Found) → first_value f (codes "workers") ≡ None → workers_in (rows_of f) ≡ Some 0
+no_workers f e = ap (λ o. option_map_or number_of o (Some 0)) (sym (first_value-rows f (codes "workers")) ∙ e)
 
-    go : (o : Option ℕ) → ReadsOne G t o → o ≡ number_of t
-    go (Some v) h = yes v (only t (Ok v) h)
-    go None h = no h.0 (only t (Err h.0) h.1) (fits (without_leading_plus t)) refl
+pub nodes_given : (f : Found) (t : List ℕ) → first_value f (codes "nodes") ≡ Some t → nodes_in (rows_of f) ≡ number_of t
+nodes_given f t e = ap (option_and_then number_of) (sym (first_value-rows f (codes "nodes")) ∙ e)
 
--- a value is there as it was written where it is there as it is read
-none_of : (o : Option (Bor (List ℕ))) (how : List ℕ → List ℕ) → option_map (λ s. s.now) o ≡ None → option_map (λ s. how s.now) o ≡ None
-none_of None how e = refl
-none_of (Some s) how e = absurd (cc)
-
-some_of : (o : Option (Bor (List ℕ))) (how : List ℕ → List ℕ) (t : List ℕ) → option_map (λ s. s.now) o ≡ Some t
-    → (u : List ℕ) × (option_map (λ s. how s.now) o ≡ Some u)
-some_of None how t e = absurd (cc)
-some_of (Some s) how t e = (how s.now, refl)
-
-none_by : {A : Type 0} (first : A → Option (Bor (List ℕ))) (how : A → List ℕ → List ℕ) (o : Option A)
-    → option_and_then (λ a. option_map (λ s. s.now) (first a)) o ≡ None → option_and_then (λ a. option_map (λ s. how a s.now) (first a)) o ≡ None
-none_by first how None e = refl
-none_by first how (Some a) e = none_of (first a) (how a) e
-
-some_by : {A : Type 0} (first : A → Option (Bor (List ℕ))) (how : A → List ℕ → List ℕ) (t : List ℕ) (o : Option A)
-    → option_and_then (λ a. option_map (λ s. s.now) (first a)) o ≡ Some t
-    → (u : List ℕ) × (option_and_then (λ a. option_map (λ s. how a s.now) (first a)) o ≡ Some u)
-some_by first how t None e = absurd (cc)
-some_by first how t (Some a) e = some_of (first a) (how a) t e
-
-pub none_read : (f : Found) (id : List ℕ) → first_value f id ≡ None → one_text f id ≡ None
-none_read f id e = none_by (λ a. slice_get a.vals.items 0) (λ a. read_as a.reading) (matched_of f id) e
-
-pub some_read : (f : Found) (id t : List ℕ) → first_value f id ≡ Some t → (u : List ℕ) × (one_text f id ≡ Some u)
-some_read f id t e = some_by (λ a. slice_get a.vals.items 0) (λ a. read_as a.reading) t (matched_of f id) e
-
-pub none_given : (f : Found) → first_value f (codes "workers") ≡ None → workers_in (rows_of f) ≡ Some 0
-none_given f e = ap (λ o. option_map_or number_of o (Some 0)) (sym (one_text-rows f (codes "workers")) ∙ none_read f (codes "workers") e)
-
-pub some_given : {E : Type 0} (f : Found) (t : List ℕ) (r : Option ℕ) (G : List ℕ → Result ℕ E → Type 0)
-    → ((u : List ℕ) (x : Result ℕ E) → G u x → ParsesUnsigned 32 10 u x)
-    → first_value f (codes "workers") ≡ Some t
-    → ((u : List ℕ) → one_text f (codes "workers") ≡ Some u → ReadsOne G u r) → r ≡ workers_in (rows_of f)
-some_given f t r G only e reads =
-    let there = some_read f (codes "workers") t e in
-    read_number there.0 r G only (reads there.0 there.1)
-    ∙ ap (λ o. option_map_or number_of o (Some 0)) (sym there.1 ∙ one_text-rows f (codes "workers"))
+pub no_nodes : (f : Found) → first_value f (codes "nodes") ≡ None → nodes_in (rows_of f) ≡ None
+no_nodes f e = ap (option_and_then number_of) (sym (first_value-rows f (codes "nodes")) ∙ e)

@@ -1,11 +1,11 @@
 //! The command line.
-ghost use Rattle.std.specs.Prelude.{◌≡◌, map, option_and_then, IfOk};
-ghost use Rattle.std.specs.Option.{option_map};
-ghost use Rattle.clap.specs.Words.{app_of, found_of, rows_of, subcommand_rows_of};
-ghost use Rattle.command_words.specs.declared.request.Request.TheVariants.{Serve};
-ghost use Rattle.command_words.specs.Program.{program};
-ghost use Rattle.command_words.specs.Asked.{asked, request_of, workers_in};
+ghost use Rattle.std.specs.Prelude.{◌≡◌, false, map, codes, option_and_then, IfOk};
+ghost use Rattle.clap.specs.Words.{app_of, found_of, rows_of, rule_of, subcommand_rows_of};
+ghost use Rattle.clap.specs.declared.builder.command.Command.TheViews.{out-Command};
+ghost use Rattle.command_words.specs.Program.{nodes, program, with_workers, workers};
+ghost use Rattle.command_words.specs.Asked.{asked, gen_in, nodes_in, request_of, workers_in};
 
+use crate::number::number;
 use crate::request::Request;
 use clap::error::ErrorKind;
 use clap::{Arg, ArgMatches, Command};
@@ -26,20 +26,49 @@ pub fn asked(alloc: Global, words: &[&str]) -> Result<Option<Request>, AllocErro
     }
 }
 
+/// `--workers`, with a number from 0 to 16.
+fn workers_option<'a>(alloc: Global) -> Arg<'a>
+    ensures rule { rule_of result ≡ workers }
+    ensures local { result.global ≡ false }
+{
+    Arg::new(alloc, "workers")
+        .long("workers")
+        .value_parser(clap::value_parser!(u32).range(0..=16))
+}
+
+/// A number from 1 to 1,000.
+fn nodes_number<'a>(alloc: Global) -> Arg<'a>
+    ensures rule { rule_of result ≡ nodes }
+    ensures local { result.global ≡ false }
+{
+    Arg::new(alloc, "nodes")
+        .required(true)
+        .value_parser(clap::value_parser!(u32).range(1..=1_000))
+}
+
+/// A command of this name, with workers.
+fn with_workers<'a>(alloc: Global, name: &'a str) -> Result<Command<'a>, AllocError>
+    ensures app { IfOk result (λ command. app_of command ≡ with_workers name.entry.now) }
+    ensures local { IfOk result (λ command. (out-Command command).has_globals ≡ false) }
+{
+    Command::new(alloc, name).arg(workers_option(alloc))
+}
+
 /// The program's command line.
 fn command<'a>(alloc: Global) -> Result<Command<'a>, AllocError>
     ensures { IfOk result (λ command. app_of command ≡ program) }
 {
-    let workers = Arg::new(alloc, "workers")
-        .long("workers")
-        .value_parser(clap::value_parser!(u32).range(0..=16));
-    let serve = Command::new(alloc, "serve").arg(workers)?;
+    let serve = with_workers(alloc, "serve")?;
+    let build = with_workers(alloc, "build")?;
+    let made = with_workers(alloc, "gen")?.arg(nodes_number(alloc))?;
     let bare = Command::new(alloc, "pide")
         .no_binary_name(true)
         .subcommand_required(true);
     bare.subcommand(serve)?
         .subcommand(Command::new(alloc, "replay"))?
-        .subcommand(Command::new(alloc, "check"))
+        .subcommand(Command::new(alloc, "check"))?
+        .subcommand(build)?
+        .subcommand(made)
 }
 
 /// What was asked for, by the command that was used.
@@ -48,19 +77,33 @@ fn requested(matches: &ArgMatches<'_>) -> Option<Request>
 {
     let (name, options) = matches.subcommand()?;
     match name {
-        "serve" => serving(options),
+        "serve" => Some(Request::Serve {
+            workers: workers(options)?,
+        }),
         "replay" => Some(Request::Replay),
         "check" => Some(Request::Check),
+        "build" => Some(Request::Build {
+            workers: workers(options)?,
+        }),
+        "gen" => generated(options),
         _ => None,
     }
 }
 
-/// A request to serve, by its options.
-fn serving(options: &ArgMatches<'_>) -> Option<Request>
-    ensures { result ≡ option_map (λ n. Serve n) (workers_in (rows_of (found_of options.now))) }
+/// A request for a document that is made, by its number and options.
+fn generated(options: &ArgMatches<'_>) -> Option<Request>
+    ensures { result ≡ gen_in (rows_of (found_of options.now)) }
 {
+    let nodes = nodes(options)?;
     let workers = workers(options)?;
-    Some(Request::Serve { workers })
+    Some(Request::Gen { nodes, workers })
+}
+
+/// The number of nodes.
+fn nodes(options: &ArgMatches<'_>) -> Option<u32>
+    ensures { result ≡ nodes_in (rows_of (found_of options.now)) }
+{
+    number(options.get_str("nodes")?)
 }
 
 /// The number of workers.
@@ -68,7 +111,7 @@ fn workers(options: &ArgMatches<'_>) -> Option<u32>
     ensures { result ≡ workers_in (rows_of (found_of options.now)) }
 {
     match options.get_str("workers") {
-        Some(_) => options.get_one::<u32>("workers"),
+        Some(text) => number(text),
         None => Some(0),
     }
 }

@@ -6,6 +6,7 @@
 
 mod command;
 mod laws;
+mod number;
 mod request;
 
 pub use command::asked;

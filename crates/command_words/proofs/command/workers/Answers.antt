@@ -1,13 +1,15 @@
-use Rattle.std.proofs.Common.{rules}
-use Rattle.std.specs.Str.Parse.{ParsesUnsigned, ExplainsUnsignedError, HasUnsignedDigitsIfOk}
-use Rattle.clap.specs.Words.{found_of}
-use Rattle.command_words.proofs.Numbers.{none_given, some_given}
+use Rattle.std.proofs.Common.{rules, codes, Some, None, ◌≡◌, ◌∙◌, sym}
+use Rattle.clap.specs.Words.{first_value, found_of}
+use Rattle.command_words.proofs.Numbers.{no_workers, workers_given}
 use Rattle.command_words.proofs.command.workers.Goals as goal
 
 pub returns-in-Some : goal.returns-in-Some
-returns-in-Some c = some_given (found_of c.args.options.now) c.in-Some.field-0.now c.get_one.result
-    (λ bs r. ParsesUnsigned 32 10 bs r × ExplainsUnsignedError 10 bs r × HasUnsignedDigitsIfOk bs r) (λ u x g. g.0)
-    (search rules) (λ u e. c.get_one.ensures.value u e)
+returns-in-Some c =
+    let text = c.in-Some.text.now in
+    let some : first_value (found_of c.args.options.now) (codes "workers") ≡ Some text = search rules in
+    c.number.ensures ∙ sym (workers_given (found_of c.args.options.now) text some)
 
 pub returns-in-None : goal.returns-in-None
-returns-in-None c = let given = none_given (found_of c.args.options.now) (search rules) in search rules
+returns-in-None c =
+    let none : first_value (found_of c.args.options.now) (codes "workers") ≡ None = search rules in
+    sym (no_workers (found_of c.args.options.now) none)
