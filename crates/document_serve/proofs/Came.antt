@@ -8,6 +8,7 @@ use Rattle.pide_base.specs.declared.status.Status.TheVariants as status
 use Rattle.byte_message.specs.Stream.{Ending, IsReadAs}
 use Rattle.language.specs.Lang.{Lang}
 use Rattle.reply_outbox.specs.declared.item.Item.TheVariants.{Opened}
+use Rattle.session_rules.specs.Steps.{Nothing, due}
 use Rattle.session_lists.specs.Items.{SessionItem, heard_in}
 use Rattle.document_session.specs.Contents.{SessionState}
 use Rattle.message_input.specs.Causes.{Tells}
@@ -39,7 +40,7 @@ module _ {S : Type 0} (l : Lang S) (old : SessionState) (new : old.items ≡ Ope
 
 -- a front of the messages was answered
 module _ {S : Type 0} (l : Lang S) (laws : ListLaws l) (old t : SessionState) (new : old.items ≡ Opened old.service ∷ []) (held held' : Option (List ℕ))
-    (taken : List ℕ) where
+    (taken : List ℕ) (rests : due l t.service (heard_in t.service t.items) ≡ Nothing) where
   front_read : (messages first rest : List (List (List ℕ))) (ending : Ending) → IsReadAs taken messages ending → messages ≡ first ++ rest
       → calls_in t.items ≡ calls_in old.items ++ first → (P : List (List (List ℕ)) → Type 0) → P rest → IsFront taken (calls_in t.items) P
   front_read messages first rest ending read parts called P holds =
@@ -59,7 +60,7 @@ module _ {S : Type 0} (l : Lang S) (laws : ListLaws l) (old t : SessionState) (n
       written = f.writes held (none_sent l old new held);
       sent = f.sends held (none_sent l old new held);
       kept = f.lost;
-      legal = record { legal = laws.legal t.service t.items f.legal; list = f.legal; closed = tt };
+      legal = record { legal = laws.legal t.service t.items f.legal; list = f.legal; none_due = rests; closed = tt };
       read = front_read messages first rest ending read parts f.called (λ rest. ⊤) tt;
       alone = front_read messages first rest ending read parts f.called (λ rest. IsWorkedFor l t.service rest (heard_in t.service t.items)) f.alone;
     }
@@ -71,7 +72,7 @@ module _ {S : Type 0} (l : Lang S) (laws : ListLaws l) (old t : SessionState) (n
           written = subst (Appends held held') (sent_whole l t.service t.items (laws.join t.service) f.all) sent;
           sent = sent;
           kept = (f.kept, f.all);
-          legal = record { legal = laws.legal t.service t.items f.legal; list = f.legal; closed = tt };
+          legal = record { legal = laws.legal t.service t.items f.legal; list = f.legal; none_due = rests; closed = tt };
           read = front_read messages first rest ending read parts f.called (λ rest. ⊤) tt;
           alone = front_read messages first rest ending read parts f.called (λ rest. IsLeftFor l t.service rest (heard_in t.service t.items)) f.alone;
         }
@@ -79,7 +80,7 @@ module _ {S : Type 0} (l : Lang S) (laws : ListLaws l) (old t : SessionState) (n
 -- all messages were answered, and the session has ended
 module _ {S : Type 0} (l : Lang S) (laws : ListLaws l) (old s t : SessionState) (new : old.items ≡ Opened old.service ∷ []) (held held' : Option (List ℕ))
     (taken : List ℕ) (messages : List (List (List ℕ))) (ending : Ending) (read : IsReadAs taken messages ending) (goes : GoesOn l held held' old s messages)
-    (e : IsEnded l s t) where
+    (e : IsEnded l s t) (rests : due l t.service (heard_in t.service t.items) ≡ Nothing) where
   now_held : Appends held held' (sent_in l s.service s.items)
   now_held = goes.writes held (none_sent l old new held)
 
@@ -111,7 +112,7 @@ module _ {S : Type 0} (l : Lang S) (laws : ListLaws l) (old s t : SessionState) 
     written = written;
     sent = sent;
     kept = kept;
-    legal = record { legal = ended_legal l laws s t e; list = e.legal; closed = closed };
+    legal = record { legal = ended_legal l laws s t e; list = e.legal; none_due = rests; closed = closed };
     read = read;
     alone = alone;
   }

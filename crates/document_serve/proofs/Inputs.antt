@@ -5,6 +5,8 @@ use Rattle.pide_base.specs.declared.status.Status.{Status}
 use Rattle.pide_base.specs.declared.status.Status.TheVariants as status
 use Rattle.language.specs.Lang.{Lang}
 use Rattle.reply_outbox.specs.declared.item.Item.TheVariants.{Opened}
+use Rattle.session_rules.specs.Steps.{Nothing, due}
+use Rattle.session_lists.specs.Items.{heard_in}
 use Rattle.document_session.specs.Contents.{SessionState}
 use Rattle.message_input.specs.Answers.{HaltsAmong}
 use Rattle.message_input.specs.Causes.{HasCause}
@@ -40,17 +42,18 @@ module _ {S A : Type 0} (l : Lang S) (session_of : A → SessionState) (held_of 
     one_halts (Err h) stops counts = record { first = stops.first; rest = stops.rest; parts = stops.parts; halts = (stops.halts, counts) }
 
   -- what came of an input
-  module _ (laws : ListLaws l) (a b : A) (new : (session_of a).items ≡ Opened (session_of a).service ∷ []) where
+  module _ (laws : ListLaws l) (a b : A) (new : (session_of a).items ≡ Opened (session_of a).service ∷ [])
+      (rests : due l (session_of b).service (heard_in (session_of b).service (session_of b).items) ≡ Nothing) where
     to_end : (taken : List ℕ) (how : Status) → how ≢ status.WriteFault → how ≢ status.NoMemory → AnswersToEnd Goes Ends how a taken b
         → Came l how taken (held_of a) (held_of b) (session_of a) (session_of b)
     to_end taken how w m r = subst (λ (held : Option (List ℕ)). Came l how taken (held_of a) held (session_of a) (session_of b)) (sym r.ends.1)
         (came_whole l laws (session_of a) (session_of r.last) (session_of b) new (held_of a) (held_of r.last) taken r.answers.messages r.ending r.answers.read
-        r.answers.goes.0 r.ends.0 how r.tells w m)
+        r.answers.goes.0 r.ends.0 rests how r.tells w m)
 
     came : (taken : List ℕ) (how : Status) → AnswersSo Goes Halts Ends how a taken b → Came l how taken (held_of a) (held_of b) (session_of a) (session_of b)
-    came taken status.WriteFault r = came_fails l laws (session_of a) (session_of b) new (held_of a) (held_of b) taken r.messages r.halted.first r.halted.rest r.ending
+    came taken status.WriteFault r = came_fails l laws (session_of a) (session_of b) new (held_of a) (held_of b) taken rests r.messages r.halted.first r.halted.rest r.ending
         r.read r.halted.parts r.halted.halts.0
-    came taken status.NoMemory r = came_short l laws (session_of a) (session_of b) new (held_of a) (held_of b) taken r.messages r.halted.first r.halted.rest r.ending
+    came taken status.NoMemory r = came_short l laws (session_of a) (session_of b) new (held_of a) (held_of b) taken rests r.messages r.halted.first r.halted.rest r.ending
         r.read r.halted.parts r.halted.halts.0
     came taken status.Done r = to_end taken status.Done (λ e. cc) (λ e. cc) r
     came taken status.Usage r = to_end taken status.Usage (λ e. cc) (λ e. cc) r

@@ -10,6 +10,7 @@ use Rattle.language.specs.Lang.{Lang}
 use Rattle.core_rules.specs.Standing.{has_ended}
 use Rattle.reply_outbox.specs.Items.{is_lost}
 use Rattle.session_rules.specs.Legal.{IsLegal}
+use Rattle.session_rules.specs.Steps.{Nothing, due}
 use Rattle.session_rules.specs.Alone.{IsAlone}
 use Rattle.session_lists.specs.Items.{heard_in, session_in}
 use Rattle.session_lists.specs.Legal.{AreLegal}
@@ -42,12 +43,13 @@ Closed l status.WriteFault s = ⊤
 Closed l status.NoMemory s = ⊤
 Closed l _ s = has_ended (session_in l s.service s.items).events ≡ true
 
--- the history is legal, and so is the list with what was sent; it has ended but where writing
--- failed or memory was short
+-- the history is legal, and so is the list with what was sent; what its newest message calls for is
+-- done; it has ended but where writing failed or memory was short
 pub record OneLegalHistory {S : Type 0} (l : Lang S) (how : Status) (s : SessionState)
     : Type 0 where
   pub legal : IsLegal l s.service (heard_in s.service s.items)
   pub list : AreLegal l s.service s.items
+  pub none_due : due l s.service (heard_in s.service s.items) ≡ Nothing
   pub closed : Closed l how s
 
 -- these messages, and others after them of which this holds, are those of the bytes

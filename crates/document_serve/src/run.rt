@@ -42,6 +42,7 @@ fn serve_alone<L: Language, P: Past<Service, Entry> + Drop, S: Source, K: Sink>(
         session,
         sink,
     } = alone;
+    session.none_due();
     Served {
         status,
         session,

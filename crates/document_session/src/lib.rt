@@ -10,6 +10,7 @@
 mod answering;
 mod changing;
 mod looking;
+mod results;
 mod sending;
 mod session;
 mod stepping;

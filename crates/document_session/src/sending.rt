@@ -1,7 +1,8 @@
 //! The writer.
 ghost use Rattle.std.specs.Prelude.{◌≡◌, ◌≤◌, [], ◌∷◌, ◌⊎◌, length, true, false, IfSome, IfNone};
 ghost use Rattle.reply_outbox.specs.declared.item.Item.TheVariants.{Sent, Lost};
-ghost use Rattle.reply_outbox.specs.Items.{is_lost};
+ghost use Rattle.reply_outbox.specs.Items.{has_sent, is_lost};
+ghost use Rattle.reply_outbox.specs.Waiting.{bytes_waiting};
 ghost use Rattle.message_values.specs.Workers.{most_workers};
 ghost use Rattle.session_rules.specs.Services.{free_workers};
 ghost use Rattle.session_lists.specs.Items.{heard_in, writer_of};
@@ -52,6 +53,20 @@ impl<L: Language, P: Past<Service, Entry> + Drop> Session<L, P> {
         ensures { result ≡ is_lost self.now.items }
     {
         self.outbox.is_lost()
+    }
+
+    /// Whether the writer took a reply.
+    pub fn has_sent(&self) -> bool
+        ensures { result ≡ has_sent self.now.items }
+    {
+        self.outbox.has_sent()
+    }
+
+    /// How many bytes of replies wait.
+    pub fn bytes_waiting(&self) -> u128
+        ensures { result ≡ bytes_waiting self.now.waiting }
+    {
+        self.outbox.bytes_waiting()
     }
 }
 

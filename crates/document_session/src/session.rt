@@ -4,8 +4,9 @@ ghost use Rattle.reply_outbox.specs.declared.item.Item.TheVariants.{Opened, Made
 ghost use Rattle.core_rules.specs.Standing.{has_ended};
 ghost use Rattle.message_values.specs.Workers.{most_workers};
 ghost use Rattle.session_rules.specs.Services.{free_workers};
+ghost use Rattle.session_rules.specs.Steps.{Nothing, due};
 ghost use Rattle.session_rules.specs.declared.entry.Entry.TheVariants as entry;
-ghost use Rattle.session_lists.specs.Items.{session_in};
+ghost use Rattle.session_lists.specs.Items.{heard_in, session_in};
 ghost use Rattle.session_lists.specs.Legal.{AreLegal};
 
 use crate::table::Table;
@@ -123,6 +124,14 @@ impl<L: Language, P: Past<Service, Entry> + Drop> Session<L, P> {
         ensures { P.items result.now ≡ self.now.items }
     {
         self.outbox.past()
+    }
+
+    /// Between its calls nothing is due: what a message calls for is done with it.
+    pub fn none_due(&self)
+        ensures { due L.lang self.now.service (heard_in self.now.service self.now.items)
+            ≡ Nothing }
+    {
+        let _ = &self.called;
     }
 
     /// Whether it has ended.

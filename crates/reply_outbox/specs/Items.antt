@@ -20,3 +20,9 @@ abbrev pub is_lost : {O E : Type 0} → List (Item O E) → Bool
 is_lost [] = false
 is_lost (item.Lost writer ∷ items) = true
 is_lost (other ∷ items) = is_lost items
+
+-- a writer took a reply
+abbrev pub has_sent : {O E : Type 0} → List (Item O E) → Bool
+has_sent [] = false
+has_sent (item.Sent writer len ∷ items) = true
+has_sent (other ∷ items) = has_sent items

@@ -1,5 +1,6 @@
 -- What contracts see of an outbox (this project's own).
 use Rattle.std.specs.Prelude.{◌≡◌, ◌+◌, ◌*◌, ◌≤◌, ◌⊎◌, if◌then◌else◌, ℕ, Bool, true, false, List, [], ◌∷◌, length}
+use Rattle.std.specs.List.{sum_by}
 use Rattle.reply_outbox.specs.declared.item.Item.{Item}
 use Rattle.reply_outbox.specs.declared.item.Item.TheVariants as item
 use Rattle.reply_outbox.specs.Items.{is_lost}
@@ -26,3 +27,7 @@ pub record IsSent {O E : Type 0} (writer : ℕ) (bytes : List ℕ) (old new : Lo
 -- nothing is sent where no reply waits or the sink is lost
 abbrev pub IsStill : {O E : Type 0} → Log O E → Type 0
 IsStill log = (log.waiting ≡ []) ⊎ (is_lost log.items ≡ true)
+
+-- how many bytes wait
+abbrev pub bytes_waiting : List (List ℕ) → ℕ
+bytes_waiting waiting = sum_by (λ reply. length reply) waiting

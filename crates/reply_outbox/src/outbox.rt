@@ -2,8 +2,8 @@
 ghost use Rattle.std.specs.Prelude.{◌≡◌, ◌==◌, ◌+◌, ◌*◌, ◌<◌, ◌≤◌, [], ◌∷◌, ◌++◌, length, map, false, IfOk, IfErr, IfSome, IfNone, OnOk};
 ghost use Rattle.std.specs.Option.{option_map, option_to_list};
 ghost use Rattle.reply_outbox.specs.declared.item.Item.TheVariants as item;
-ghost use Rattle.reply_outbox.specs.Items.{is_lost};
-ghost use Rattle.reply_outbox.specs.Waiting.{IsSent, IsStill};
+ghost use Rattle.reply_outbox.specs.Items.{has_sent, is_lost};
+ghost use Rattle.reply_outbox.specs.Waiting.{IsSent, IsStill, bytes_waiting};
 
 use crate::item::Item;
 use crate::past::Past;
@@ -18,6 +18,10 @@ use std::marker::{Model, PhantomData};
 pub struct Outbox<O, E, P: Past<O, E>> {
     past: P,
     waiting: VecDeque<Vec<u8>>,
+    /// How many bytes wait.
+    bytes: u128,
+    /// Whether a reply was sent.
+    begun: bool,
     /// The entries that can still be added without memory.
     free: usize,
     lost: bool,
@@ -27,8 +31,8 @@ pub struct Outbox<O, E, P: Past<O, E>> {
 impl<O, E, P: Past<O, E>> Model for Outbox<O, E, P> {
     ghost use Rattle.std.specs.Prelude.{◌≡◌, map};
     ghost use Rattle.std.specs.VecDeque.{deque_len, deque_capacity};
-    ghost use Rattle.reply_outbox.specs.Items.{is_lost};
-    ghost use Rattle.reply_outbox.specs.Waiting.{Log, HasRoom};
+    ghost use Rattle.reply_outbox.specs.Items.{has_sent, is_lost};
+    ghost use Rattle.reply_outbox.specs.Waiting.{Log, HasRoom, bytes_waiting};
 
     ghost Value = { Log O E };
 
@@ -39,7 +43,9 @@ impl<O, E, P: Past<O, E>> Model for Outbox<O, E, P> {
     } };
 
     ghost invariant = { λ o. (o.lost ≡ is_lost (P.items o.past))
-        × HasRoom o.lost o.free (deque_len o.waiting) (deque_capacity o.waiting) (P.room o.past) };
+        × HasRoom o.lost o.free (deque_len o.waiting) (deque_capacity o.waiting) (P.room o.past)
+        × (o.begun ≡ has_sent (P.items o.past))
+        × (o.bytes ≡ bytes_waiting (map (λ reply. reply.items) o.waiting.items)) };
 }
 
 /// What is left of an outbox: the list, and the replies that were not sent, the oldest first.
@@ -70,6 +76,8 @@ impl<O: Drop, E: Drop, P: Past<O, E> + Drop> Outbox<O, E, P> {
         Ok(Outbox {
             past,
             waiting,
+            bytes: 0,
+            begun: false,
             free: 1,
             lost: false,
             of: PhantomData,
@@ -106,6 +114,7 @@ impl<O: Drop, E: Drop, P: Past<O, E> + Drop> Outbox<O, E, P> {
         self.free -= 1;
         self.past.add(Item::Made(entry));
         if let Some(reply) = reply {
+            self.bytes += reply.len() as u128;
             self.waiting.push_back_reserved(reply);
         }
     }
@@ -122,6 +131,8 @@ impl<O: Drop, E: Drop, P: Past<O, E> + Drop> Outbox<O, E, P> {
         }
         let bytes = self.waiting.pop_front()?;
         let len = bytes.len() as u64;
+        self.bytes -= len as u128;
+        self.begun = true;
         self.past.add(Item::Sent { writer, len });
         Some(bytes)
     }
@@ -142,6 +153,20 @@ impl<O: Drop, E: Drop, P: Past<O, E> + Drop> Outbox<O, E, P> {
         ensures { result ≡ is_lost self.now.items }
     {
         self.lost
+    }
+
+    /// Whether a writer took a reply.
+    pub fn has_sent(&self) -> bool
+        ensures { result ≡ has_sent self.now.items }
+    {
+        self.begun
+    }
+
+    /// How many bytes wait.
+    pub fn bytes_waiting(&self) -> u128
+        ensures { result ≡ bytes_waiting self.now.waiting }
+    {
+        self.bytes
     }
 
     /// Whether no reply waits.
