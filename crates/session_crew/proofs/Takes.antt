@@ -54,7 +54,7 @@ module _ {S : Type 0} (l : Lang S) where
 
   module _ (message : List (List ℕ)) where
     abbrev pub Takes : SharedState → Taking S → SharedState → Type 0
-    Takes old answer new = TakesSo l message old.log answer new.log
+    Takes old answer new = TakesSo l message old answer new.log
 
     claim_own : (old new : SharedState) (c : Claim S) → ClaimedSo l (service_of old.log) 0 (reverse old.log) c (reverse new.log) → OneOf 0 old.log new.log
     claim_own old new (claim.Job work flag) so =
@@ -64,7 +64,7 @@ module _ {S : Type 0} (l : Lang S) where
 
     -- the item is the reader's
     pub takes_own : (old new : SharedState) (a : Taking S) → Takes old a new → OneOf 0 old.log new.log
-    takes_own old new taking.Replied so = let one : SessionItem = item.Made (entry.Call message) in inr (one, refl, so)
+    takes_own old new taking.Replied so = let one : SessionItem = item.Made (entry.Call message) in inr (one, refl, so.0)
     takes_own old new (taking.Waits back c) so = claim_own old new c so.2
     takes_own old new taking.Lost so = inl so.0
     takes_own old new taking.NoMemory so = inl so
@@ -104,7 +104,7 @@ module _ {S : Type 0} (l : Lang S) where
       claimed back claim.NoMemory t = sees_on l Takes v (taking.Waits back claim.NoMemory) w t (not_grown t.before.log t.after.log t.given.2)
 
       pub taken : (a : Taking S) → IsTurn l Takes v a w → HasTaken l message v a w
-      taken taking.Replied t = turned_one log_of whose (IsLegalLog l) Takes v taking.Replied w t (item.Made (entry.Call message)) t.given
+      taken taking.Replied t = turned_one log_of whose (IsLegalLog l) Takes v taking.Replied w t (item.Made (entry.Call message)) t.given.0
       taken (taking.Waits back c) t = (t.given.0, claimed back c t)
       taken taking.Lost t = (sees_on l Takes v taking.Lost w t t.given.0, seen_lost l Takes v taking.Lost w t lost t.given.0 t.given.1)
       taken taking.NoMemory t = sees_on l Takes v taking.NoMemory w t t.given

@@ -1,4 +1,5 @@
 pub mod Contents
 pub mod Ends
+pub mod Room
 pub mod Sending
 pub mod Working

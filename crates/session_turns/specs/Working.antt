@@ -1,5 +1,5 @@
 -- What the reader and workers are answered, and what that adds to the list (this project's own).
-use Rattle.std.specs.Prelude.{◌≡◌, ◌≢◌, ◌⊎◌, ℕ, ◌≤◌, true, List, [], ◌∷◌, ◌++◌, reverse, None}
+use Rattle.std.specs.Prelude.{◌≡◌, ◌≢◌, ◌⊎◌, ℕ, ◌≤◌, true, false, List, [], ◌∷◌, ◌++◌, reverse, None}
 use Rattle.language.specs.Lang.{Lang}
 use Rattle.core_rules.specs.Ready.{first_ready}
 use Rattle.core_rules.specs.Standing.{held}
@@ -16,7 +16,9 @@ use Rattle.session_turns.specs.declared.claiming.Claiming.{Claiming}
 use Rattle.session_turns.specs.declared.claiming.Claiming.TheVariants as claiming
 use Rattle.session_turns.specs.declared.taking.Taking.{Taking}
 use Rattle.session_turns.specs.declared.taking.Taking.TheVariants as taking
+use Rattle.session_turns.specs.Contents.{SharedState}
 use Rattle.session_turns.specs.Ends.{HasEnded, IsGoing}
+use Rattle.session_turns.specs.Room.{is_backed_up}
 
 module _ {S : Type 0} (l : Lang S) where
   -- a message is answered by its call, or it waits
@@ -25,15 +27,20 @@ module _ {S : Type 0} (l : Lang S) where
   AnswersSo message old (taken.Waits back) new =
       (back ≡ message) × (new ≡ old) × IsWaiting l (service_of old) (reverse old) message
 
-  -- a message is answered by its call; or it waits, and the reader claims a part if one is ready;
-  -- or it is given up
-  abbrev pub TakesSo : List (List ℕ) → List SessionItem → Taking S → List SessionItem → Type 0
-  TakesSo message old taking.Replied new = new ≡ old ++ item.Made (entry.Call message) ∷ []
-  TakesSo message old (taking.Waits back claim) new =
-      (back ≡ message) × IsWaiting l (service_of old) (reverse old) message
-      × ClaimedSo l (service_of old) 0 (reverse old) claim (reverse new)
-  TakesSo message old taking.Lost new = (new ≡ old) × (is_lost (reverse old) ≡ true)
-  TakesSo message old taking.NoMemory new = new ≡ old
+  -- a message waits for its version, or for the writer
+  abbrev pub MustWait : List (List ℕ) → SharedState → Type 0
+  MustWait message old = IsWaiting l (service_of old.log) (reverse old.log) message
+      ⊎ (is_backed_up old ≡ true)
+
+  -- a message is answered by its call, where not too much waits for the writer; or it waits, and the
+  -- reader claims a part if one is ready; or it is given up
+  abbrev pub TakesSo : List (List ℕ) → SharedState → Taking S → List SessionItem → Type 0
+  TakesSo message old taking.Replied new =
+      (new ≡ old.log ++ item.Made (entry.Call message) ∷ []) × (is_backed_up old ≡ false)
+  TakesSo message old (taking.Waits back claim) new = (back ≡ message) × MustWait message old
+      × ClaimedSo l (service_of old.log) 0 (reverse old.log) claim (reverse new)
+  TakesSo message old taking.Lost new = (new ≡ old.log) × (is_lost (reverse old.log) ≡ true)
+  TakesSo message old taking.NoMemory new = new ≡ old.log
 
   -- a worker finds nothing to claim: no part is ready, or it holds one
   abbrev pub FindsNoPart : ℕ → List SessionItem → Type 0

@@ -3,7 +3,8 @@ ghost use Rattle.std.specs.Prelude.{◌≡◌, IfOk, OnErr};
 ghost use Rattle.hist_lock.specs.Entries.{Grows};
 ghost use Rattle.thread_views.specs.Histories.{IsLegalLog};
 ghost use Rattle.session_turns.specs.Ends.{IsGoing};
-ghost use Rattle.session_turns.specs.Working.{AnswersSo, TakesSo};
+ghost use Rattle.session_turns.specs.Room.{is_backed_up};
+ghost use Rattle.session_turns.specs.Working.{AnswersSo, MustWait, TakesSo};
 
 use crate::locked::Locked;
 use byte_message::Message;
@@ -20,7 +21,8 @@ use thread_views::list_law;
 pub enum Taking<S> {
     /// It is answered.
     Replied,
-    /// The version that it waits for isn't settled: here it is back, and what the reader claimed.
+    /// The version that it waits for isn't settled, or too much waits for the writer: here it is
+    /// back, and what the reader claimed.
     Waits { message: Message, claim: Claim<S> },
     /// The sink is lost, and the message is given up.
     Lost,
@@ -28,7 +30,17 @@ pub enum Taking<S> {
     NoMemory,
 }
 
+/// So many bytes of replies may wait where a message is taken.
+const MOST_WAITING: u128 = 0x10_0000;
+
 impl<L: Language, P: Past<Service, Entry> + Drop> Locked<L, P> {
+    /// Whether more waits for the writer, which has begun to take replies.
+    fn is_backed_up(&self) -> bool
+        ensures { result ≡ is_backed_up self.now }
+    {
+        self.session.has_sent() && self.session.bytes_waiting() > MOST_WAITING
+    }
+
     /// A message is answered, or handed back where it waits. For want of memory nothing has
     /// changed.
     fn answer(&mut self, alloc: Global, lang: &L, message: Message) -> Result<Taken, AllocError>
@@ -43,12 +55,24 @@ impl<L: Language, P: Past<Service, Entry> + Drop> Locked<L, P> {
         self.session.take(alloc, lang, message)
     }
 
-    /// A message is answered; where it waits the reader claims the first ready part. All has not
-    /// ended.
+    /// A message is put off, and the reader claims the first ready part.
+    fn put_off(&mut self, alloc: Global, lang: &L, message: Message) -> Taking<L::State>
+        requires legal { IsLegalLog L.lang self.old.log }
+        requires waits { MustWait L.lang message self.old }
+        ensures takes { TakesSo L.lang message self.old result self.new.log }
+        ensures adds { Grows self.old.log self.new.log }
+        ensures legal { IsLegalLog L.lang self.new.log }
+    {
+        let claim = self.try_claim(alloc, lang, 0);
+        Taking::Waits { message, claim }
+    }
+
+    /// A message is answered, where not too much waits for the writer; where it waits the reader
+    /// claims the first ready part. All has not ended.
     fn take(&mut self, alloc: Global, lang: &L, message: Message) -> Taking<L::State>
         requires legal { IsLegalLog L.lang self.old.log }
         requires going { IsGoing L.lang self.old.log }
-        ensures takes { TakesSo L.lang message self.old.log result self.new.log }
+        ensures takes { TakesSo L.lang message self.old result self.new.log }
         ensures adds { Grows self.old.log self.new.log }
         ensures legal { IsLegalLog L.lang self.new.log }
     {
@@ -56,13 +80,13 @@ impl<L: Language, P: Past<Service, Entry> + Drop> Locked<L, P> {
             drop(message);
             return Taking::Lost;
         }
+        if self.is_backed_up() {
+            return self.put_off(alloc, lang, message);
+        }
         match self.answer(alloc, lang, message) {
             Err(_) => Taking::NoMemory,
             Ok(Taken::Replied) => Taking::Replied,
-            Ok(Taken::Waits(message)) => {
-                let claim = self.try_claim(alloc, lang, 0);
-                Taking::Waits { message, claim }
-            }
+            Ok(Taken::Waits(message)) => self.put_off(alloc, lang, message),
         }
     }
 }
@@ -80,7 +104,7 @@ impl<'a, L: Language, P: Past<Service, Entry> + Drop> Turn<Locked<L, P>> for Tak
 
     ghost asks = { λ call old. IsGoing L.lang old.log };
 
-    ghost gives = { λ call old answer new. TakesSo L.lang call.message old.log answer new.log };
+    ghost gives = { λ call old answer new. TakesSo L.lang call.message old answer new.log };
 
     fn run(self, state: &mut Locked<L, P>) -> Taking<L::State> {
         let TakeTurn {
