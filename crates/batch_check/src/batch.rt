@@ -23,11 +23,24 @@ pub struct Batch<'a, L: Language, G> {
     pub gate: &'a G,
 }
 
-/// Tells the gate of a node, as of an evaluation with the number after its place.
-fn tell<G: Gate>(gate: &G, worker: u32, place: usize) {
-    if let Some(exec) = ExecId::new((place as u64).saturating_add(1)) {
-        let kind = PartKind::Eval;
-        gate.at(worker, Point::Claimed(Part { exec, kind }));
+/// A node as a gate is told of it: the evaluation with the number after its place.
+fn part_of(place: usize) -> Option<Part> {
+    let exec = ExecId::new((place as u64).saturating_add(1))?;
+    let kind = PartKind::Eval;
+    Some(Part { exec, kind })
+}
+
+/// Tells the gate that the worker begins with a node.
+fn tell_claimed<G: Gate>(gate: &G, worker: u32, place: usize) {
+    if let Some(part) = part_of(place) {
+        gate.at(worker, Point::Claimed(part));
+    }
+}
+
+/// Tells the gate that the worker is done with a node.
+fn tell_finished<G: Gate>(gate: &G, worker: u32, place: usize) {
+    if let Some(part) = part_of(place) {
+        gate.at(worker, Point::BeforeFinish(part));
     }
 }
 
@@ -56,12 +69,14 @@ where
         task: usize,
     ) -> Result<NodeRun<L::State>, AllocError> {
         let place = self.places[task];
-        tell(self.gate, worker, place);
+        tell_claimed(self.gate, worker, place);
         let Some((_, node)) = self.before.nodes.at(place) else {
             unreachable!()
         };
         let begins = begin(alloc, self.language, self.before, place)?;
-        check_node(alloc, self.language, node, begins)
+        let run = check_node(alloc, self.language, node, begins);
+        tell_finished(self.gate, worker, place);
+        run
     }
 }
 

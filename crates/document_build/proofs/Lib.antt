@@ -1,0 +1,5 @@
+mod Kept
+mod BatchSteps
+mod Gathered
+mod Rounds
+mod AllBatches

@@ -1,0 +1,6 @@
+use Rattle.document_build.proofs.AllBatches.{AreDone}
+use Rattle.document_build.proofs.building.build.Given as goal
+
+-- the batches so far are done
+abbrev pub invariant-batches : goal.invariant-batches
+invariant-batches g l = AreDone g.L.Language.lang l.nodes l.batch-items l.batch-index l.kept l.taken.items

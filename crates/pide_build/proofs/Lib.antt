@@ -1,0 +1,8 @@
+mod Written
+mod Kept
+mod Nodes
+mod Opened
+mod Numbered
+mod Prepared
+mod Came
+mod Builds
