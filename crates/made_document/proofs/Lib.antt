@@ -1,0 +1,7 @@
+mod Decimals
+mod Printable
+mod Fitting
+mod Nesting
+mod Short
+mod Items
+mod Asked

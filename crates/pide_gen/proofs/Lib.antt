@@ -1,0 +1,4 @@
+mod Asking
+mod Shown
+mod Loops
+mod Summing

@@ -1,0 +1,3 @@
+pub mod Answered
+pub mod Generated
+pub mod Told

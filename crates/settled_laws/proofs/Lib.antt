@@ -1,0 +1,9 @@
+mod Unmarked
+mod Finished
+mod Documents
+mod Sessions
+mod Kept
+mod Histories
+mod Reached
+mod Reports
+mod Settled
