@@ -1,1 +1,2 @@
 mod Unread
+mod Unbuilt

@@ -1,2 +1,3 @@
 pub mod Words
 pub mod Limit
+pub mod Held

@@ -1,10 +1,12 @@
 -- What the program does for the words of the command line (this project's own).
-use Rattle.std.specs.Prelude.{ℕ, ◌==◌, Bool, true, false, ◌||◌, List, Option, Some, Result}
+use Rattle.std.specs.Prelude.{ℕ, nat_le, Bool, true, false, ◌&&◌, ◌||◌, List, Option, Some, Result}
 use Rattle.command_words.specs.declared.request.Request.{Request}
 use Rattle.command_words.specs.declared.request.Request.TheVariants as request
 use Rattle.command_words.specs.Asked.{asked}
 use Rattle.session_rules.specs.declared.service.Service.{Service}
 use Rattle.session_rules.specs.declared.service.Service.TheVariants as service
+use Rattle.made_document.specs.Texts.{most_nodes}
+use Rattle.message_values.specs.Workers.{most_workers}
 use Rattle.message_values.specs.declared.editor_message.EditorMessage.{EditorMessage}
 use Rattle.message_values.specs.declared.refusal.Refusal.{Refusal}
 use Rattle.session_rules.specs.Heard.{Heard}
@@ -12,10 +14,9 @@ use Rattle.session_lists.specs.Items.{heard_in}
 use Rattle.session_laws.specs.Promises.{EachMessage}
 use Rattle.document_session.specs.Contents.{SessionState}
 
--- messages are served where no workers are asked for: so far there are none, and nothing is built
--- or made
+-- messages are served beside as many workers as there may be, and as a script tells
 abbrev pub serves : Option Request → Bool
-serves (Some (request.Serve workers)) = workers == 0
+serves (Some (request.Serve workers)) = nat_le workers most_workers
 serves (Some request.Replay) = true
 serves _ = false
 
@@ -24,12 +25,27 @@ abbrev pub checks : Option Request → Bool
 checks (Some request.Check) = true
 checks _ = false
 
+-- theories are built by as many workers as there may be
+abbrev pub builds : Option Request → Bool
+builds (Some (request.Build workers)) = nat_le workers most_workers
+builds _ = false
+
+-- a document is made of as many nodes as it may have, beside as many workers as there may be
+abbrev pub makes : Option Request → Bool
+makes (Some (request.Gen nodes workers)) = nat_le nodes most_nodes && nat_le workers most_workers
+makes _ = false
+
+-- of so many nodes
+abbrev pub nodes_for : Option Request → ℕ
+nodes_for (Some (request.Gen nodes workers)) = nodes
+nodes_for _ = 0
+
 -- how messages are served
 abbrev pub service_for : Option Request → Service
 service_for (Some (request.Serve workers)) = service.Workers workers
 service_for _ = service.Script
 
--- the words are `serve`, `serve --workers 0` or `replay`
+-- the words are `serve`, with a number of workers or without, or `replay`
 abbrev pub is_served : List (List ℕ) → Bool
 is_served words = serves (asked words)
 
@@ -37,9 +53,21 @@ is_served words = serves (asked words)
 abbrev pub is_check : List (List ℕ) → Bool
 is_check words = checks (asked words)
 
+-- the words are `build`, with a number of workers or without
+abbrev pub is_build : List (List ℕ) → Bool
+is_build words = builds (asked words)
+
+-- the words are `gen` with a number of nodes, and with a number of workers or without
+abbrev pub is_gen : List (List ℕ) → Bool
+is_gen words = makes (asked words)
+
+-- the number of nodes
+abbrev pub nodes_of : List (List ℕ) → ℕ
+nodes_of words = nodes_for (asked words)
+
 -- the words are taken
 abbrev pub is_taken : List (List ℕ) → Bool
-is_taken words = is_served words || is_check words
+is_taken words = is_served words || (is_check words || (is_build words || is_gen words))
 
 -- how the words ask to be served
 abbrev pub service_of : List (List ℕ) → Service

@@ -2,36 +2,46 @@
 ghost use Rattle.std.specs.Prelude.{◌≡◌, ◌⊎◌, ℕ, true, false, [], map, IsOk, IsErr, IfOk, IfErr};
 ghost use Rattle.pide_base.specs.Faults.{Rose};
 ghost use Rattle.pide_check.specs.Checked.{ChecksWhole, IsChecked};
-ghost use Rattle.message_input.specs.Causes.{BadFrameSo, CompleteSo, DoneSo, LongSo, TruncatedSo};
+ghost use Rattle.message_input.specs.Causes.{BadFrameSo, CompleteSo, DoneSo, HasCause, LongSo, TruncatedSo};
 ghost use Rattle.document_serve.specs.Headline.{BytesWritten, MadeAlone, MessagesRead, OneLegalHistory};
+ghost use Rattle.pide_gen.specs.Generated.{IsGenerated};
 ghost use Rattle.isar_rules.specs.Isar.{isar};
+ghost use Rattle.session_rules.specs.Services.{free_workers};
 ghost use Rattle.session_laws.specs.Promises.{CoversSo, ShowsSo};
-ghost use Rattle.pide_program.specs.Words.{EachOf, is_check, is_served, is_taken, service_of};
+ghost use Rattle.pide_build.specs.Runs.{IsBuild};
+ghost use Rattle.pide_program.specs.Words.{EachOf, is_build, is_check, is_gen, is_served, is_taken, nodes_of, service_of};
+ghost use Rattle.pide_program.specs.Held.{HoldsSo};
 ghost use Rattle.pide_program.specs.Limit.{input_limit};
 
 use crate::outcome::Outcome;
-use crate::running::{check, serve_as, unserved};
+use crate::running::{
+    MOST_NODES, MOST_WORKERS, build, check, make, serve_alone, serve_beside, unserved,
+};
 use command_words::{Request, asked};
-use pide_base::{Sink, Source, Status};
+use pide_base::{Gate, Sink, Source, Status};
 use reply_outbox::Past;
 use session_laws::headline_law;
 use session_rules::{Entry, Service};
 use std::alloc::Global;
+use std::sync::Wait;
+use std::thread::Threads;
 use toplevel::Isar;
 
-/// Does what the words ask: serves the messages of the source, each when it is whole, and writes
-/// the replies before more is read; or checks the text of the source, and writes its markup by
-/// lines.
+/// Does what the words ask: serves the messages of the source, each when it is whole, on this
+/// thread alone, which writes the replies before more is read, or beside workers and a writer in
+/// threads of their own; or checks the text of the source, and writes its markup by lines; or
+/// builds the theories that the messages bring, and writes what they report; or makes a document by
+/// messages of its own, and writes what it comes to.
 ///
-/// `words` are those of the command line after the program's name. What happens is added to `past`,
-/// which must be empty.
-pub fn pide<S: Source, K: Sink, P: Past<Service, Entry> + Drop>(
-    alloc: Global,
-    words: &[&str],
-    source: S,
-    sink: K,
-    past: P,
-) -> Outcome<S, K, P>
+/// `words` are those of the command line after the program's name. Workers come to the points of
+/// `gate`. What happens is added to `past`, which must be empty.
+pub fn pide<
+    R: Threads + Wait + Sync,
+    S: Source + Drop,
+    K: Sink + Send + Drop,
+    G: Gate + Sync,
+    P: Past<Service, Entry> + Drop + Send,
+>(rt: &R, alloc: Global, words: &[&str], source: S, sink: K, gate: &G, past: P) -> Outcome<S, K, P>
     requires empty { P.items past ≡ [] }
     ensures bytes_written { IfOk result.session (λ s. BytesWritten isar result.status
         (K.contents sink) (K.contents result.sink) s) }
@@ -40,8 +50,9 @@ pub fn pide<S: Source, K: Sink, P: Past<Service, Entry> + Drop>(
         (S.left source) (S.left result.source) s) }
     ensures shows_and_lists { IfOk result.session (λ s. EachOf (ShowsSo isar) s) }
     ensures covers { IfOk result.session (λ s. EachOf (CoversSo isar) s) }
-    ensures alone { IfOk result.session (λ s. MadeAlone isar result.status (S.left source)
-        (S.left result.source) s) }
+    ensures alone { IfOk result.session (λ s. free_workers s.service ≡ 0 → MadeAlone isar
+        result.status (S.left source) (S.left result.source) s) }
+    ensures nobody_holds { IfOk result.session (λ s. HoldsSo isar result.status s) }
 
     ensures service { IfOk result.session (λ s. s.service
         ≡ service_of (map (λ w. w.now) words.now)) }
@@ -50,10 +61,19 @@ pub fn pide<S: Source, K: Sink, P: Past<Service, Entry> + Drop>(
     ensures handed_back { IfErr result.session (λ list. P.items list ≡ []) }
     ensures unserved { is_served (map (λ w. w.now) words.now) ≡ false → IsErr result.session }
     ensures unbegun { IsErr result.session → is_check (map (λ w. w.now) words.now) ≡ false
+        → is_build (map (λ w. w.now) words.now) ≡ false
+        → is_gen (map (λ w. w.now) words.now) ≡ false
         → (result.source ≡ source) × (result.sink ≡ sink) }
     ensures lines_written { is_check (map (λ w. w.now) words.now) ≡ true
         → IsChecked isar result.status (S.left source) (S.left result.source) (K.contents sink)
         (K.contents result.sink) }
+    ensures replies_built { is_build (map (λ w. w.now) words.now) ≡ true
+        → IsBuild isar result.status (S.left source) (S.left result.source) (K.contents sink)
+        (K.contents result.sink) }
+    ensures generated { is_gen (map (λ w. w.now) words.now) ≡ true
+        → IsGenerated isar (nodes_of (map (λ w. w.now) words.now)) result.status
+        (K.contents sink) (K.contents result.sink) }
+    ensures unread { is_gen (map (λ w. w.now) words.now) ≡ true → result.source ≡ source }
 
     ensures usage { result.status ≡ Status.Usage → is_taken (map (λ w. w.now) words.now) ≡ false }
     ensures refused { is_taken (map (λ w. w.now) words.now) ≡ false
@@ -75,17 +95,35 @@ pub fn pide<S: Source, K: Sink, P: Past<Service, Entry> + Drop>(
     ensures complete { is_served (map (λ w. w.now) words.now) ≡ true
         → CompleteSo input_limit (S.left source) (S.faults source) (S.faults result.source)
         (K.faults sink) (K.faults result.sink) result.status }
+    ensures build_causes { is_build (map (λ w. w.now) words.now) ≡ true
+        → HasCause input_limit result.status (S.left source) (S.left result.source) }
+    ensures builds_whole { is_build (map (λ w. w.now) words.now) ≡ true
+        → CompleteSo input_limit (S.left source) (S.faults source) (S.faults result.source)
+        (K.faults sink) (K.faults result.sink) result.status }
     ensures checks_whole { is_check (map (λ w. w.now) words.now) ≡ true
         → ChecksWhole (S.left source) (S.faults source) (S.faults result.source) (K.faults sink)
         (K.faults result.sink) result.status }
+    ensures generates_whole { is_gen (map (λ w. w.now) words.now) ≡ true
+        → (Rose (K.faults sink) (K.faults result.sink) → ⊥)
+        → (result.status ≡ Status.Done) ⊎ (result.status ≡ Status.NoMemory) }
 {
     headline_law::<Isar>();
     match asked(alloc, words) {
         Ok(Some(Request::Serve { workers: 0 })) => {
-            serve_as(alloc, Service::Workers { count: 0 }, source, sink, past)
+            serve_alone(alloc, Service::Workers { count: 0 }, source, sink, past)
         }
-        Ok(Some(Request::Replay)) => serve_as(alloc, Service::Script, source, sink, past),
+        Ok(Some(Request::Serve { workers })) if workers <= MOST_WORKERS => {
+            serve_beside(rt, alloc, workers, source, sink, gate, past)
+        }
+        Ok(Some(Request::Replay)) => serve_alone(alloc, Service::Script, source, sink, past),
         Ok(Some(Request::Check)) => check(alloc, source, sink, past),
+        Ok(Some(Request::Build { workers })) if workers <= MOST_WORKERS => {
+            build(rt, alloc, workers, source, sink, gate, past)
+        }
+        Ok(Some(Request::Gen { nodes, workers }))
+            if nodes <= MOST_NODES && workers <= MOST_WORKERS => {
+            make(rt, alloc, nodes, workers, source, sink, gate, past)
+        }
         Ok(_) => unserved(Status::Usage, source, sink, past),
         Err(_) => unserved(Status::NoMemory, source, sink, past),
     }

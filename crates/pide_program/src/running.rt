@@ -1,25 +1,43 @@
 //! What each command of the command line runs.
-ghost use Rattle.std.specs.Prelude.{◌≡◌, ◌⊎◌, ℕ, [], Err, IsOk, IsErr, IfOk, IfErr};
+ghost use Rattle.std.specs.Prelude.{◌≡◌, ◌≢◌, ◌≤◌, ◌⊎◌, ℕ, [], Err, IsOk, IsErr, IfOk, IfErr};
 ghost use Rattle.pide_base.specs.Faults.{Rose};
 ghost use Rattle.pide_check.specs.Checked.{ChecksWhole, IsChecked};
-ghost use Rattle.message_input.specs.Causes.{BadFrameSo, CompleteSo, DoneSo, LongSo, TruncatedSo};
+ghost use Rattle.message_input.specs.Causes.{BadFrameSo, CompleteSo, DoneSo, HasCause, LongSo, TruncatedSo};
+ghost use Rattle.pide_build.specs.Runs.{IsBuild};
 ghost use Rattle.document_serve.specs.Headline.{IsRun};
+ghost use Rattle.pide_gen.specs.Generated.{IsGenerated};
 ghost use Rattle.isar_rules.specs.Isar.{isar};
+ghost use Rattle.made_document.specs.Texts.{most_nodes};
+ghost use Rattle.message_values.specs.Workers.{most_workers};
 ghost use Rattle.session_rules.specs.Services.{free_workers};
+ghost use Rattle.session_rules.specs.declared.service.Service.TheVariants.{Workers};
+ghost use Rattle.thread_serve.specs.Promises.{IsServed};
+ghost use Rattle.pide_program.specs.Held.{HoldsSo};
 ghost use Rattle.pide_program.specs.Limit.{input_limit};
 
 use crate::outcome::Outcome;
 use document_serve::{Served, serve};
 use document_session::Session;
-use pide_base::{Sink, Source, Status};
+use pide_base::{Gate, Sink, Source, Status};
+use pide_build::{Ended, build_theories};
 use pide_check::check_text;
+use pide_gen::generate;
 use reply_outbox::Past;
+use session_laws::holders_law;
 use session_rules::{Entry, Service};
 use std::alloc::{AllocFailed, Global};
+use std::sync::Wait;
+use std::thread::Threads;
 use toplevel::Isar;
 
 /// The most bytes that a run takes.
 const LIMIT: usize = 1 << 40;
+
+/// The most workers beside the reader.
+pub(crate) const MOST_WORKERS: u32 = 16;
+
+/// The most nodes of a document that is made.
+pub(crate) const MOST_NODES: u32 = 1_000;
 
 /// No session is begun, and nothing is read or written.
 pub(crate) fn unserved<S, K, P: Past<Service, Entry>>(
@@ -41,8 +59,9 @@ pub(crate) fn unserved<S, K, P: Past<Service, Entry>>(
     }
 }
 
-/// Serves the messages of the source so. No session is begun where there is no memory for one.
-pub(crate) fn serve_as<S: Source, K: Sink, P: Past<Service, Entry> + Drop>(
+/// Serves the messages of the source so, on one thread. No session is begun where there is no
+/// memory for one.
+pub(crate) fn serve_alone<S: Source, K: Sink, P: Past<Service, Entry> + Drop>(
     alloc: Global,
     service: Service,
     source: S,
@@ -53,6 +72,7 @@ pub(crate) fn serve_as<S: Source, K: Sink, P: Past<Service, Entry> + Drop>(
     requires alone { free_workers service ≡ 0 }
     ensures run { IfOk result.session (λ s. IsRun isar input_limit result.status
         (S.left source) (S.left result.source) (K.contents sink) (K.contents result.sink) s) }
+    ensures holds { IfOk result.session (λ s. HoldsSo isar result.status s) }
     ensures service { IfOk result.session (λ s. s.service ≡ service) }
     ensures begun { IsOk result.session ⊎ (result.status ≡ Status.NoMemory) }
     ensures handed_back { IfErr result.session (λ list. P.items list ≡ []) }
@@ -72,6 +92,7 @@ pub(crate) fn serve_as<S: Source, K: Sink, P: Past<Service, Entry> + Drop>(
     ensures complete { CompleteSo input_limit (S.left source) (S.faults source)
         (S.faults result.source) (K.faults sink) (K.faults result.sink) result.status }
 {
+    holders_law::<Isar>();
     let mut source = source;
     let session = match Session::<Isar, P>::new(alloc, service, past) {
         Ok(session) => session,
@@ -87,6 +108,52 @@ pub(crate) fn serve_as<S: Source, K: Sink, P: Past<Service, Entry> + Drop>(
         source,
         sink,
         session: Ok(session),
+    }
+}
+
+/// Serves the messages of the source beside so many workers, in threads. No session is begun where
+/// there is no memory for one.
+pub(crate) fn serve_beside<
+    R: Threads + Wait + Sync,
+    S: Source + Drop,
+    K: Sink + Send + Drop,
+    G: Gate + Sync,
+    P: Past<Service, Entry> + Drop + Send,
+>(rt: &R, alloc: Global, workers: u32, source: S, sink: K, gate: &G, past: P) -> Outcome<S, K, P>
+    requires empty { P.items past ≡ [] }
+    requires few { workers ≤ most_workers }
+    ensures run { IfOk result.session (λ s. IsServed isar input_limit result.status
+        (S.left source) (S.left result.source) (K.contents sink) (K.contents result.sink) s) }
+    ensures holds { IfOk result.session (λ s. HoldsSo isar result.status s) }
+    ensures service { IfOk result.session (λ s. s.service ≡ Workers workers) }
+    ensures begun { IsOk result.session ⊎ (result.status ≡ Status.NoMemory) }
+    ensures handed_back { IfErr result.session (λ list. P.items list ≡ []) }
+    ensures unbegun { IsErr result.session → (result.source ≡ source) × (result.sink ≡ sink) }
+    ensures read_fault { result.status ≡ Status.ReadFault
+        → Rose (S.faults source) (S.faults result.source) }
+    ensures write_fault { result.status ≡ Status.WriteFault
+        → Rose (K.faults sink) (K.faults result.sink) }
+    ensures bad_frame { (at : ℕ) → result.status ≡ Status.BadFrame at
+        → BadFrameSo at (S.left source) (S.left result.source) }
+    ensures truncated { (at : ℕ) → result.status ≡ Status.Truncated at
+        → TruncatedSo at (S.left source) (S.left result.source) }
+    ensures long_input { IsOk result.session
+        → LongSo input_limit result.status (S.left source) (S.left result.source) }
+    ensures done { result.status ≡ Status.Done
+        → DoneSo (S.left source) (S.left result.source) }
+    ensures complete { CompleteSo input_limit (S.left source) (S.faults source)
+        (S.faults result.source) (K.faults sink) (K.faults result.sink) result.status }
+{
+    let session = match Session::<Isar, P>::new(alloc, Service::Workers { count: workers }, past) {
+        Ok(session) => session,
+        Err(AllocFailed { value }) => return unserved(Status::NoMemory, source, sink, value),
+    };
+    let served = thread_serve::serve(rt, alloc, &Isar, source, sink, session, gate, LIMIT);
+    Outcome {
+        status: served.status,
+        source: served.source,
+        sink: served.sink,
+        session: Ok(served.session),
     }
 }
 
@@ -110,6 +177,89 @@ pub(crate) fn check<S: Source, K: Sink, P: Past<Service, Entry>>(
     let mut source = source;
     let mut sink = sink;
     let status = check_text(alloc, &Isar, &mut source, &mut sink);
+    Outcome {
+        status,
+        source,
+        sink,
+        session: Err(past),
+    }
+}
+
+/// Builds the theories that the messages of the source bring, in this thread and in at most so many
+/// others. There is no session.
+pub(crate) fn build<
+    R: Threads + Wait + Sync,
+    S: Source,
+    K: Sink,
+    G: Gate + Sync,
+    P: Past<Service, Entry>,
+>(rt: &R, alloc: Global, workers: u32, source: S, sink: K, gate: &G, past: P) -> Outcome<S, K, P>
+    ensures built { IsBuild isar result.status (S.left source) (S.left result.source)
+        (K.contents sink) (K.contents result.sink) }
+    ensures causes { HasCause input_limit result.status (S.left source) (S.left result.source) }
+    ensures session { result.session ≡ Err past }
+    ensures read_fault { result.status ≡ Status.ReadFault
+        → Rose (S.faults source) (S.faults result.source) }
+    ensures write_fault { result.status ≡ Status.WriteFault
+        → Rose (K.faults sink) (K.faults result.sink) }
+    ensures complete { CompleteSo input_limit (S.left source) (S.faults source)
+        (S.faults result.source) (K.faults sink) (K.faults result.sink) result.status }
+{
+    let mut source = source;
+    let Ended { status, sink } = build_theories(
+        rt,
+        alloc,
+        &Isar,
+        &mut source,
+        sink,
+        workers,
+        gate,
+        LIMIT,
+    );
+    Outcome {
+        status,
+        source,
+        sink,
+        session: Err(past),
+    }
+}
+
+/// Makes a document of so many nodes beside so many workers, and writes its summary. Nothing is
+/// read, and the session that answers its messages is not handed back.
+pub(crate) fn make<
+    R: Threads + Wait + Sync,
+    S: Source,
+    K: Sink,
+    G: Gate + Sync,
+    P: Past<Service, Entry>,
+>(
+    rt: &R,
+    alloc: Global,
+    nodes: u32,
+    workers: u32,
+    source: S,
+    sink: K,
+    gate: &G,
+    past: P,
+) -> Outcome<S, K, P>
+    requires few { nodes ≤ most_nodes }
+    requires workers { workers ≤ most_workers }
+    ensures generated { IsGenerated isar nodes result.status (K.contents sink)
+        (K.contents result.sink) }
+    ensures source { result.source ≡ source }
+    ensures session { result.session ≡ Err past }
+    ensures write_fault { result.status ≡ Status.WriteFault
+        → Rose (K.faults sink) (K.faults result.sink) }
+    ensures no_read_fault { result.status ≢ Status.ReadFault }
+    ensures no_frame { (at : ℕ) → result.status ≢ Status.BadFrame at }
+    ensures not_truncated { (at : ℕ) → result.status ≢ Status.Truncated at }
+    ensures no_text { (at : ℕ) → result.status ≢ Status.BadText at }
+    ensures not_usage { result.status ≢ Status.Usage }
+    ensures complete { (Rose (K.faults sink) (K.faults result.sink) → ⊥)
+        → (result.status ≡ Status.Done) ⊎ (result.status ≡ Status.NoMemory) }
+{
+    let mut sink = sink;
+    let status = generate(rt, alloc, &Isar, nodes, workers, &mut sink, gate);
     Outcome {
         status,
         source,

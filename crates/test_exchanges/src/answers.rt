@@ -1,17 +1,22 @@
 //! What an exchange is answered.
 use crate::bytes::put_bytes;
 use crate::exchange::Exchange;
-use crate::messages::{show_message, spelling_of};
+use crate::history::add_history;
+use crate::messages::spelling_of;
+use crate::replies::{Order, Replies};
 use crate::runs::{Ran, run};
-use byte_message::{FeedError, Frames, Message};
+use byte_message::{FeedError, Frames};
 use pide_base::Status;
 use std::alloc::{AllocError, Global};
+use std::sync::Wait;
+use std::thread::Threads;
 
 /// The pieces of an exchange that tells none.
 const PIECES: &[usize] = &[100];
 
 /// Adds the answer of the first run, and each that is another one.
-pub(crate) fn add_answers(
+pub(crate) fn add_answers<R: Threads + Wait + Sync>(
+    rt: &R,
     alloc: Global,
     answer: &mut String,
     exchange: &Exchange,
@@ -21,23 +26,24 @@ pub(crate) fn add_answers(
     let Some((first, others)) = pieces.split_first() else {
         return Ok(());
     };
-    let first = answer_of(alloc, exchange, *first)?;
+    let first = answer_of(rt, alloc, exchange, *first)?;
     answer.push_str(first.as_str())?;
     for piece in others {
-        add_other(alloc, answer, exchange, *piece, first.as_str())?;
+        add_other(rt, alloc, answer, exchange, *piece, first.as_str())?;
     }
     Ok(())
 }
 
 /// Adds the answer of a run with this piece, if it is another one than the first.
-fn add_other(
+fn add_other<R: Threads + Wait + Sync>(
+    rt: &R,
     alloc: Global,
     answer: &mut String,
     exchange: &Exchange,
     piece: usize,
     first: &str,
 ) -> Result<(), AllocError> {
-    let other = answer_of(alloc, exchange, piece)?;
+    let other = answer_of(rt, alloc, exchange, piece)?;
     if other.as_str() == first {
         return Ok(());
     }
@@ -46,14 +52,20 @@ fn add_other(
 }
 
 /// The answer of the run with this piece.
-fn answer_of(alloc: Global, exchange: &Exchange, piece: usize) -> Result<String, AllocError> {
+fn answer_of<R: Threads + Wait + Sync>(
+    rt: &R,
+    alloc: Global,
+    exchange: &Exchange,
+    piece: usize,
+) -> Result<String, AllocError> {
     let mut answer = String::new(alloc);
-    add_answer(alloc, &mut answer, exchange, piece)?;
+    add_answer(rt, alloc, &mut answer, exchange, piece)?;
     Ok(answer)
 }
 
 /// Adds the answer of the run with this piece.
-fn add_answer(
+fn add_answer<R: Threads + Wait + Sync>(
+    rt: &R,
     alloc: Global,
     answer: &mut String,
     exchange: &Exchange,
@@ -62,9 +74,10 @@ fn add_answer(
     if exchange.limit.is_some() && !exchange.serves() {
         return answer.push_str("a limit goes with the word serve alone\n");
     }
-    let ran = run(alloc, exchange, piece)?;
+    let ran = run(rt, alloc, exchange, piece)?;
     add_status(alloc, answer, ran.status)?;
-    add_written(alloc, answer, exchange, ran.sink.contents())?;
+    add_hold(answer, ran.let_go)?;
+    add_written(alloc, answer, exchange, &ran)?;
     add_counts(alloc, answer, exchange, &ran)
 }
 
@@ -99,30 +112,52 @@ fn add_status(alloc: Global, answer: &mut String, status: Status) -> Result<(), 
     answer.push_str(line.as_str())
 }
 
-/// Adds what was written: lines of a check, or messages.
+/// Adds how the hold of a worker ended, where one was to be held.
+fn add_hold(answer: &mut String, let_go: Option<&'static str>) -> Result<(), AllocError> {
+    let Some(name) = let_go else {
+        return Ok(());
+    };
+    answer.push_str("held ")?;
+    answer.push_str(name)?;
+    answer.push('\n')
+}
+
+/// Adds what was written: lines, or messages.
 fn add_written(
     alloc: Global,
     answer: &mut String,
     exchange: &Exchange,
-    written: &[u8],
+    ran: &Ran,
 ) -> Result<(), AllocError> {
-    if exchange.checks() {
+    let written = ran.sink.contents();
+    if exchange.writes_lines() {
         return add_lines(answer, written);
     }
     let mut frames = Frames::new(alloc);
     if let Err(FeedError::NoMemory) = frames.feed(written) {
         return Err(AllocError);
     }
-    add_messages(alloc, answer, &mut frames, written)
+    let mut replies = Replies::new(alloc, order_of(exchange, ran.status));
+    let rest = take_replies(alloc, &mut replies, &mut frames, written)?;
+    replies.put(answer)?;
+    add_rest(answer, rest)
 }
 
-/// Adds the messages that were written, and what is none as bytes.
-fn add_messages(
+/// In which order the replies of a run are told that ended so.
+fn order_of(exchange: &Exchange, status: Status) -> Order {
+    if exchange.has_workers() {
+        return Order::beside_workers(status);
+    }
+    Order::AsWritten
+}
+
+/// Takes the messages that were written, and answers the bytes behind them.
+fn take_replies<'a>(
     alloc: Global,
-    answer: &mut String,
+    replies: &mut Replies,
     frames: &mut Frames,
-    written: &[u8],
-) -> Result<(), AllocError> {
+    written: &'a [u8],
+) -> Result<&'a [u8], AllocError> {
     let mut rest = written;
     for _ in 0..written.len() {
         let Some(message) = frames.next() else {
@@ -132,16 +167,10 @@ fn add_messages(
         let Some(after) = rest.strip_prefix(spelling.as_slice()) else {
             break;
         };
-        add_message(answer, &message)?;
+        replies.add(alloc, &message)?;
         rest = after;
     }
-    add_rest(answer, rest)
-}
-
-fn add_message(answer: &mut String, message: &Message) -> Result<(), AllocError> {
-    answer.push_str("< ")?;
-    show_message(answer, message)?;
-    answer.push('\n')
+    Ok(rest)
 }
 
 /// Adds bytes that are no whole message or line, where there are some.
@@ -178,7 +207,10 @@ fn add_counts(
     ran: &Ran,
 ) -> Result<(), AllocError> {
     if exchange.counts_entries {
-        push_line(alloc, answer, "entries", ran.entries as u64)?;
+        push_line(alloc, answer, "entries", ran.entries() as u64)?;
+    }
+    if exchange.tells_history {
+        add_history(alloc, answer, ran.items())?;
     }
     if exchange.counts_faults {
         push_line(alloc, answer, "pulls", ran.pulls)?;

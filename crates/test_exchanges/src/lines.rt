@@ -3,18 +3,21 @@ ghost use Rattle.std.specs.Prelude.{◌<◌, IfSome};
 
 use crate::answers::add_answers;
 use crate::bytes::add_escaped;
-use crate::exchange::Exchange;
+use crate::exchange::{Exchange, Hold};
 use crate::messages::send_message;
 use std::alloc::{AllocError, Global};
+use std::sync::Wait;
+use std::thread::Threads;
 
 /// Takes a line in: what it is answered at once.
-pub(crate) fn answer_line(
+pub(crate) fn answer_line<R: Threads + Wait + Sync>(
+    rt: &R,
     alloc: Global,
     exchange: &mut Exchange,
     line: &str,
 ) -> Result<String, AllocError> {
     if line.is_empty() {
-        return ended(alloc, exchange);
+        return ended(rt, alloc, exchange);
     }
     if line.starts_with('#') || line.starts_with('*') {
         return format!(in alloc; "{line}\n");
@@ -26,17 +29,25 @@ pub(crate) fn answer_line(
 }
 
 /// What the exchange is answered, where one is told.
-pub(crate) fn answered(alloc: Global, exchange: &Exchange) -> Result<String, AllocError> {
+pub(crate) fn answered<R: Threads + Wait + Sync>(
+    rt: &R,
+    alloc: Global,
+    exchange: &Exchange,
+) -> Result<String, AllocError> {
     let mut answer = String::new(alloc);
     if exchange.is_told {
-        add_answers(alloc, &mut answer, exchange)?;
+        add_answers(rt, alloc, &mut answer, exchange)?;
     }
     Ok(answer)
 }
 
 /// The exchange ends, and nothing is told of the next one yet.
-fn ended(alloc: Global, exchange: &mut Exchange) -> Result<String, AllocError> {
-    let answer = answered(alloc, exchange)?;
+fn ended<R: Threads + Wait + Sync>(
+    rt: &R,
+    alloc: Global,
+    exchange: &mut Exchange,
+) -> Result<String, AllocError> {
+    let answer = answered(rt, alloc, exchange)?;
     drop(std::mem::replace(exchange, Exchange::new(alloc)));
     format!(in alloc; "{answer}\n")
 }
@@ -70,8 +81,31 @@ fn take_count(exchange: &mut Exchange, name: &str, rest: &str) -> bool {
         ("push", Some(count)) => exchange.failing_push = count as u64,
         ("room", Some(count)) => exchange.room = count,
         ("limit", Some(count)) => exchange.limit = Some(count),
+        ("hold", Some(worker)) => return hold_worker(exchange, worker),
+        ("hold", None) => return take_hold(exchange, rest),
         ("entries", _) => exchange.counts_entries = true,
+        ("history", _) => exchange.tells_history = true,
         ("faults", _) => exchange.counts_faults = true,
+        _ => return false,
+    }
+    true
+}
+
+/// Takes in which worker is held: false where there can be none of that number.
+fn hold_worker(exchange: &mut Exchange, worker: usize) -> bool {
+    let Ok(worker) = u32::try_from(worker) else {
+        return false;
+    };
+    exchange.hold = Hold::AtClaim(worker);
+    true
+}
+
+/// Takes in who holds workers up: false where nobody is named.
+fn take_hold(exchange: &mut Exchange, name: &str) -> bool {
+    match name {
+        "asked" => exchange.hold = Hold::WhenAsked,
+        "push" => exchange.hold = Hold::ForPush,
+        "removed" => exchange.hold = Hold::UntilRemoved,
         _ => return false,
     }
     true

@@ -6,21 +6,25 @@
 mod answers;
 mod bytes;
 mod exchange;
+mod gates;
+mod history;
 mod lines;
 mod messages;
+mod removal;
+mod replies;
 mod runs;
+mod slow_sink;
 
 use exchange::Exchange;
 use lines::{answer_line, answered};
 use std::io;
 
 fn main(rt: HostRuntime) -> io::Result<()> {
-    let alloc = rt.alloc();
-    let mut exchange = Exchange::new(alloc);
-    for line in rt.lines(alloc) {
-        let answer = answer_line(alloc, &mut exchange, line?.as_str())?;
+    let mut exchange = Exchange::new(rt.alloc());
+    for line in rt.lines(rt.alloc()) {
+        let answer = answer_line(&rt, rt.alloc(), &mut exchange, line?.as_str())?;
         print!(rt; "{answer}")?;
     }
-    let answer = answered(alloc, &exchange)?;
+    let answer = answered(&rt, rt.alloc(), &exchange)?;
     print!(rt; "{answer}")
 }

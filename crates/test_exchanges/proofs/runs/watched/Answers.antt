@@ -4,7 +4,7 @@ use Rattle.test_exchanges.proofs.Quiet.{never_rose}
 use Rattle.test_exchanges.proofs.runs.watched.Goals as goal
 
 pub returns : goal.returns
-returns c = record {
+returns g c = record {
   whole = λ served ending short source sink pulls pushes.
       let run = c.pide-outcome in
       run.ensures.complete served c.args.source.left refl ending short
