@@ -101,6 +101,34 @@ class Dropped:
     part: str
 
 
+@dataclass(frozen=True)
+class Built:
+    """A theory of a build is checked; places count from its text's start."""
+
+    node: str
+    reports: Sequence[Report]
+
+
+@dataclass(frozen=True)
+class Total:
+    """All theories of a build are checked: how many there are, and how many errors."""
+
+    nodes: int
+    errors: int
+
+
 Reply = Union[
-    Assigned, Snapshot, Settled, Cancelled, Idle, Removed, ProtocolChosen, Refused, Claimed, Reported, Dropped
+    Assigned,
+    Snapshot,
+    Settled,
+    Cancelled,
+    Idle,
+    Removed,
+    ProtocolChosen,
+    Refused,
+    Claimed,
+    Reported,
+    Dropped,
+    Built,
+    Total,
 ]

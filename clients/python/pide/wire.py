@@ -27,6 +27,7 @@ from .messages import (
 )
 from .replies import (
     Assigned,
+    Built,
     Cancelled,
     Claimed,
     Dropped,
@@ -38,6 +39,7 @@ from .replies import (
     Reported,
     Settled,
     Snapshot,
+    Total,
 )
 from .reports import PLACE, REPORTS, plain_reports
 from .rows import ASSIGNMENT, ID, NODE, plain_assignment
@@ -155,6 +157,8 @@ _REPLIES: Dict[str, _Form] = {
     "claimed": _Form(Claimed, (_plain(_WORKER), _plain(ID), _plain(_PART))),
     "report": _Form(Reported, (_plain(ID), _plain(_PART), _MARKUP)),
     "dropped": _Form(Dropped, (_plain(ID), _plain(_PART))),
+    "built": _Form(Built, (_plain(NODE), _MARKUP)),
+    "total": _Form(Total, (_plain(INT), _plain(INT))),
 }
 
 _WORDS = {form.made: word for table in (_FUNCTIONS, _REPLIES) for word, form in table.items()}
