@@ -1,0 +1,149 @@
+-- What a rule's parts are found to assume, and what the rule then is.
+use Rattle.std.proofs.Common.{◌≡◌, ℕ, Bool, true, false, cond, IsTrue, List, ◌++◌, Result, Ok}
+use Rattle.std.proofs.Common.{Err, refl, sym, ◌∙◌, ap}
+use Rattle.nj_formula.specs.declared.formula.Formula.{Formula}
+use Rattle.nj_formula.specs.Meaning.{meaning}
+use Rattle.nj_formula.specs.Statement.{Statement}
+use Rattle.proof_terms.specs.declared.fault.TermFault.{TermFault}
+use Rattle.proof_terms.specs.declared.fault.TermFault.TheVariants.{NotFresh}
+use Rattle.proof_terms.specs.declared.term.Term.{Term}
+use Rattle.theory_ctx.specs.Locals.{Scoped}
+use Rattle.proof_checks.specs.declared.step.Part.{Part}
+use Rattle.proof_checks.specs.declared.step.Step.TheVariants.{One, Two, Three}
+use Rattle.proof_checks.specs.declared.step.Unary.{Unary}
+use Rattle.proof_checks.specs.declared.step.Binary.{Binary}
+use Rattle.proof_checks.specs.Checks.{Found, and_then, if_fresh, by_one, by_two, by_three}
+use Rattle.proof_checks.specs.Checks.{of_part, of_step}
+use Rattle.proof_checks.specs.Scopes.{inside, remaining}
+use Rattle.proof_checks.specs.Statements.{is_free_among}
+
+pub same_found : {s t : List Statement} → ◌≡◌ {A = Found} (Ok s) (Ok t) → s ≡ t
+same_found e = cc
+
+pub then_ok : {A B : Type 0} {m : Result A TermFault} {a : A} (next : A → Result B TermFault)
+    → m ≡ Ok a → and_then m next ≡ next a
+then_ok next e = ap (λ x. and_then x next) e
+
+-- what is listed one after the other, each by another name
+each_same : {a b c r s t : List Statement} → a ≡ r → b ≡ s → c ≡ t → a ++ b ++ c ≡ r ++ s ++ t
+each_same {a} {b} {c} {r} {s} {t} i j k = ap (λ x. x ++ b ++ c) i
+    ∙ (ap (λ x. r ++ x ++ c) j ∙ ap (λ x. r ++ s ++ x) k)
+
+-- what was found before what follows
+pub parted : {A B : Type 0} (m : Result A TermFault) (next : A → Result B TermFault) (b : B)
+    → and_then m next ≡ Ok b → (a : A) × (m ≡ Ok a) × (next a ≡ Ok b)
+parted (Err f) next b e = cc
+parted (Ok a) next b e = (a, refl, e)
+
+-- a condition that does not fail holds
+pub chosen : {A B : Type 0} (b : Bool) (a : A) (f : TermFault) (next : A → Result B TermFault)
+    (r : B) → and_then (cond b (Ok a) (Err f)) next ≡ Ok r → IsTrue b × (next a ≡ Ok r)
+chosen true a f next r e = (refl, e)
+chosen false a f next r e = cc
+
+pub fresh_found : (x : List ℕ) (others s t : List Statement) → if_fresh x others s ≡ Ok t
+    → (is_free_among x others ≡ false) × (s ≡ t)
+fresh_found x others s t e = by (is_free_among x others) refl
+  where
+    by : (b : Bool) → is_free_among x others ≡ b → (is_free_among x others ≡ false) × (s ≡ t)
+    by true is = let wrong : ◌≡◌ {A = Found} (Err (NotFresh x)) (Ok t) = sym
+        (ap (λ b. cond b (Err (NotFresh x)) (Ok s)) is) ∙ e in cc
+    by false is = (is, same_found (sym (ap (λ b. cond b (Err (NotFresh x)) (Ok s)) is) ∙ e))
+
+pub found_fresh : (x : List ℕ) (others s : List Statement) → is_free_among x others ≡ false
+    → if_fresh x others s ≡ Ok s
+found_fresh x others s fresh = ap (λ b. cond b (Err (NotFresh x)) (Ok s)) fresh
+
+module _ (sub : Term → Formula → Scoped → Found) (scope : Scoped) where
+  abbrev pub at : Part → Found
+  at p = sub p.term p.goal (inside p.own scope)
+
+  part_ok : (p : Part) (s : List Statement) → at p ≡ Ok s
+      → of_part sub scope p ≡ Ok (remaining p.own s)
+  part_ok p s e = then_ok (λ s. Ok (remaining p.own s)) e
+
+  -- what a part is found to assume, with its own assumption
+  part_back : (p : Part) (s : List Statement) → of_part sub scope p ≡ Ok s → (a : List Statement)
+      × (at p ≡ Ok a) × (remaining p.own a ≡ s)
+  part_back p s e = let w = parted (at p) (λ t. Ok (remaining p.own t)) s e in
+      (w.0, w.1, same_found w.2)
+
+  module _ (goal : Formula) where
+    abbrev after_one : Binary → Part → Part → List Statement → Found
+    after_one rule p q s = and_then (of_part sub scope q)
+        (by_two rule (meaning p.goal) (meaning goal) s)
+
+    abbrev third : Part → List Statement → List Statement → Found
+    third r s t = and_then (of_part sub scope r) (by_three s t)
+
+    abbrev second : Part → Part → List Statement → Found
+    second q r s = and_then (of_part sub scope q) (third r s)
+
+    pub one_ok : (rule : Unary) (p : Part) (s : List Statement) → at p ≡ Ok s
+        → of_step sub scope goal (One rule p) ≡ by_one rule (meaning goal) (remaining p.own s)
+    unfolding of_step
+    one_ok rule p s e = then_ok (by_one rule (meaning goal)) (part_ok p s e)
+
+    pub two_ok : (rule : Binary) (p q : Part) (s t : List Statement) → at p ≡ Ok s → at q ≡ Ok t
+        → of_step sub scope goal (Two rule p q) ≡ by_two rule (meaning p.goal) (meaning goal)
+        (remaining p.own s) (remaining q.own t)
+    unfolding of_step
+    two_ok rule p q s t e h =
+        then_ok (after_one rule p q) (part_ok p s e)
+        ∙ then_ok (by_two rule (meaning p.goal) (meaning goal) (remaining p.own s))
+        (part_ok q t h)
+
+    pub three_ok : (p q r : Part) (s t u : List Statement) → at p ≡ Ok s → at q ≡ Ok t
+        → at r ≡ Ok u
+        → of_step sub scope goal (Three p q r)
+        ≡ Ok (remaining p.own s ++ remaining q.own t ++ remaining r.own u)
+    unfolding of_step
+    three_ok p q r s t u e h k =
+        then_ok (second q r) (part_ok p s e)
+        ∙ (then_ok (third r (remaining p.own s)) (part_ok q t h)
+        ∙ then_ok (by_three (remaining p.own s) (remaining q.own t)) (part_ok r u k))
+
+    pub one_back : (rule : Unary) (p : Part) (s : List Statement)
+        → of_step sub scope goal (One rule p) ≡ Ok s
+        → (a : List Statement) × (at p ≡ Ok a)
+        × (by_one rule (meaning goal) (remaining p.own a) ≡ Ok s)
+    unfolding of_step
+    one_back rule p s e =
+        let w = parted (of_part sub scope p) (by_one rule (meaning goal)) s e in
+        let i = part_back p w.0 w.1 in
+        (i.0, i.1, ap (by_one rule (meaning goal)) i.2 ∙ w.2)
+
+    pub two_back : (rule : Binary) (p q : Part) (s : List Statement)
+        → of_step sub scope goal (Two rule p q) ≡ Ok s
+        → (a : List Statement) × (b : List Statement) × (at p ≡ Ok a) × (at q ≡ Ok b)
+        × (by_two rule (meaning p.goal) (meaning goal) (remaining p.own a)
+        (remaining q.own b) ≡ Ok s)
+    unfolding of_step
+    two_back rule p q s e =
+        let w = parted (of_part sub scope p) (after_one rule p q) s e in
+        let v = parted (of_part sub scope q)
+        (by_two rule (meaning p.goal) (meaning goal) w.0) s w.2 in
+        let i = part_back p w.0 w.1 in
+        let j = part_back q v.0 v.1 in (
+          i.0,
+          j.0,
+          i.1,
+          j.1,
+          ap (λ k. by_two rule (meaning p.goal) (meaning goal) k (remaining q.own j.0)) i.2
+              ∙ (ap (by_two rule (meaning p.goal) (meaning goal) w.0) j.2 ∙ v.2),
+        )
+
+    pub three_back : (p q r : Part) (s : List Statement)
+        → of_step sub scope goal (Three p q r) ≡ Ok s
+        → (a : List Statement) × (b : List Statement) × (c : List Statement) × (at p ≡ Ok a)
+        × (at q ≡ Ok b) × (at r ≡ Ok c)
+        × (remaining p.own a ++ remaining q.own b ++ remaining r.own c ≡ s)
+    unfolding of_step
+    three_back p q r s e =
+        let w = parted (of_part sub scope p) (second q r) s e in
+        let v = parted (of_part sub scope q) (third r w.0) s w.2 in
+        let u = parted (of_part sub scope r) (by_three w.0 v.0) s v.2 in
+        let i = part_back p w.0 w.1 in
+        let j = part_back q v.0 v.1 in
+        let k = part_back r u.0 u.1 in
+        (i.0, j.0, k.0, i.1, j.1, k.1, each_same i.2 j.2 k.2 ∙ same_found u.2)
