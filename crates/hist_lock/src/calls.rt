@@ -7,6 +7,7 @@ ghost use Rattle.hist_lock.specs.Calls.{May, Turned};
 ghost use Rattle.hist_lock.specs.Passes.{view, IsPassOf};
 ghost use Rattle.hist_lock.specs.Callers.{HasJoined, child, parent};
 
+use crate::news::Role;
 use crate::pass::Pass;
 use crate::rule::TICKETS;
 use crate::shared::Shared;
@@ -23,17 +24,24 @@ impl<S: State> Shared<S> {
         ensures turned { Turned S.entries S.whose S.legal (C.gives call) (view pass.old) result
             (view pass.new) }
     {
-        let Pass { place, count } = pass;
+        let Pass {
+            place,
+            count,
+            role,
+            heard,
+        } = pass;
         let mut state = self.enter(rt, place);
         let before = state.count();
         let answer = call.run(&mut state);
         let after = state.count();
+        *heard = self.listeners.of(*role).now();
         self.leave(place, state, before < after);
         *count = after;
         answer
     }
 
-    /// Waits until there are more entries than the caller has seen. It sees them then.
+    /// Waits until there are more entries than the caller has seen, and news for its role since its
+    /// last turn. It sees them then.
     pub fn wait_change<R: Wait>(&self, rt: &R, pass: &mut Pass<S>)
         requires own { IsPassOf self.now pass.old }
         requires idle { S.idle (view pass.old).seen (view pass.old).caller }
@@ -45,13 +53,18 @@ impl<S: State> Shared<S> {
             ≡ (view pass.new).mine }
         ensures rest { SeesMore (view pass.old) (view pass.new) }
     {
-        let Pass { place, count } = pass;
-        *count = self.watch(rt, place, *count);
+        let Pass {
+            place,
+            count,
+            role,
+            heard,
+        } = pass;
+        *count = self.watch(rt, place, *count, *role, *heard);
     }
 
-    /// Makes a pass for the next caller, who has then seen as much. Only the first pass, of caller
-    /// 0, is split.
-    pub fn split(&self, pass: &mut Pass<S>) -> Pass<S>
+    /// Makes a pass for the next caller, who has then seen as much and has this role. Only the first
+    /// pass, of caller 0, is split.
+    pub fn split(&self, pass: &mut Pass<S>, role: Role) -> Pass<S>
         requires own { IsPassOf self.now pass.old }
         requires first { (view pass.old).caller ≡ 0 }
         requires room { (view pass.old).made + 1 < 2 ^ 32 }
@@ -59,10 +72,12 @@ impl<S: State> Shared<S> {
         ensures parent { view pass.new ≡ parent (view pass.old) }
         ensures child { view result ≡ child (view pass.old) }
     {
-        let Pass { place, count } = pass;
+        let Pass { place, count, .. } = pass;
         Pass {
             place: self.table.shared.split_seat::<Cut>(place),
             count: *count,
+            role,
+            heard: 0,
         }
     }
 
@@ -74,10 +89,11 @@ impl<S: State> Shared<S> {
         ensures legal { S.legal (view pass.new).seen }
         ensures rest { HasJoined (view pass.old) (view other) (view pass.new) }
     {
-        let Pass { place, count } = pass;
+        let Pass { place, count, .. } = pass;
         let Pass {
             place: theirs,
             count: their_count,
+            ..
         } = other;
         self.table.shared.join_seat::<Glue>(place, theirs);
         self.table.shared.load::<Learn<S>>(place, TICKETS);

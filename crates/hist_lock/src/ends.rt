@@ -5,6 +5,8 @@ ghost use Rattle.hist_lock.specs.Known.{Fits};
 ghost use Rattle.hist_lock.specs.Passes.{view, IsPassOf};
 ghost use Rattle.hist_lock.specs.Callers.{AllJoined, HasNoOther, HasTheirs, first_view};
 
+use crate::listeners::Listeners;
+use crate::news::Role;
 use crate::pass::Pass;
 use crate::shared::Shared;
 use crate::state::State;
@@ -14,8 +16,8 @@ use std::snapshot::Snapshot;
 use std::sync::atomic::AtomicU64;
 
 impl<S: State> Shared<S> {
-    /// A lock round a state whose entries are all caller 0's, and the pass of caller 0. For want of
-    /// memory the state comes back.
+    /// A lock round a state whose entries are all caller 0's, and the pass of caller 0, the reader.
+    /// For want of memory the state comes back.
     pub fn new(alloc: Global, state: S) -> Result<(Shared<S>, Pass<S>), AllocFailed<S>>
         requires legal { S.legal (S.entries state) }
         requires first { All (λ e. S.whose e ≡ 0) (S.entries state) }
@@ -34,8 +36,18 @@ impl<S: State> Shared<S> {
         }
         match Table::new(alloc, &[0, 0, count], slots, &about) {
             Ok((table, place)) => {
-                let watchers = AtomicU64::new(0);
-                Ok((Shared { table, watchers }, Pass { place, count }))
+                let shared = Shared {
+                    table,
+                    parked: AtomicU64::new(0),
+                    listeners: Listeners::new(),
+                };
+                let pass = Pass {
+                    place,
+                    count,
+                    role: Role::Reader,
+                    heard: 0,
+                };
+                Ok((shared, pass))
             }
             Err(Refused { mut slots }) => {
                 let state = slots.pop().unwrap().unwrap();
@@ -54,8 +66,8 @@ impl<S: State> Shared<S> {
         ensures theirs { HasTheirs S.whose (view pass) (S.entries result) }
         ensures no_other { HasNoOther S.whose (view pass) (S.entries result) }
     {
-        let Shared { table, watchers: _ } = self;
-        let Pass { place, count: _ } = pass;
+        let Shared { table, .. } = self;
+        let Pass { place, .. } = pass;
         let mut closed = table.close_with(place);
         let state = closed.take(0);
         closed.free();

@@ -9,6 +9,9 @@
 
 mod calls;
 mod ends;
+mod event_count;
+mod listeners;
+mod news;
 mod pass;
 mod queue;
 mod rule;
@@ -17,6 +20,7 @@ mod state;
 mod steps;
 mod view;
 
+pub use news::{News, Role};
 pub use pass::Pass;
 pub use shared::Shared;
 pub use state::{State, Turn};

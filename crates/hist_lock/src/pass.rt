@@ -2,6 +2,7 @@
 ghost use Rattle.std.specs.Prelude.{◌≡◌, [], length};
 ghost use Rattle.hist_lock.specs.declared.view.Stage.TheVariants.{Idle};
 
+use crate::news::Role;
 use crate::rule::Place;
 use crate::state::State;
 
@@ -11,6 +12,9 @@ use crate::state::State;
 pub struct Pass<S: State> {
     pub(crate) place: Place<S>,
     pub(crate) count: u64,
+    pub(crate) role: Role,
+    /// The count of news for its role, as it was at its last turn or earlier.
+    pub(crate) heard: u64,
     ghost ready: { (place.me.0.stage ≡ Idle) × (place.me.1 ≡ []) },
     ghost counted: { count ≡ length place.me.0.view.seen },
 }

@@ -9,11 +9,15 @@ ghost use Rattle.hist_lock.specs.Steps.{Carries, CarriesMore, CarriesSeen, HasSe
 ghost use Rattle.hist_lock.specs.Steps.{SeesEntry, SeesList, TakesTicket, TakesTurn, seeing, staged};
 ghost use Rattle.hist_lock.specs.declared.view.Stage.TheVariants.{Idle};
 
+use crate::event_count::LOOKS;
+use crate::news::{News, Role};
 use crate::rule::{ENTRIES, Place, SERVED, TICKETS};
 use crate::shared::Shared;
 use crate::state::State;
 use crate::steps::{Append, Draw, Look, PassOn, Watch};
+use std::hint::spin_loop;
 use std::sync::Wait;
+use std::sync::atomic::Ordering;
 
 /// The low half of a word, on which threads park.
 pub(crate) fn low_half(word: u64) -> u32
@@ -32,18 +36,37 @@ impl<S: State> Shared<S> {
         self.table.shared.fetch_add::<Draw>(place, TICKETS, 1)
     }
 
+    // Looks for a while whether this ticket is served.
+    fn look_for_turn(&self, ticket: u64) {
+        for _ in 0..LOOKS {
+            if self.table.shared.peek(SERVED) == ticket {
+                return;
+            }
+            spin_loop();
+        }
+    }
+
+    // Parks while this ticket is served. To park is to look once more, after `parked` was raised:
+    // whoever passes the turn on after that look finds `parked` raised.
+    fn park_for_turn<R: Wait>(&self, rt: &R, served: u64) {
+        self.parked.fetch_add(1, Ordering::SeqCst);
+        self.table.shared.park(rt, SERVED, low_half(served));
+        self.parked.fetch_sub(1, Ordering::SeqCst);
+    }
+
     fn wait_turn<R: Wait>(&self, rt: &R, place: &mut Place<S>, ticket: u64)
         requires own { IsSeatOf self.now place.old }
         requires waits { HasTicket place.old.me ticket }
         ensures own { IsSameSeat place.old place.new }
         ensures turn { TakesTurn S.entries S.whose S.legal place.old.me place.new.me }
     {
+        self.look_for_turn(ticket);
         for _ in rt.forever() {
             let served = self.table.shared.load::<Look<S>>(place, SERVED);
             if served == ticket {
                 return;
             }
-            self.table.shared.park(rt, SERVED, low_half(served));
+            self.park_for_turn(rt, served);
         }
         unreachable!()
     }
@@ -69,16 +92,9 @@ impl<S: State> Shared<S> {
         let None = left else { unreachable!() };
     }
 
-    // Wakes those who wait for a change. Whoever begins to wait after this look looks at the count
-    // of entries after that, and so sees the entry that was appended before.
-    fn wake_watchers(&self) {
-        if self.is_watched() {
-            self.table.shared.wake_all(ENTRIES);
-        }
-    }
-
-    // The entry that the call made is appended, and those who wait for a change are woken.
-    fn append(&self, place: &mut Place<S>)
+    // The entry that the call made is appended, and those are told for whom it is news. Whoever has
+    // heard the news looks at the count of entries after that, and so sees the entry.
+    fn append(&self, place: &mut Place<S>, news: News)
         requires own { IsSeatOf self.now place.old }
         requires turn { HasTurn place.old.me }
         requires adds { CarriesMore S.entries S.whose S.legal place.old.me }
@@ -86,14 +102,12 @@ impl<S: State> Shared<S> {
         ensures appended { SeesEntry S.entries S.whose S.legal place.old.me place.new.me }
     {
         self.table.shared.fetch_add::<Append<S>>(place, ENTRIES, 1);
-        self.wake_watchers();
+        self.listeners.tell(news);
     }
 
-    // Wakes those who wait for their turn, if a ticket was drawn behind the one that was served.
-    // Whoever draws one after this look looks whose turn it is after that, and so sees that it is
-    // its own.
-    fn wake_next(&self, served: u64) {
-        if self.table.shared.peek(TICKETS) != served.wrapping_add(1) {
+    // Wakes those who park until their turn.
+    fn wake_next(&self) {
+        if self.parked.load(Ordering::SeqCst) != 0 {
             self.table.shared.wake_all(SERVED);
         }
     }
@@ -105,8 +119,8 @@ impl<S: State> Shared<S> {
         ensures own { IsSameSeat place.old place.new }
         ensures passed { place.new.me ≡ (staged place.old.me.0 Idle, []) }
     {
-        let served = self.table.shared.fetch_add::<PassOn>(place, SERVED, 1);
-        self.wake_next(served);
+        self.table.shared.fetch_add::<PassOn>(place, SERVED, 1);
+        self.wake_next();
     }
 
     /// Waits for the turn, and takes the state.
@@ -136,9 +150,10 @@ impl<S: State> Shared<S> {
             ≡ (staged (seeing S.entries S.whose S.legal place.old.me.0 state) Idle, []) }
         ensures kept { IsFalse adds → place.new.me ≡ (staged place.old.me.0 Idle, []) }
     {
+        let news = state.news();
         self.put(place, state);
         if adds {
-            self.append(place);
+            self.append(place, news);
         }
         self.pass_on(place);
     }
@@ -158,8 +173,19 @@ impl<S: State> Shared<S> {
         self.table.shared.load::<Watch<S>>(place, ENTRIES)
     }
 
-    /// Waits until the history has more entries than these, and says how many.
-    pub(crate) fn watch<R: Wait>(&self, rt: &R, place: &mut Place<S>, count: u64) -> u64
+    /// Waits until the history has more entries than these, and more news for the role than was
+    /// heard, and says how many entries.
+    ///
+    /// The count of news is heard before the history is seen, and told after an entry is appended:
+    /// so an entry that isn't seen here is one whose news is still to come.
+    pub(crate) fn watch<R: Wait>(
+        &self,
+        rt: &R,
+        place: &mut Place<S>,
+        count: u64,
+        role: Role,
+        heard: u64,
+    ) -> u64
         requires own { IsSeatOf self.now place.old }
         requires idle { place.old.me.0.stage ≡ Idle }
         requires count { count ≡ length place.old.me.0.view.seen }
@@ -172,14 +198,13 @@ impl<S: State> Shared<S> {
             ≡ place.old.me.0.view.mine }
         ensures rest { HasSeen place.old.me place.new.me }
     {
-        self.begin_watch();
+        let mut heard = heard;
         'watching: for _ in rt.forever() {
+            heard = self.listeners.of(role).wait(rt, heard);
             let found = self.see(place);
             if found != count {
-                self.end_watch();
                 return found;
             }
-            self.table.shared.park(rt, ENTRIES, low_half(found));
         }
         unreachable!()
     }

@@ -2,6 +2,8 @@
 ghost use Rattle.std.specs.Prelude.{◌≡◌, ℕ, List, length};
 ghost use Rattle.hist_lock.specs.Entries.{Grows};
 
+use crate::news::News;
+
 /// A state that stands for a list of entries.
 pub trait State {
     /// What the list is made of.
@@ -22,6 +24,10 @@ pub trait State {
     /// How many entries the list has.
     fn count(&self) -> u64
         ensures { result ≡ length (entries self.now) };
+
+    /// For whom the newest entry is news. A caller that waits for a change may be left waiting by an
+    /// entry that isn't news for it.
+    fn news(&self) -> News;
 }
 
 /// A call on a state. It adds one entry at most; one that only looks adds none.

@@ -8,7 +8,7 @@ ghost use Rattle.hist_lock.specs.Callers.{HasJoinedUpTo, KeepsJoined, first_view
 mod book;
 
 use book::{Book, IsAlone, Note, Read, Write};
-use hist_lock::{Pass, Shared};
+use hist_lock::{Pass, Role, Shared};
 use std::alloc::{AllocError, Global};
 use std::process::Abort;
 use std::sync::Wait;
@@ -126,7 +126,7 @@ fn crew<R: Threads + Wait + Sync>(
         return work(rt, lock, first, 0, times);
     }
     let by = made + 1;
-    let next = lock.split(&mut first);
+    let next = lock.split(&mut first, Role::Worker);
     let (mut first, next) = join(
         rt,
         move || -> Pass<Book>
@@ -295,7 +295,7 @@ const ANSWERED: &[Note] = &[
 #[test]
 fn a_wait_ends_with_another_threads_note(rt: HostRuntime) -> Result<(), Fail> {
     let (lock, mut first) = new_book(rt.alloc())?;
-    let next = lock.split(&mut first);
+    let next = lock.split(&mut first, Role::Worker);
     let shared = &lock;
     let (mut first, next) = join(
         &rt,

@@ -12,7 +12,7 @@ mod writing;
 
 use board::{Board, Count, End, Tally, Task};
 use hands::Hands;
-use hist_lock::{Pass, Shared};
+use hist_lock::{Pass, Role, Shared};
 use pide_base::{ExecId, Flag, Gate, Part, PartKind, Point};
 use pide_io::{HoldGate, LetGo, NoGate};
 use std::alloc::{AllocError, AllocFailed, Global};
@@ -140,7 +140,7 @@ fn add_pass(
     ensures workers { IfOk result (λ _. AreWorkers (λ m. m.what) lock.now 1 passes.new.items) }
     ensures count { IfOk result (λ _. vec_len passes.new ≡ vec_len passes.old + 1) }
 {
-    passes.push(lock.split(first))?;
+    passes.push(lock.split(first, Role::Worker))?;
     Ok(())
 }
 

@@ -6,7 +6,7 @@ ghost use Rattle.worker_loop.specs.Crew.{AreWorkers};
 
 use crate::crew::put;
 use crate::jobs::Work;
-use hist_lock::{Pass, Shared, State};
+use hist_lock::{Pass, Role, Shared, State};
 
 /// Splits the pass of the next worker. There is room for it.
 fn split_next<S: State, W: Work<S>>(
@@ -26,7 +26,7 @@ fn split_next<S: State, W: Work<S>>(
     ensures room { vec_capacity passes.old ≤ vec_capacity passes.new }
     ensures workers { AreWorkers W.says lock.now 1 passes.new.items }
 {
-    put(passes, lock.split(first));
+    put(passes, lock.split(first, Role::Worker));
 }
 
 /// Splits the passes of the workers 1 to `count` from the first caller's, from which none was split

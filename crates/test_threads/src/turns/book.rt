@@ -3,7 +3,7 @@
 ghost use Rattle.std.specs.Prelude.{◌≡◌, ◌<◌, ℕ, ◌++◌, [], ◌∷◌, length, slice_get, Some, MatchOption, IfSome, IsTrue, ◌↔◌};
 ghost use Rattle.std.specs.List.{All};
 
-use hist_lock::{State, Turn};
+use hist_lock::{News, State, Turn};
 use std::alloc::{AllocError, Global};
 
 #[derive(Clone, Copy, PartialEq, Eq)]
@@ -31,6 +31,10 @@ impl State for Book {
 
     fn count(&self) -> u64 {
         self.notes.len() as u64
+    }
+
+    fn news(&self) -> News {
+        News::for_all()
     }
 }
 

@@ -4,7 +4,7 @@ ghost use Rattle.std.specs.Prelude.{◌≡◌, ◌++◌, ◌∷◌, [], Some, No
 ghost use Rattle.std.specs.List.{Contains};
 ghost use Rattle.worker_loop.specs.declared.said.Said.TheVariants as said;
 
-use hist_lock::{State, Turn};
+use hist_lock::{News, State, Turn};
 use pide_base::{Flag, Part};
 use std::alloc::AllocFailed;
 use worker_loop::Said;
@@ -45,6 +45,10 @@ impl State for Board {
 
     fn count(&self) -> u64 {
         self.marks.len() as u64
+    }
+
+    fn news(&self) -> News {
+        News::for_all()
     }
 }
 

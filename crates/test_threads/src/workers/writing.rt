@@ -7,7 +7,7 @@ use super::board::{Board, Mark};
 use super::hands::{Hands, add};
 use super::pen::Pen;
 use super::{opened, part};
-use hist_lock::{Pass, Shared};
+use hist_lock::{Pass, Role, Shared};
 use pide_io::{MemSink, NoGate};
 use std::alloc::{AllocError, Global};
 use std::process::Abort;
@@ -40,7 +40,7 @@ fn told_board<R: Wait>(
     ensures { IfOk result (λ r. IsPassOf r.0 r.1 × (view r.1 ≡ child (first_view []))) }
 {
     let (lock, mut first) = opened(alloc, 0, 0)?;
-    let other = lock.split(&mut first);
+    let other = lock.split(&mut first, Role::Writer);
     'telling: for number in 1..=tasks {
         if let Some(part) = part(number) {
             told(rt, &lock, &mut first, Said::Finished(part));

@@ -1,0 +1,69 @@
+//! A count for which callers wait: they look at it for a while, and then park. No contract speaks
+//! of it.
+use crate::queue::low_half;
+use std::hint::spin_loop;
+use std::sync::Wait;
+use std::sync::atomic::{AtomicU64, Ordering};
+
+/// So many looks are taken before a caller parks: they take about as long as to be woken does.
+pub(crate) const LOOKS: u32 = 1000;
+
+/// How often there was news, and how many callers park until there is more.
+#[derive(Drop)]
+pub(crate) struct EventCount {
+    count: AtomicU64,
+    /// Those who are about to park are counted too.
+    parked: AtomicU64,
+}
+
+impl EventCount {
+    pub(crate) fn new() -> EventCount {
+        EventCount {
+            count: AtomicU64::new(0),
+            parked: AtomicU64::new(0),
+        }
+    }
+
+    /// How often there was news.
+    pub(crate) fn now(&self) -> u64 {
+        self.count.load(Ordering::SeqCst)
+    }
+
+    /// Whether the count soon is another than the one that was heard.
+    fn changes_soon(&self, heard: u64) -> bool {
+        for _ in 0..LOOKS {
+            if self.now() != heard {
+                return true;
+            }
+            spin_loop();
+        }
+        false
+    }
+
+    /// Waits until the count is another than the one that was heard, and tells it. It may also
+    /// return for no reason.
+    ///
+    /// To park is to look once more, after `parked` was raised. Whoever counts news after that look
+    /// finds `parked` raised, and wakes; news that was counted before is seen by the look.
+    pub(crate) fn wait<R: Wait>(&self, rt: &R, heard: u64) -> u64 {
+        if !self.changes_soon(heard) {
+            self.parked.fetch_add(1, Ordering::SeqCst);
+            self.count.park(rt, low_half(heard));
+            self.parked.fetch_sub(1, Ordering::SeqCst);
+        }
+        self.now()
+    }
+
+    /// Counts news, and wakes so many of those who park, or all where they are no more.
+    pub(crate) fn tell(&self, most: u32) {
+        self.count.fetch_add(1, Ordering::SeqCst);
+        let parked = self.parked.load(Ordering::SeqCst);
+        if parked > most as u64 {
+            for _ in 0..most {
+                self.count.wake_one();
+            }
+        } else if parked != 0 {
+            self.count.wake_all();
+        }
+    }
+}

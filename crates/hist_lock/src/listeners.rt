@@ -1,0 +1,48 @@
+//! Those who wait for a change, by what they do.
+use crate::event_count::EventCount;
+use crate::news::{News, Role};
+
+/// A count of news for callers of each role.
+#[derive(Drop)]
+pub(crate) struct Listeners {
+    reader: EventCount,
+    writer: EventCount,
+    workers: EventCount,
+}
+
+impl Listeners {
+    pub(crate) fn new() -> Listeners {
+        Listeners {
+            reader: EventCount::new(),
+            writer: EventCount::new(),
+            workers: EventCount::new(),
+        }
+    }
+
+    /// The count for callers of this role.
+    pub(crate) fn of(&self, role: Role) -> &EventCount {
+        match role {
+            Role::Reader => &self.reader,
+            Role::Writer => &self.writer,
+            Role::Worker => &self.workers,
+        }
+    }
+
+    /// Tells those for whom it is news.
+    pub(crate) fn tell(&self, news: News) {
+        let News {
+            reader,
+            writer,
+            workers,
+        } = news;
+        if reader {
+            self.reader.tell(u32::MAX);
+        }
+        if writer {
+            self.writer.tell(u32::MAX);
+        }
+        if workers != 0 {
+            self.workers.tell(workers);
+        }
+    }
+}
