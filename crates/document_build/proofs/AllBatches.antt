@@ -1,25 +1,25 @@
 -- Batch after batch, until all nodes are done.
-use Rattle.std.proofs.Common.{◌≡◌, ℕ, suc, ◌+◌, ◌<◌, ◌≤◌, true, List, [], ◌∷◌, ◌++◌, length, get_or, take, drop, All, Option, Some, None, IsPermutation, ap₂, append-nil, refl, sym, ap, subst, ◌∙◌, arith}
-use Rattle.std.specs.Prelude.{◌↔◌, slice_get}
+use Rattle.std.proofs.Common.{◌≡◌, ℕ, suc, ◌+◌, ◌<◌, ◌≤◌, true, List, [], ◌∷◌, ◌++◌, length, map, find, get_or, take, drop, All, Option, Some, None, IsPermutation, ap₂, append-nil, refl, sym, ap, subst, ◌∙◌, arith}
+use Rattle.std.specs.Prelude.{◌↔◌, ◌==◌, option_and_then, slice_get}
 use Rattle.std.specs.Option.{option_map, option_map_or}
 use Rattle.std.specs.List.{concat, cons_option, filter_map}
 use Rattle.std.proofs.Math.Seq.{drop-cons}
 use Rattle.std.proofs.lemmas.List.{drop_all, take_all, take_more, take-append-drop}
 use Rattle.std.proofs.lemmas.List.Folds.{concat-append}
-use Rattle.report_markup.specs.declared.report.Report.{Report}
-use Rattle.report_markup.specs.Sorting.{in_order}
 use Rattle.import_rounds.specs.Rounds.{has}
-use Rattle.import_rounds.proofs.KnownHas.{has_at, has_left, has_right}
+use Rattle.import_rounds.proofs.KnownHas.{has_at, has_itself, has_left, has_right, has_tail}
 use Rattle.doc_nodes.specs.declared.node.Node.{Node}
 use Rattle.doc_nodes.specs.Imports.{NodeList, order}
 use Rattle.language.specs.Lang.{Lang}
-use Rattle.core_rules.specs.Scratch.{Runs, scratch}
+use Rattle.core_rules.specs.Scratch.{Run, Runs, scratch}
+use Rattle.batch_check.specs.declared.telling.BuiltNode.{BuiltNode}
+use Rattle.report_markup.specs.Sorting.{in_order}
 use Rattle.node_check.specs.Nodes.{reports_of}
 use Rattle.batch_runs.specs.Running.{run_batch, run_batches}
-use Rattle.document_build.specs.declared.gathering.BuiltNode.{BuiltNode}
 use Rattle.document_build.specs.declared.progress.Progress.{Progress}
-use Rattle.document_build.specs.Built.{built_at, built_of, built_reports}
-use Rattle.document_build.specs.Standing.{Keeps, gathered_at, settings_at}
+use Rattle.document_build.specs.Built.{built_at, built_of}
+use Rattle.document_build.specs.Standing.{Keeps, built_there}
+use Rattle.document_build.proofs.AllDone.{all_done}
 
 -- the next batch stands before those that are left
 next : (batches : List (List ℕ)) (i : ℕ) → i < length batches → drop i batches ≡ get_or batches i [] ∷ drop (i + 1) batches
@@ -45,15 +45,15 @@ within_batch n all batches i join every lt k d few =
     ∙ has_right (concat (take i batches)) (batch ++ concat (drop (i + 1) batches)) p
     (has_left batch (concat (drop (i + 1) batches)) p (has_at batch k d few)))
 
-module _ {S : Type 0} (l : Lang S) (nodes : NodeList) (batches : List (List ℕ)) where
+module _ {S M : Type 0} (l : Lang S) (told : BuiltNode → M) (nodes : NodeList) (batches : List (List ℕ)) where
   -- so many batches are done
-  abbrev pub AreDone : ℕ → Progress S → List ℕ → Type 0
-  AreDone i kept taken = (runs : Runs S) × Keeps l nodes runs kept
+  abbrev pub AreDone : ℕ → Progress M S → List ℕ → Type 0
+  AreDone i kept taken = (runs : Runs S) × Keeps l told nodes runs kept
       × (run_batches l nodes [] (drop i batches) runs ≡ run_batches l nodes [] batches [])
       × IsPermutation (concat (take i batches)) taken
 
-  pub one_batch : (i : ℕ) (batch : List ℕ) (kept kept' : Progress S) (taken taken' : List ℕ) → i < length batches → batch ≡ get_or batches i []
-      → ((runs : Runs S) → Keeps l nodes runs kept → Keeps l nodes (run_batch l nodes [] runs batch runs) kept')
+  pub one_batch : (i : ℕ) (batch : List ℕ) (kept kept' : Progress M S) (taken taken' : List ℕ) → i < length batches → batch ≡ get_or batches i []
+      → ((runs : Runs S) → Keeps l told nodes runs kept → Keeps l told nodes (run_batch l nodes [] runs batch runs) kept')
       → ((done : List ℕ) → IsPermutation done taken → IsPermutation (done ++ batch) taken')
       → AreDone i kept taken → AreDone (i + 1) kept' taken'
   one_batch i batch kept kept' taken taken' lt is keeps once (runs, now, same, before) = (
@@ -65,30 +65,40 @@ module _ {S : Type 0} (l : Lang S) (nodes : NodeList) (batches : List (List ℕ)
   )
 
   -- when all are, what is kept is that of the document checked from nothing
-  pub all_kept : (i : ℕ) (kept : Progress S) (taken : List ℕ) → length batches ≤ i → run_batches l nodes [] batches [] ≡ scratch l nodes []
-      → AreDone i kept taken → Keeps l nodes (scratch l nodes []) kept
+  pub all_kept : (i : ℕ) (kept : Progress M S) (taken : List ℕ) → length batches ≤ i → run_batches l nodes [] batches [] ≡ scratch l nodes []
+      → AreDone i kept taken → Keeps l told nodes (scratch l nodes []) kept
   all_kept i kept taken past is (runs, now, same, once) =
-      subst (λ rs. Keeps l nodes rs kept) (ap (λ bs. run_batches l nodes [] bs runs) (sym (drop_all i batches past)) ∙ same ∙ is) now
+      subst (λ rs. Keeps l told nodes rs kept) (ap (λ bs. run_batches l nodes [] bs runs) (sym (drop_all i batches past)) ∙ same ∙ is) now
 
-  pub all_taken : (i : ℕ) (kept : Progress S) (taken : List ℕ) → length batches ≤ i → concat batches ≡ order nodes
+  pub all_taken : (i : ℕ) (kept : Progress M S) (taken : List ℕ) → length batches ≤ i → concat batches ≡ order nodes
       → AreDone i kept taken → IsPermutation (order nodes) taken
   all_taken i kept taken past join (runs, now, same, once) =
       subst (λ xs. IsPermutation xs taken) (ap concat (take_all i batches past) ∙ join) once
 
-  -- and so are the nodes that are gathered of it
-  pub are_built : (kept : Progress S) → Keeps l nodes (scratch l nodes []) kept → filter_map (gathered_at nodes kept.reports.items) (order nodes) ≡ built_of l nodes
-  are_built kept keeps = each (order nodes)
+  -- and so is what is gathered of it
+  pub are_built : (kept : Progress M S) → Keeps l told nodes (scratch l nodes []) kept → ((p : ℕ) → has (order nodes) p ≡ true → p < length nodes)
+      → filter_map (λ p. get_or kept.told.items p None) (order nodes) ≡ map told (built_of l nodes)
+  are_built kept keeps within = each (order nodes) (λ p here. here)
     where
-      at : (p : ℕ) → gathered_at nodes kept.reports.items p ≡ built_at l nodes p
-      at p = go (slice_get nodes p) refl
-        where
-          go : (o : Option (List ℕ × Node)) → slice_get nodes p ≡ o
-              → option_map {U = BuiltNode} (λ pair. record { node = pair.0; reports = get_or kept.reports.items p [] }) o
-              ≡ option_map {U = BuiltNode} (λ pair. record { node = pair.0; reports = built_reports l nodes p pair.1 }) o
-          go None e = refl
-          go (Some pair) e = ap (λ (rs : List Report). Some (record { node = pair.0; reports = rs }))
-              (keeps.reports p ∙ ap (λ es. in_order (reports_of l (option_map_or (λ (pair : List ℕ × Node). pair.1.entries) es []) (settings_at (scratch l nodes []) p))) e)
+      reported : ℕ → Option (ℕ × Run S) → Option BuiltNode
+      reported p o = option_map (λ pair. record {
+        node = pair.0;
+        reports = in_order (reports_of l pair.1.entries (option_map_or (λ one. one.1.commands) o []));
+      }) (slice_get nodes p)
 
-      each : (ps : List ℕ) → filter_map (gathered_at nodes kept.reports.items) ps ≡ filter_map (built_at l nodes) ps
-      each [] = refl
-      each (p ∷ ps) = ap₂ cons_option (at p) (each ps)
+      told_all : (o : Option BuiltNode) (all : List BuiltNode) → cons_option (option_map told o) (map told all) ≡ map told (cons_option o all)
+      told_all None all = refl
+      told_all (Some built) all = refl
+
+      at : (p : ℕ) → has (order nodes) p ≡ true → get_or kept.told.items p None ≡ option_map told (built_at l nodes p)
+      at p here =
+          let done = all_done l nodes (order nodes) p [] here (within p here) in
+          keeps.told_is p ∙ ap (λ o. option_map told (option_and_then (built_there l nodes) o)) done.1
+          ∙ ap (λ o. option_map told (reported p o)) (sym done.1)
+
+      each : (ps : List ℕ) → ((p : ℕ) → has ps p ≡ true → has (order nodes) p ≡ true)
+          → filter_map (λ p. get_or kept.told.items p None) ps ≡ map told (filter_map (built_at l nodes) ps)
+      each [] all = refl
+      each (p ∷ ps) all =
+          ap₂ cons_option (at p (all p (has_itself ps p))) (each ps (λ q h. all q (has_tail p q ps h)))
+          ∙ told_all (built_at l nodes p) (filter_map (built_at l nodes) ps)

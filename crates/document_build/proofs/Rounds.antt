@@ -6,7 +6,8 @@ use Rattle.std.proofs.lemmas.List.FromFn.{fill_by_all, get_or-range_with_len, le
 use Rattle.std.proofs.lemmas.List.Sorted.{All-permutation, IsPermutation-append, IsPermutation-map}
 use Rattle.doc_nodes.specs.Imports.{NodeList}
 use Rattle.language.specs.Lang.{Lang}
-use Rattle.node_check.specs.declared.commands.NodeRun.{NodeRun}
+use Rattle.batch_check.specs.declared.telling.BuiltNode.{BuiltNode}
+use Rattle.batch_check.specs.declared.telling.Checked.{Checked}
 use Rattle.batch_check.specs.Tasks.{MakesSo}
 use Rattle.task_round.specs.Rounds.{AreMade}
 use Rattle.document_build.specs.Standing.{MakeSo}
@@ -31,13 +32,13 @@ places_taken places numbers done taken once before =
     IsPermutation-append done taken places (map (slice_index places) numbers) before
     (subst (λ xs. IsPermutation xs (map (slice_index places) numbers)) (sym all) moved)
 
-module _ {S : Type 0} (l : Lang S) (nodes : NodeList) (behind : List (Option S)) (places : List ℕ) where
-  abbrev Makes : ℕ → NodeRun S → Type 0
-  Makes task made = MakesSo l nodes behind (slice_index places task) made
+module _ {S M : Type 0} (l : Lang S) (told : BuiltNode → M) (nodes : NodeList) (behind : List (Option S)) (places : List ℕ) where
+  abbrev Makes : ℕ → Checked M S → Type 0
+  Makes task made = MakesSo l told nodes behind (slice_index places task) made
 
   -- from a place on
-  made_from : (front rest : List ℕ) (made : List (NodeRun S)) → places ≡ front ++ rest → length made ≡ length rest
-      → AreMade Makes (length front) made → MakeSo l nodes behind rest made
+  made_from : (front rest : List ℕ) (made : List (Checked M S)) → places ≡ front ++ rest → length made ≡ length rest
+      → AreMade Makes (length front) made → MakeSo l told nodes behind rest made
   made_from front [] [] parts long are = refl
   made_from front [] (m ∷ made) parts long are = absurd (omega arith)
   made_from front (p ∷ rest) [] parts long are = absurd (omega arith)
@@ -45,10 +46,10 @@ module _ {S : Type 0} (l : Lang S) (nodes : NodeList) (behind : List (Option S))
       let here : slice_index places (length front) ≡ p =
       ap (λ xs. get_or xs (length front) 0) parts ∙ ap (λ n. get_or (front ++ p ∷ rest) n 0) (omega arith) ∙ get_or-append-add front (p ∷ rest) 0 0 in
       let next : length front + 1 ≡ length (front ++ p ∷ []) = sym (length-append front (p ∷ [])) in (
-        subst (λ q. MakesSo l nodes behind q m) here are.0,
+        subst (λ q. MakesSo l told nodes behind q m) here are.0,
         made_from (front ++ p ∷ []) rest made (parts ∙ sym (append_assoc front (p ∷ []) rest)) (omega arith)
             (subst (λ n. AreMade Makes n made) next are.1),
       )
 
-  pub make_so : (made : List (NodeRun S)) → length made ≡ length places → AreMade Makes 0 made → MakeSo l nodes behind places made
+  pub make_so : (made : List (Checked M S)) → length made ≡ length places → AreMade Makes 0 made → MakeSo l told nodes behind places made
   make_so made long are = made_from [] places made refl long are

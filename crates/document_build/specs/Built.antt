@@ -9,7 +9,7 @@ use Rattle.doc_nodes.specs.Imports.{NodeList, order}
 use Rattle.language.specs.Lang.{Lang}
 use Rattle.core_rules.specs.Scratch.{scratch_at}
 use Rattle.node_check.specs.Nodes.{reports_of}
-use Rattle.document_build.specs.declared.gathering.BuiltNode.{BuiltNode}
+use Rattle.batch_check.specs.declared.telling.BuiltNode.{BuiltNode}
 
 module _ {S : Type 0} (l : Lang S) (nodes : NodeList) where
   -- what the commands of the node at a place report, in report order, when the document is checked

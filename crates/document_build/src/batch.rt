@@ -2,12 +2,13 @@
 ghost use Rattle.std.specs.Prelude.{◌≡◌, ◌<◌, ℕ, [], ◌++◌, List, length, map, slice_index, vec_len, OnOk, IsPermutation};
 ghost use Rattle.std.specs.List.{All};
 ghost use Rattle.core_rules.specs.Scratch.{Runs};
+ghost use Rattle.batch_check.specs.Cutting.{cut_all};
 ghost use Rattle.batch_check.specs.Tasks.{IsReady};
 ghost use Rattle.batch_runs.specs.Running.{run_batch};
 ghost use Rattle.document_build.specs.Standing.{Keeps};
 
 use crate::progress::Progress;
-use batch_check::{Batch, check_batch};
+use batch_check::{Batch, Telling, check_batch};
 use doc_nodes::{ImportGraph, NodeAliases, Nodes};
 use language::Language;
 use node_starts::Before;
@@ -17,10 +18,11 @@ use std::sync::Wait;
 use std::thread::Threads;
 use task_round::Round;
 
-/// What is checked, and by how many.
+/// What is checked, what is told of it, and by how many.
 #[derive(Drop)]
-pub(crate) struct Work<'a, L: Language, G> {
+pub(crate) struct Work<'a, L: Language, G, T> {
     pub language: &'a L,
+    pub telling: &'a T,
     pub nodes: &'a Nodes,
     pub graph: &'a ImportGraph,
     pub aliases: &'a [NodeAliases],
@@ -40,9 +42,10 @@ fn add_places(all: &mut Vec<usize>, places: &[usize], numbers: &[usize]) -> Resu
     Ok(())
 }
 
-impl<'a, L: Language + Sync, G: Gate + Sync> Work<'a, L, G>
+impl<'a, L: Language + Sync, G: Gate + Sync, T: Telling + Sync> Work<'a, L, G, T>
 where
     L::State: Send + Sync,
+    T::Told: Send,
 {
     /// Checks the nodes at these places, when those of the batches before were checked: what came
     /// of them is kept, and their places are added to `taken` in the order of gathering.
@@ -51,16 +54,18 @@ where
         rt: &R,
         alloc: Global,
         places: &[usize],
-        kept: &mut Progress<L::State>,
+        kept: &mut Progress<T::Told, L::State>,
         taken: &mut Vec<usize>,
     ) -> Result<(), AllocError>
         requires ready { IsReady self.now.nodes.now self.now.graph.now self.now.aliases.now
             places.now }
         requires states { length kept.old.behind.items ≡ length self.now.nodes.now }
-        requires told { length kept.old.reports.items ≡ length self.now.nodes.now }
-        ensures kept { (before : Runs L.State) → Keeps L.lang self.now.nodes.now before kept.old
-            → OnOk result (Keeps L.lang self.now.nodes.now
-            (run_batch L.lang self.now.nodes.now [] before places.now before) kept.new) }
+        requires told { length kept.old.told.items ≡ length self.now.nodes.now }
+        ensures kept { (before : Runs L.State)
+            → Keeps L.lang T.told (cut_all self.now.nodes.now) before kept.old
+            → OnOk result (Keeps L.lang T.told (cut_all self.now.nodes.now)
+            (run_batch L.lang (cut_all self.now.nodes.now) [] before places.now before)
+            kept.new) }
         ensures taken { (done : List ℕ) → IsPermutation done taken.old.items
             → OnOk result (IsPermutation (done ++ places.now) taken.new.items) }
     {
@@ -74,6 +79,7 @@ where
             language: self.language,
             before: &before,
             places,
+            telling: self.telling,
             gate: self.gate,
         };
         let round = check_batch(rt, alloc, &batch, self.workers)?;

@@ -1,12 +1,13 @@
 //! A build.
-ghost use Rattle.std.specs.Prelude.{◌≡◌, IfOk, IsPermutation};
+ghost use Rattle.std.specs.Prelude.{◌≡◌, map, IfOk, IsPermutation};
 ghost use Rattle.doc_nodes.specs.Imports.{order};
-ghost use Rattle.batch_check.specs.Tasks.{LieWithin};
+ghost use Rattle.batch_check.specs.Cutting.{AreUncut, cut_all};
 ghost use Rattle.document_build.specs.Built.{built_of};
 
 use crate::batch::Work;
-use crate::gathering::{BuiltNode, gathered};
+use crate::gathering::gathered;
 use crate::progress::Progress;
+use batch_check::Telling;
 use batch_runs::scratch_law;
 use doc_nodes::{ImportGraph, Nodes, aliases_of, order_law};
 use import_batches::{batches_law, batches_of};
@@ -18,29 +19,32 @@ use std::thread::Threads;
 
 /// What came of a build.
 #[derive(Drop)]
-pub struct Built {
-    /// All nodes, in the order of imports.
-    pub nodes: Vec<BuiltNode>,
+pub struct Built<M> {
+    /// What is told of all nodes, in the order of imports.
+    pub nodes: Vec<M>,
     /// Their places by name, from 0 on, in the order in which what came of them was gathered.
     pub taken: Vec<usize>,
 }
 
-/// Checks all nodes, each once, in this thread, which is worker 0, and in at most so many others: a
-/// batch begins when all nodes of those before it are checked. Each worker comes to the points of
-/// the gate, where a node is the evaluation with the number after its place. Where one meets want of
-/// memory, that is the answer.
-pub fn build<L: Language + Sync, G: Gate + Sync, R: Threads + Wait + Sync>(
+/// Cuts and checks all nodes, each once, in this thread, which is worker 0, and in at most so many
+/// others: a batch begins when all nodes of those before it are checked. Each worker comes to the
+/// points of the gate, where a node is the evaluation with the number after its place. Where one
+/// meets want of memory, that is the answer.
+pub fn build<L: Language + Sync, T: Telling + Sync, G: Gate + Sync, R: Threads + Wait + Sync>(
     rt: &R,
     alloc: Global,
     language: &L,
+    telling: &T,
     nodes: &Nodes,
     workers: u32,
     gate: &G,
-) -> Result<Built, AllocError>
+) -> Result<Built<T::Told>, AllocError>
 where
     L::State: Send + Sync,
-    requires { LieWithin nodes.now }
-    ensures nodes { IfOk result (λ built. built.nodes.items ≡ built_of L.lang nodes.now) }
+    T::Told: Send,
+    requires { AreUncut nodes.now }
+    ensures nodes { IfOk result (λ built. built.nodes.items
+        ≡ map T.told (built_of L.lang (cut_all nodes.now))) }
     ensures once { IfOk result (λ built. IsPermutation (order nodes.now) built.taken.items) }
 {
     order_law();
@@ -51,6 +55,7 @@ where
     let batches = batches_of(alloc, nodes, &graph)?;
     let work = Work {
         language,
+        telling,
         nodes,
         graph: &graph,
         aliases: &aliases,
@@ -62,8 +67,8 @@ where
     'batches: for batch in &batches {
         work.check(rt, alloc, batch.as_slice(), &mut kept, &mut taken)?;
     }
-    let Progress { behind, reports } = kept;
+    let Progress { behind, told } = kept;
     drop(behind);
-    let nodes = gathered(alloc, nodes, graph.order(), reports)?;
+    let nodes = gathered(alloc, graph.order(), told)?;
     Ok(Built { nodes, taken })
 }

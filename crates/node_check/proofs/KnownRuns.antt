@@ -1,6 +1,5 @@
 -- The commands of a node, one after the other, are those at their places.
 use Rattle.std.proofs.Common.{◌≡◌, ℕ, List, [], ◌∷◌, ◌++◌, Option, Some, None, map, refl, ap}
-use Rattle.std.specs.List.{AllByRecursion}
 use Rattle.doc_nodes.specs.declared.node.Entry.{Entry}
 use Rattle.doc_nodes.specs.declared.node.Node.{Node}
 use Rattle.exec_rules.specs.Kept.{blob_of}
@@ -8,7 +7,7 @@ use Rattle.language.specs.Lang.{Lang}
 use Rattle.core_rules.specs.Settings.{Setting}
 use Rattle.core_rules.specs.Scratch.{run_from, set_in, state_after}
 use Rattle.core_rules.specs.Updates.{source_in}
-use Rattle.node_check.specs.Walking.{LiesIn, reports_at, reports_from, setting_at, state_at, state_from}
+use Rattle.node_check.specs.Walking.{reports_at, reports_from, setting_at, state_at, state_from}
 use Rattle.node_check.specs.Nodes.{reports_of}
 
 -- where there are no blobs no command has one
@@ -37,7 +36,3 @@ pub behind_so : {S : Type 0} (l : Lang S) (node : Node) (es : List Entry) (state
     → state_after l state (run_from l node [] es state) ≡ state_from l node.text (map (λ e. e.range) es) state
 behind_so l node [] state = refl
 behind_so l node (e ∷ es) state = rw (set_so node e state) (behind_so l node es (state_at l node.text e.range state))
-
-pub lie_there : (len : ℕ) (es : List Entry) → AllByRecursion (λ e. LiesIn len e.range) es → AllByRecursion (LiesIn len) (map (λ e. e.range) es)
-lie_there len [] all = tt
-lie_there len (e ∷ es) all = (all.0, lie_there len es all.1)

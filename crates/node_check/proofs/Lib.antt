@@ -1,3 +1,5 @@
 mod Added
 mod Tidy
 pub mod KnownRuns
+pub mod KnownRanges
+pub mod KnownCut

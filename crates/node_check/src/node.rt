@@ -1,43 +1,56 @@
 //! A node, from the state in which it begins.
-ghost use Rattle.std.specs.Prelude.{◌≡◌, [], length, map, IfOk};
+ghost use Rattle.std.specs.Prelude.{◌≡◌, ℕ, [], length, IfOk};
 ghost use Rattle.std.specs.List.{AllByRecursion};
 ghost use Rattle.report_markup.specs.Sorting.{in_order};
+ghost use Rattle.buffer_rules.specs.Cuts.{command_ranges};
+ghost use Rattle.buffer_rules.specs.Nodes.{ranges_in};
 ghost use Rattle.core_rules.specs.Scratch.{final, run_node};
 ghost use Rattle.node_check.specs.Walking.{LiesIn};
-ghost use Rattle.node_check.specs.Nodes.{reports_of};
+ghost use Rattle.node_check.specs.Nodes.{cut_under, reports_of, sheet_of};
 
 use crate::commands::{NodeRun, run_commands};
-use doc_nodes::Node;
+use buffer_rules::ids_law;
+use command_spans::Spans;
+use doc_nodes::{Aliases, Node};
 use language::Language;
+use node_commands::command_ranges;
 use pide_base::Range;
+use sqlite_items::Items;
 use std::alloc::{AllocError, Global};
 
-/// Checks a node that begins in this state, where there are no blobs: what its commands report, and
-/// the state that it hands on.
+/// The places of a text's commands, in its scalars, where these names are commands too.
+pub fn command_places(
+    alloc: Global,
+    text: &[char],
+    names: &[Items<char>],
+) -> Result<Vec<Range>, AllocError>
+    ensures { IfOk result (λ places. places.items ≡ command_ranges text.now names.now) }
+{
+    let spans = Spans::of(alloc, text, names)?;
+    let places = command_ranges(alloc, &spans);
+    drop(spans);
+    places
+}
+
+/// Cuts the text of a node under these aliases, and checks its commands, the first of them in this
+/// state, where there are no blobs: what they report, and the state that the node hands on.
 pub fn check_node<L: Language>(
     alloc: Global,
     language: &L,
     node: &Node,
+    aliases: &Aliases,
     begins: L::State,
 ) -> Result<NodeRun<L::State>, AllocError>
-    requires { AllByRecursion (λ e. LiesIn (length node.now.text) e.range) node.now.entries }
-    ensures reports { IfOk result (λ run. run.reports.items ≡ in_order (reports_of L.lang
-        node.now.entries (run_node L.lang node.now [] begins).commands)) }
-    ensures behind { IfOk result (λ run. run.behind
-        ≡ final L.lang (run_node L.lang node.now [] begins)) }
+    requires { AllByRecursion (LiesIn (length node.now.text))
+        (ranges_in (sheet_of node.now) aliases.now) }
+    ensures reports { (next : ℕ) → IfOk result (λ run. run.reports.items ≡ in_order
+        (reports_of L.lang (cut_under node.now aliases.now next).entries
+        (run_node L.lang (cut_under node.now aliases.now next) [] begins).commands)) }
+    ensures behind { (next : ℕ) → IfOk result (λ run. run.behind
+        ≡ final L.lang (run_node L.lang (cut_under node.now aliases.now next) [] begins)) }
 {
-    let ranges = places(alloc, node)?;
-    run_commands(alloc, language, node.text.get().as_slice(), &ranges, begins)
-}
-
-/// The places of the node's commands.
-fn places(alloc: Global, node: &Node) -> Result<Vec<Range>, AllocError>
-    ensures { IfOk result (λ all. all.items ≡ map (λ e. e.range) node.now.entries) }
-{
-    let entries = node.entries.get().as_slice();
-    let mut all = Vec::with_capacity(alloc, entries.len())?;
-    'entries: for entry in entries {
-        all.push(entry.range)?;
-    }
-    Ok(all)
+    ids_law();
+    let text = node.text.get().as_slice();
+    let places = command_places(alloc, text, aliases.names())?;
+    run_commands(alloc, language, text, &places, begins)
 }

@@ -1,1 +1,2 @@
 mod Handing
+pub mod KnownHeads

@@ -7,7 +7,6 @@ use Rattle.pide_base.specs.declared.status.Status.{Status}
 use Rattle.pide_base.specs.declared.status.Status.TheVariants as status
 use Rattle.message_input.specs.declared.answering.Halt.{Halt}
 use Rattle.message_input.specs.declared.answering.Halt.TheVariants as halt
-use Rattle.pide_build.specs.Documents.{AreWithin}
 use Rattle.pide_build.specs.Replies.{refusals}
 use Rattle.pide_build.specs.Theories.{TheoryList, theories_after}
 
@@ -15,7 +14,6 @@ use Rattle.pide_build.specs.Theories.{TheoryList, theories_after}
 pub record GoesOn (held held' : Option (List ℕ)) (faults faults' : ℕ) (old new : TheoryList)
     (messages : List (List (List ℕ))) : Type 0 where
   pub theories : new ≡ theories_after messages old
-  pub within : AreWithin new
   pub writes : Appends held held' (refusals messages old)
   pub steady : faults ≤ faults'
 

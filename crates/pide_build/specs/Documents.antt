@@ -1,7 +1,5 @@
 -- The document of theories (this project's own).
-use Rattle.std.specs.Prelude.{ℕ, ◌≤◌, true, List, [], length, map}
-use Rattle.std.specs.List.{AllByRecursion}
-use Rattle.doc_limits.specs.Limits.{most_nodes, most_scalars}
+use Rattle.std.specs.Prelude.{ℕ, true, List, [], map}
 use Rattle.doc_nodes.specs.Imports.{NodeList}
 use Rattle.buffer_rules.specs.declared.sheet.Sheet.{Sheet}
 use Rattle.buffer_rules.specs.Sheets.{SheetList}
@@ -19,8 +17,3 @@ sheets_of theories = map (λ theory. (theory.0, sheet_of theory.1)) theories
 -- their nodes: those of the first version of a document
 abbrev pub nodes_of : TheoryList → NodeList
 nodes_of theories = (nodes_after [] (sheets_of theories) 1).nodes
-
--- there are not too many of them, and none is too long
-pub record AreWithin (theories : TheoryList) : Type 0 where
-  pub count : length theories ≤ most_nodes
-  pub texts : AllByRecursion (λ theory. length theory.1 ≤ most_scalars) theories

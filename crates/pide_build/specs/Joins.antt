@@ -8,7 +8,6 @@ use Rattle.pide_base.proofs.Known.{AppendsFront-after}
 use Rattle.message_input.specs.declared.answering.Halt.{Halt}
 use Rattle.message_input.specs.declared.answering.Halt.TheVariants as halt
 use Rattle.pide_build.specs.Answers.{CountsSo, GoesOn, Stops}
-use Rattle.pide_build.specs.Documents.{AreWithin}
 use Rattle.pide_build.specs.Replies.{refusal_of, refusals}
 use Rattle.pide_build.specs.Theories.{TheoryList, kept_by, taken, theories_after}
 
@@ -30,11 +29,10 @@ refusals_both (message ∷ first) then theories =
     (refusals then (theories_after first after)))
 
 -- where no message came nothing is done
-pub none_yet : (held : Option (List ℕ)) (faults : ℕ) (theories : TheoryList) → AreWithin theories
+pub none_yet : (held : Option (List ℕ)) (faults : ℕ) (theories : TheoryList)
     → GoesOn held held faults faults theories theories []
-none_yet held faults theories within = record {
+none_yet held faults theories = record {
   theories = refl;
-  within = within;
   writes = Appends-nil held;
   steady = omega arith;
 }
@@ -60,7 +58,6 @@ module _ (held mid held' : Option (List ℕ)) (faults between faults' : ℕ) whe
   goes_later old then_old new first then one more = record {
     theories = more.theories ∙ ap (theories_after then) one.theories
         ∙ sym (theories_both first then old);
-    within = more.within;
     writes = subst (Appends held held') (sym (refusals_both first then old
         ∙ ap (λ theories. refusals first old ++ refusals then theories) (sym one.theories)))
         (Appends-trans held mid held' (refusals first old) (refusals then then_old) one.writes

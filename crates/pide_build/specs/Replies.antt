@@ -9,7 +9,7 @@ use Rattle.message_values.specs.declared.refusal.Refusal.{Refusal}
 use Rattle.reply_writing.specs.declared.told.Told.{Told}
 use Rattle.reply_writing.specs.declared.told.Told.TheVariants as tells
 use Rattle.reply_writing.specs.Replies.{reply_chunks}
-use Rattle.document_build.specs.declared.gathering.BuiltNode.{BuiltNode}
+use Rattle.batch_check.specs.declared.telling.BuiltNode.{BuiltNode}
 use Rattle.document_build.specs.Built.{built_of}
 use Rattle.pide_build.specs.Documents.{nodes_of}
 use Rattle.pide_build.specs.Theories.{TheoryList, kept_by, taken}

@@ -1,6 +1,5 @@
 //! The messages of a build are answered.
 ghost use Rattle.std.specs.Prelude.{◌≡◌, ◌∷◌, [], OnOk, IfErr};
-ghost use Rattle.pide_build.specs.Documents.{AreWithin};
 ghost use Rattle.pide_build.specs.Answers.{GoesOn, Stops};
 
 use crate::replies::push_reply;
@@ -21,7 +20,6 @@ pub(crate) struct Inbox<K> {
 
 /// Answers a message.
 fn answer_one<K: Sink>(inbox: &mut Inbox<K>, message: &Message) -> Result<(), Halt>
-    requires { AreWithin inbox.old.theories }
     ensures ok { OnOk result (GoesOn (K.contents inbox.old.sink) (K.contents inbox.new.sink)
         (K.faults inbox.old.sink) (K.faults inbox.new.sink) inbox.old.theories inbox.new.theories
         (message.now ∷ [])) }
@@ -38,12 +36,11 @@ fn answer_one<K: Sink>(inbox: &mut Inbox<K>, message: &Message) -> Result<(), Ha
 }
 
 impl<K: Sink> Answering for Inbox<K> {
-    ghost use Rattle.std.specs.Prelude.{◌≡◌};
-    ghost use Rattle.pide_build.specs.Documents.{AreWithin};
+    ghost use Rattle.std.specs.Prelude.{◌≡◌, ⊤};
     ghost use Rattle.pide_build.specs.Answers.{GoesOn, Stops};
     ghost use Rattle.pide_build.specs.Joins.{goes_later, none_yet, short_of, stops_later};
 
-    ghost rests = { λ a. AreWithin a.theories };
+    ghost rests = { λ a. ⊤ };
 
     ghost goes = { λ a messages b. GoesOn (K.contents a.sink) (K.contents b.sink)
         (K.faults a.sink) (K.faults b.sink) a.theories b.theories messages };
@@ -59,9 +56,9 @@ impl<K: Sink> Answering for Inbox<K> {
 
     fn end(&mut self) {}
 
-    ghost stays = { λ a rests. none_yet (K.contents a.sink) (K.faults a.sink) a.theories rests };
+    ghost stays = { λ a rests. none_yet (K.contents a.sink) (K.faults a.sink) a.theories };
 
-    ghost rests_then = { λ a b messages goes. goes.within };
+    ghost rests_then = { λ a b messages goes. tt };
 
     ghost goes_on = { λ a b c first then one more. goes_later (K.contents a.sink)
         (K.contents b.sink) (K.contents c.sink) (K.faults a.sink) (K.faults b.sink)

@@ -1,4 +1,4 @@
-//! Replies, written to a sink.
+//! Replies, made and written to a sink.
 ghost use Rattle.std.specs.Prelude.{◌≡◌, ◌≤◌, OnOk, IfOk, IfErr, ℕ};
 ghost use Rattle.std.specs.List.{flat_map, sum_by};
 ghost use Rattle.std.specs.Io.KnownBytes.{Appends};
@@ -6,56 +6,43 @@ ghost use Rattle.pide_base.specs.Moves.{AppendsFront};
 ghost use Rattle.reply_writing.specs.Forms.{IsForm};
 ghost use Rattle.reply_writing.specs.Lent.{told};
 ghost use Rattle.pide_build.specs.Answers.{CountsSo};
-ghost use Rattle.pide_build.specs.Replies.{errors_of, node_reply, replies_of, spelled, tells_error};
+ghost use Rattle.pide_build.specs.Replies.{errors_of, node_reply, spelled, tells_error};
+ghost use Rattle.pide_build.specs.Telling.{bytes_of};
 
-use document_build::BuiltNode;
+use batch_check::{BuiltNode, Telling};
 use message_input::Halt;
 use pide_base::{Sink, push_whole};
 use reply_writing::{Reply, Reports, write};
 use report_markup::{Report, ReportKind};
+use sqlite_items::Items;
 use std::alloc::{AllocError, Global};
 
-/// Writes a reply. Where it halts, a front of the reply is written.
-pub(crate) fn push_reply<K: Sink>(
-    alloc: Global,
-    sink: &mut K,
-    reply: &Reply<'_>,
-) -> Result<(), Halt>
-    requires { IsForm (told reply.now) }
-    ensures ok { OnOk result
-        (Appends (K.contents sink.old) (K.contents sink.new) (spelled (told reply.now))) }
-    ensures front { AppendsFront (K.contents sink.old) (K.contents sink.new)
-        (spelled (told reply.now)) }
-    ensures steady { K.faults sink.old ≤ K.faults sink.new }
-    ensures counts { IfErr result (λ halt. CountsSo halt (K.faults sink.old)
-        (K.faults sink.new)) }
-{
-    let bytes = write(alloc, reply)?;
-    if push_whole(sink, &bytes) {
-        Ok(())
-    } else {
-        Err(Halt::WriteFault)
-    }
+/// The reply of a node.
+#[derive(Drop)]
+pub(crate) struct NodeReply {
+    /// Its bytes.
+    pub bytes: Items<u8>,
+    /// How many errors it tells.
+    pub errors: usize,
 }
 
-/// Writes the reply of each node. Where it halts, a front of them is written.
-fn push_nodes<K: Sink>(alloc: Global, sink: &mut K, all: &[BuiltNode]) -> Result<(), Halt>
-    ensures ok { OnOk result (Appends (K.contents sink.old) (K.contents sink.new)
-        (flat_map node_reply all.now)) }
-    ensures front { AppendsFront (K.contents sink.old) (K.contents sink.new)
-        (flat_map node_reply all.now) }
-    ensures steady { K.faults sink.old ≤ K.faults sink.new }
-    ensures counts { IfErr result (λ halt. CountsSo halt (K.faults sink.old)
-        (K.faults sink.new)) }
-{
-    let mut rest = all;
-    'nodes: while let [built, more @ ..] = rest {
-        let node = &built.node;
-        let reports = Reports::Own(built.reports.as_slice());
-        push_reply(alloc, sink, &Reply::Built { node, reports })?;
-        rest = more;
+/// Tells of each node its reply.
+pub(crate) struct InReplies;
+
+impl Telling for InReplies {
+    ghost use Rattle.pide_build.specs.Telling.{reply_of};
+
+    type Told = NodeReply;
+
+    ghost told = { reply_of };
+
+    fn tell(&self, alloc: Global, built: BuiltNode) -> Result<NodeReply, AllocError> {
+        let errors = errors_of(&built);
+        let bytes = node_reply(alloc, &built);
+        drop(built);
+        let bytes = Items::from_vec(bytes?);
+        Ok(NodeReply { bytes, errors })
     }
-    Ok(())
 }
 
 /// Whether a report tells an error.
@@ -78,14 +65,74 @@ fn errors_of(built: &BuiltNode) -> usize
     count
 }
 
-/// How many of all reports do. More than can be counted don't fit in memory.
-fn errors_in(all: &[BuiltNode]) -> Result<u64, AllocError>
-    ensures { IfOk result (λ count. count ≡ sum_by errors_of all.now) }
+/// The bytes of a node's reply.
+fn node_reply(alloc: Global, built: &BuiltNode) -> Result<Vec<u8>, AllocError>
+    ensures { IfOk result (λ bytes. bytes.items ≡ node_reply built.now) }
+{
+    let reports = Reports::Own(built.reports.as_slice());
+    reply_writing::built(alloc, &built.node, reports)
+}
+
+/// Writes bytes. Where the sink fails, a front of them is written.
+fn push_bytes<K: Sink>(sink: &mut K, bytes: &[u8]) -> Result<(), Halt>
+    ensures ok { OnOk result (Appends (K.contents sink.old) (K.contents sink.new) bytes.now) }
+    ensures front { AppendsFront (K.contents sink.old) (K.contents sink.new) bytes.now }
+    ensures steady { K.faults sink.old ≤ K.faults sink.new }
+    ensures counts { IfErr result (λ halt. CountsSo halt (K.faults sink.old)
+        (K.faults sink.new)) }
+{
+    if push_whole(sink, bytes) {
+        Ok(())
+    } else {
+        Err(Halt::WriteFault)
+    }
+}
+
+/// Writes a reply. Where it halts, a front of the reply is written.
+pub(crate) fn push_reply<K: Sink>(
+    alloc: Global,
+    sink: &mut K,
+    reply: &Reply<'_>,
+) -> Result<(), Halt>
+    requires { IsForm (told reply.now) }
+    ensures ok { OnOk result
+        (Appends (K.contents sink.old) (K.contents sink.new) (spelled (told reply.now))) }
+    ensures front { AppendsFront (K.contents sink.old) (K.contents sink.new)
+        (spelled (told reply.now)) }
+    ensures steady { K.faults sink.old ≤ K.faults sink.new }
+    ensures counts { IfErr result (λ halt. CountsSo halt (K.faults sink.old)
+        (K.faults sink.new)) }
+{
+    let bytes = write(alloc, reply)?;
+    push_bytes(sink, &bytes)
+}
+
+/// Writes the reply of each node. Where the sink fails, a front of them is written.
+fn push_nodes<K: Sink>(sink: &mut K, all: &[NodeReply]) -> Result<(), Halt>
+    ensures ok { OnOk result (Appends (K.contents sink.old) (K.contents sink.new)
+        (flat_map (λ reply. reply.bytes) all.now)) }
+    ensures front { AppendsFront (K.contents sink.old) (K.contents sink.new)
+        (flat_map (λ reply. reply.bytes) all.now) }
+    ensures steady { K.faults sink.old ≤ K.faults sink.new }
+    ensures counts { IfErr result (λ halt. CountsSo halt (K.faults sink.old)
+        (K.faults sink.new)) }
+{
+    let mut rest = all;
+    'nodes: while let [reply, more @ ..] = rest {
+        push_bytes(sink, reply.bytes.as_slice())?;
+        rest = more;
+    }
+    Ok(())
+}
+
+/// How many errors the replies tell. More than can be counted don't fit in memory.
+fn errors_in(all: &[NodeReply]) -> Result<u64, AllocError>
+    ensures { IfOk result (λ count. count ≡ sum_by (λ reply. reply.errors) all.now) }
 {
     let mut count: u64 = 0;
     let mut rest = all;
-    'nodes: while let [built, more @ ..] = rest {
-        let Some(sum) = count.checked_add(errors_of(built) as u64) else {
+    'nodes: while let [reply, more @ ..] = rest {
+        let Some(sum) = count.checked_add(reply.errors as u64) else {
             return Err(AllocError);
         };
         count = sum;
@@ -99,18 +146,18 @@ fn errors_in(all: &[BuiltNode]) -> Result<u64, AllocError>
 pub(crate) fn push_replies<K: Sink>(
     alloc: Global,
     sink: &mut K,
-    all: &[BuiltNode],
+    all: &[NodeReply],
 ) -> Result<(), Halt>
     ensures ok { OnOk result
-        (Appends (K.contents sink.old) (K.contents sink.new) (replies_of all.now)) }
+        (Appends (K.contents sink.old) (K.contents sink.new) (bytes_of all.now)) }
     ensures front { AppendsFront (K.contents sink.old) (K.contents sink.new)
-        (replies_of all.now) }
+        (bytes_of all.now) }
     ensures steady { K.faults sink.old ≤ K.faults sink.new }
     ensures counts { IfErr result (λ halt. CountsSo halt (K.faults sink.old)
         (K.faults sink.new)) }
 {
     let nodes = all.len() as u64;
     let errors = errors_in(all)?;
-    push_nodes(alloc, sink, all)?;
+    push_nodes(sink, all)?;
     push_reply(alloc, sink, &Reply::Total { nodes, errors })
 }

@@ -5,13 +5,12 @@ ghost use Rattle.pide_base.specs.Faults.{Rose};
 ghost use Rattle.pide_base.specs.Moves.{AppendsFront};
 ghost use Rattle.message_input.specs.Causes.{CompleteSo, HasCause};
 ghost use Rattle.pide_build.specs.Answers.{CountsSo, status_of};
-ghost use Rattle.pide_build.specs.Documents.{AreWithin};
 ghost use Rattle.pide_build.specs.Replies.{build_replies};
 ghost use Rattle.pide_build.specs.Runs.{IsBuild};
 
-use crate::documents::document_of;
+use crate::documents::nodes_of;
 use crate::inbox::Inbox;
-use crate::replies::push_replies;
+use crate::replies::{InReplies, push_replies};
 use crate::theories::Theories;
 use document_build::{Built, build};
 use language::Language;
@@ -48,7 +47,6 @@ fn build_all<L: Language + Sync, G: Gate + Sync, K: Sink, R: Threads + Wait + Sy
 ) -> Result<(), Halt>
 where
     L::State: Send + Sync,
-    requires { AreWithin theories }
     ensures ok { OnOk result (Appends (K.contents sink.old) (K.contents sink.new)
         (build_replies L.lang theories)) }
     ensures front { AppendsFront (K.contents sink.old) (K.contents sink.new)
@@ -57,19 +55,25 @@ where
     ensures counts { IfErr result (λ halt. CountsSo halt (K.faults sink.old)
         (K.faults sink.new)) }
 {
-    let document = document_of(alloc, theories)?;
+    let nodes = nodes_of(alloc, &theories);
+    drop(theories);
+    let nodes = nodes?;
     let built = build(
         rt,
         alloc,
         language,
-        document.nodes(),
+        &InReplies,
+        &nodes,
         crew.workers,
         crew.gate,
     );
-    drop(document);
-    let Built { nodes, taken } = built?;
+    drop(nodes);
+    let Built {
+        nodes: replies,
+        taken,
+    } = built?;
     drop(taken);
-    push_replies(alloc, sink, &nodes)
+    push_replies(alloc, sink, &replies)
 }
 
 /// The status of a build that came to this.

@@ -1,5 +1,5 @@
 //! The theories of a build.
-ghost use Rattle.std.specs.Prelude.{◌≡◌, [], Ok, Err};
+ghost use Rattle.std.specs.Prelude.{◌≡◌, [], Ok, Err, IfOk};
 ghost use Rattle.message_values.specs.declared.mode.Mode.TheVariants.{Build};
 ghost use Rattle.message_values.specs.Asked.{asked};
 ghost use Rattle.pide_build.specs.Theories.{is_beyond, taken, with_message, with_theory};
@@ -7,6 +7,8 @@ ghost use Rattle.pide_build.specs.Taking.{TakesSo};
 
 use byte_message::Message;
 use doc_limits::{are_too_many, is_too_long};
+use doc_nodes::Shared;
+use joined_results::both;
 use message_values::{EditorMessage, Mode, Refusal};
 use pide_base::NodeName;
 use pide_messages::{ReadError, read};
@@ -15,7 +17,7 @@ use std::alloc::{AllocError, Global};
 use text_edits::Text;
 
 /// Theories: texts by the names of their nodes.
-pub(crate) type Theories = SharedMap<NodeName, Text>;
+pub(crate) type Theories = SharedMap<NodeName, Shared<Text>>;
 
 /// What came of a message.
 #[derive(Clone, Copy, Debug, PartialEq, Eq)]
@@ -24,6 +26,13 @@ pub(crate) enum Taken {
     Kept,
     /// It was refused, and changes nothing.
     Refused(Refusal),
+}
+
+/// The value in memory that can be shared.
+pub(crate) fn shared<T: Drop>(alloc: Global, value: T) -> Result<Shared<T>, AllocError>
+    ensures { IfOk result (λ shared. shared ≡ value) }
+{
+    Shared::new(alloc, value).map_err(|_| AllocError)
 }
 
 /// Whether the text is too long, or one more than the theories there are too many.
@@ -48,6 +57,7 @@ fn take_theory(
     if is_beyond(theories, &text) {
         return Ok(Taken::Refused(Refusal::Limit));
     }
+    let (name, text) = both(Ok(name), shared(alloc, text))?;
     theories.set(alloc, name, text)?;
     Ok(Taken::Kept)
 }

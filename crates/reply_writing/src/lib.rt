@@ -19,7 +19,7 @@ mod total;
 mod versions;
 mod writing;
 
-pub use nodes::markup;
+pub use nodes::{built, markup};
 pub use numbers::{cancelled, idle, protocol, refused};
 pub use parts::{claimed, dropped, report};
 pub use reply::{AssignedNode, AssignedRow, Executions, Reply, Reports};

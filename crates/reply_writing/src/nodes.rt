@@ -36,7 +36,8 @@ pub fn markup<'a>(
     )
 }
 
-pub(crate) fn built<'a>(
+/// The reply that tells what a node of a build reports.
+pub fn built<'a>(
     alloc: Global,
     node: &'a NodeName,
     reports: Reports<'a>,

@@ -1,5 +1,4 @@
 mod Alike
 pub mod KnownOneNode
 mod OneWalk
-mod OneRanges
 mod OneMarkup

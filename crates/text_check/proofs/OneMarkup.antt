@@ -24,7 +24,7 @@ use Rattle.node_check.specs.Walking.{LiesIn, reports_from}
 use Rattle.node_check.proofs.KnownRuns.{reported_so}
 use Rattle.text_check.proofs.Alike.{aliases_alike}
 use Rattle.text_check.proofs.OneWalk.{scratch_one}
-use Rattle.text_check.proofs.OneRanges.{lie_within, ranges_so}
+use Rattle.node_check.proofs.KnownRanges.{lie_within, ranges_so}
 
 -- the sheet, the aliases and the node of a text
 abbrev sheet_of : List ℕ → Sheet

@@ -7,14 +7,11 @@ ghost use Rattle.text_check.specs.Headings.{begins, heading_of};
 use crate::heading::Heading;
 use buffer_laws::places_law;
 use buffer_rules::ids_law;
-use command_spans::Spans;
 use joined_results::both;
 use language::Language;
-use node_check::{NodeRun, run_commands};
-use node_commands::command_ranges;
+use node_check::{NodeRun, command_places, run_commands};
 use pide_base::Range;
 use report_markup::Report;
-use sqlite_items::Items;
 use std::alloc::{AllocError, Global};
 
 /// What checking the text from nothing reports, in report order; ranges count its scalars. The
@@ -51,18 +48,4 @@ fn begun<L: Language>(
     drop(heading);
     let begun = both(places, begins)?;
     Ok(begun)
-}
-
-/// The places of the text's commands, where these names are commands too.
-fn command_places(
-    alloc: Global,
-    text: &[char],
-    names: &[Items<char>],
-) -> Result<Vec<Range>, AllocError>
-    ensures { IfOk result (λ places. places.items ≡ command_ranges text.now names.now) }
-{
-    let spans = Spans::of(alloc, text, names)?;
-    let places = command_ranges(alloc, &spans);
-    drop(spans);
-    places
 }

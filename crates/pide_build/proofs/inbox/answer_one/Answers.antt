@@ -6,5 +6,5 @@ use Rattle.pide_build.proofs.inbox.answer_one.Goals as goal
 pub returns-in-Kept-clause-ok : goal.returns-in-Kept-clause-ok
 returns-in-Kept-clause-ok g c =
     let old = c.args.inbox.now.theories in let message = c.args.message.now in
-    goes_kept (g.K.Sink.contents c.args.inbox.now.sink) (g.K.Sink.faults c.args.inbox.now.sink) old c.take.new.theories message c.requires
+    goes_kept (g.K.Sink.contents c.args.inbox.now.sink) (g.K.Sink.faults c.args.inbox.now.sink) old c.take.new.theories message
     (made_kept c.in_ok-take.field-0 (taken message old) old c.take.new.theories c.in-Kept.is c.in_ok-take.ensures)

@@ -1,6 +1,7 @@
 -- What came of the batch is kept.
 use Rattle.std.proofs.Common.{rules, ◌<◌, ◌++◌, length, All, IsPermutation, subst, sym}
 use Rattle.std.specs.Prelude.{slice_index}
+use Rattle.batch_check.specs.Cutting.{cut_all}
 use Rattle.batch_check.specs.Tasks.{MakesSo}
 use Rattle.task_round.specs.Rounds.{AreMade}
 use Rattle.document_build.proofs.Rounds.{make_so, numbers_within, on_ok, places_taken}
@@ -13,10 +14,11 @@ add_places-requires g c =
 
 pub returns-clause-kept : goal.returns-clause-kept
 returns-clause-kept g c = λ before keeps.
-    let l = g.L.Language.lang in let nodes = c.args.self.now.nodes.now in let behind = c.args.kept.now.behind.items in
+    let l = g.L.Language.lang in let told = g.T.Telling.told in let nodes = cut_all c.args.self.now.nodes.now in
+    let behind = c.args.kept.now.behind.items in
     let places = c.args.places.now in let made = c.in_ok-round.round.made.items in
-    let are = subst (λ bs. AreMade (λ task. MakesSo l nodes bs (slice_index places task)) 0 made) c.deref.ensures.value c.in_ok-round.ensures.made in
-    c.keep_all.ensures l nodes before behind keeps.behind (make_so l nodes behind places made c.in_ok-round.ensures.length are) keeps
+    let are = subst (λ bs. AreMade (λ task. MakesSo l told nodes bs (slice_index places task)) 0 made) c.deref.ensures.value c.in_ok-round.ensures.made in
+    c.keep_all.ensures l told nodes before behind keeps.behind (make_so l told nodes behind places made c.in_ok-round.ensures.length are) keeps
 
 pub returns-clause-taken : goal.returns-clause-taken
 returns-clause-taken g c = λ done before.

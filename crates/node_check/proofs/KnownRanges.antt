@@ -1,4 +1,4 @@
--- Where the commands of one text stand.
+-- Where the commands of a sheet stand that is cut.
 use Rattle.std.proofs.Common.{◌≡◌, ℕ, ◌≤◌, List, [], ◌∷◌, length, map, refl, ap, arith}
 use Rattle.std.specs.List.{AllByRecursion, zip}
 use Rattle.pide_base.specs.declared.range.Range.{Range}

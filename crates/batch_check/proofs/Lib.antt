@@ -1,0 +1,2 @@
+pub mod KnownCut
+mod Making
