@@ -1,2 +1,3 @@
 pub mod Headers
 pub mod Reading
+pub use Rattle.outer_tokens.specs as tokens_below

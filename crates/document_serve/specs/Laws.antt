@@ -21,10 +21,10 @@ use Rattle.session_rules.specs.declared.service.Service.{Service}
 use Rattle.session_rules.specs.Heard.{Heard}
 use Rattle.session_rules.specs.Legal.{IsLegal}
 use Rattle.session_rules.specs.Replies.{replies}
-use Rattle.session_lists.specs.Items.{SessionItem, heard_in, session_in}
-use Rattle.session_lists.specs.Legal.{AreLegal}
-use Rattle.session_lists.specs.Pieces.{pieces}
-use Rattle.session_lists.specs.Sent.{IsFrontSent}
+use Rattle.document_session.specs.lists_below.Items.{SessionItem, heard_in, session_in}
+use Rattle.document_session.specs.lists_below.Legal.{AreLegal}
+use Rattle.document_session.specs.lists_below.Pieces.{pieces}
+use Rattle.document_session.specs.lists_below.Sent.{IsFrontSent}
 
 -- the history of a legal list is legal, and what it tells as sent is a front of the replies,
 -- which one by one are all that is written

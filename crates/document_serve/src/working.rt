@@ -5,17 +5,17 @@ ghost use Rattle.core_rules.specs.Standing.{held, has_ended};
 ghost use Rattle.reply_outbox.specs.declared.item.Item.TheVariants.{Made};
 ghost use Rattle.session_rules.specs.declared.entry.Entry.TheVariants as entry;
 ghost use Rattle.session_rules.specs.Session.{document};
-ghost use Rattle.session_lists.specs.Items.{session_in};
-ghost use Rattle.session_lists.specs.Legal.{AreLegal};
-ghost use Rattle.session_states.specs.Works.{IsWorkOf};
+ghost use Rattle.document_session.specs.lists_below.Items.{session_in};
+ghost use Rattle.document_session.specs.lists_below.Legal.{AreLegal};
+ghost use Rattle.document_session.specs.states_below.Works.{IsWorkOf};
 ghost use Rattle.document_serve.specs.Steps.{IsWorked, IsLeftOff};
 
 use crate::never::Never;
 use core_jobs::job_law;
+use document_session::jobs_below::{SessionJob, SessionRan};
 use document_session::{Claim, Session};
 use language::Language;
 use reply_outbox::Past;
-use session_jobs::{SessionJob, SessionRan};
 use session_rules::{Entry, Service};
 use std::alloc::{AllocError, Global};
 

@@ -12,8 +12,8 @@ use Rattle.session_rules.specs.declared.service.Service.{Service}
 use Rattle.session_rules.specs.Services.{free_workers}
 use Rattle.session_rules.specs.Session.{Session}
 use Rattle.session_rules.specs.Steps.{due}
-use Rattle.session_jobs.specs.Works.{Work}
-use Rattle.session_lists.specs.Items.{SessionItem, heard_in}
+use Rattle.session_states.specs.jobs_below.Works.{Work}
+use Rattle.session_states.specs.lists_below.Items.{SessionItem, heard_in}
 use Rattle.session_states.specs.Kept.{session_of, IsListed, IsKept}
 
 not_both : {A B : Type 0} (o : Option A) (x : A) → o ≡ None → o ≡ Some x → B

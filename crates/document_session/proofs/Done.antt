@@ -7,8 +7,8 @@ use Rattle.core_jobs.specs.Jobs.{JobContent}
 use Rattle.core_jobs.specs.Runs.{done_by}
 use Rattle.core_rules.specs.Settings.{Setting}
 use Rattle.session_rules.specs.Session.{Session, document}
-use Rattle.session_jobs.specs.Runs.{work_done}
-use Rattle.session_jobs.specs.Works.{Work}
+use Rattle.session_states.specs.jobs_below.Runs.{work_done}
+use Rattle.session_states.specs.jobs_below.Works.{Work}
 use Rattle.session_states.specs.Works.{IsWorkOf, IsDoneWorkOf}
 
 -- what comes of a job that a session keeps

@@ -17,9 +17,9 @@ use Rattle.session_rules.specs.declared.entry.Entry.TheVariants as entry
 use Rattle.session_rules.specs.declared.service.Service.{Service}
 use Rattle.session_rules.specs.Services.{free_workers}
 use Rattle.session_rules.specs.Session.{Session, document}
-use Rattle.session_replies.specs.Spelling.{spelling}
-use Rattle.session_jobs.specs.Works.{Work}
-use Rattle.session_lists.specs.Items.{SessionItem, session_in}
+use Rattle.session_states.specs.replies_below.Spelling.{spelling}
+use Rattle.session_states.specs.jobs_below.Works.{Work}
+use Rattle.session_states.specs.lists_below.Items.{SessionItem, session_in}
 use Rattle.session_states.specs.Kept.{IsKept}
 use Rattle.session_states.specs.States.{State, IsSound, with_past}
 use Rattle.session_states.specs.Workers.{FreeLaws}

@@ -4,7 +4,7 @@ use Rattle.language.specs.Lang.{Lang}
 use Rattle.core_rules.specs.Standing.{has_ended}
 use Rattle.session_rules.specs.declared.service.Service.{Service}
 use Rattle.session_rules.specs.Session.{Session}
-use Rattle.session_lists.specs.Items.{session_in}
+use Rattle.session_states.specs.lists_below.Items.{session_in}
 use Rattle.session_states.specs.Kept.{IsListed}
 use Rattle.document_session.specs.Contents.{SessionState}
 

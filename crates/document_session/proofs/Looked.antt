@@ -28,7 +28,7 @@ use Rattle.session_rules.specs.Accepting.{taken}
 use Rattle.session_rules.specs.Looking.{Looked, looked_at}
 use Rattle.session_rules.specs.Replies.{told_to}
 use Rattle.session_rules.proofs.KnownLooked.{text_seen, node_seen}
-use Rattle.session_replies.specs.Spelling.{spelling}
+use Rattle.session_states.specs.replies_below.Spelling.{spelling}
 use Rattle.session_states.specs.Looks.{IsLook}
 use Rattle.session_states.proofs.KnownNothingDue.{nothing_due}
 use Rattle.document_session.specs.Looks.{IsFound, LookedSo}

@@ -35,9 +35,9 @@ use Rattle.session_rules.specs.declared.service.Service.{Service}
 use Rattle.session_rules.specs.Services.{mode_of}
 use Rattle.session_rules.specs.Session.{Session, document}
 use Rattle.session_rules.specs.Accepting.{taken}
-use Rattle.session_replies.specs.Spelling.{spelling}
-use Rattle.session_replies.specs.Assigned.{nodes_told}
-use Rattle.session_jobs.specs.Works.{Work}
+use Rattle.session_states.specs.replies_below.Spelling.{spelling}
+use Rattle.session_states.specs.replies_below.Assigned.{nodes_told}
+use Rattle.session_states.specs.jobs_below.Works.{Work}
 use Rattle.session_states.specs.Kept.{session_of, IsKept}
 use Rattle.session_states.specs.Messages.{UpdateLaw}
 use Rattle.document_session.specs.Makes.{IsMade}

@@ -12,7 +12,7 @@ use Rattle.core_rules.specs.Doc.{doc}
 use Rattle.core_rules.specs.Updates.{node_in}
 use Rattle.prover_core.specs.Results.{AreResults, AreResultsIn}
 use Rattle.session_rules.specs.Session.{Session}
-use Rattle.session_replies.specs.Edited.{PlacesFit}
+use Rattle.session_states.specs.replies_below.Edited.{PlacesFit}
 use Rattle.document_session.specs.Looks.{IsSeen}
 use Rattle.document_session.proofs.Looked.{placed}
 

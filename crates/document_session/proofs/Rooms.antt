@@ -8,8 +8,8 @@ use Rattle.session_rules.specs.declared.entry.Entry.{Entry}
 use Rattle.session_rules.specs.declared.service.Service.{Service}
 use Rattle.session_rules.specs.Session.{Session}
 use Rattle.session_rules.specs.Steps.{due}
-use Rattle.session_jobs.specs.Works.{Work}
-use Rattle.session_lists.specs.Items.{SessionItem, heard_in}
+use Rattle.session_states.specs.jobs_below.Works.{Work}
+use Rattle.session_states.specs.lists_below.Items.{SessionItem, heard_in}
 use Rattle.session_states.specs.Kept.{IsListed, IsKept}
 use Rattle.session_states.specs.States.{State, IsAdded}
 

@@ -28,7 +28,7 @@ use Rattle.session_rules.specs.Accepting.{taken}
 use Rattle.session_rules.specs.Legal.{IsSettledIn, awaited_by, awaited_of}
 use Rattle.session_rules.specs.Looking.{settles}
 use Rattle.session_rules.specs.Replies.{or_refusal}
-use Rattle.session_replies.specs.Spelling.{spelling}
+use Rattle.session_states.specs.replies_below.Spelling.{spelling}
 use Rattle.session_states.specs.Looks.{IsLook}
 use Rattle.session_states.proofs.KnownNothingDue.{nothing_due}
 

@@ -24,8 +24,8 @@ use Rattle.session_rules.specs.Services.{mode_of, is_held_by_script}
 use Rattle.session_rules.specs.Session.{Session}
 use Rattle.session_rules.specs.Accepting.{taken}
 use Rattle.session_rules.specs.Legal.{awaited_of}
-use Rattle.session_replies.specs.Spelling.{spelling}
-use Rattle.session_lists.specs.Items.{SessionItem, session_in}
+use Rattle.session_states.specs.replies_below.Spelling.{spelling}
+use Rattle.session_states.specs.lists_below.Items.{SessionItem, session_in}
 use Rattle.session_states.specs.Looks.{IsLook}
 use Rattle.document_session.specs.Answers.{IsWaiting}
 use Rattle.document_session.specs.Looks.{SettlesSo}

@@ -28,12 +28,12 @@ use Rattle.session_rules.specs.declared.service.Service.{Service}
 use Rattle.session_rules.specs.declared.service.Service.TheVariants.{Script}
 use Rattle.session_rules.specs.Services.{mode_of}
 use Rattle.session_rules.specs.Session.{document}
-use Rattle.session_replies.specs.Spelling.{spelling}
-use Rattle.session_jobs.specs.Works.{Work, WorkDone}
-use Rattle.session_jobs.specs.declared.ran.SessionRan.{SessionRan}
-use Rattle.session_jobs.specs.declared.ran.SessionRan.TheVariants as ran
-use Rattle.session_jobs.specs.Runs.{RanSo, work_done}
-use Rattle.session_lists.specs.Items.{SessionItem}
+use Rattle.session_states.specs.replies_below.Spelling.{spelling}
+use Rattle.session_states.specs.jobs_below.Works.{Work, WorkDone}
+use Rattle.session_states.specs.jobs_below.declared.ran.SessionRan.{SessionRan}
+use Rattle.session_states.specs.jobs_below.declared.ran.SessionRan.TheVariants as ran
+use Rattle.session_states.specs.jobs_below.Runs.{RanSo, work_done}
+use Rattle.session_states.specs.lists_below.Items.{SessionItem}
 use Rattle.session_states.specs.Kept.{IsKept}
 use Rattle.session_states.specs.States.{State, IsSound, heard_with}
 use Rattle.session_states.specs.Turns.{entry_of, told_of}

@@ -18,7 +18,7 @@ use Rattle.session_rules.specs.Session.{Session, document}
 use Rattle.session_rules.specs.Accepting.{taken}
 use Rattle.session_rules.specs.Alone.{IsUnsettled}
 use Rattle.session_rules.specs.Legal.{awaited_of}
-use Rattle.session_replies.specs.Edited.{PlacesFit}
+use Rattle.session_states.specs.replies_below.Edited.{PlacesFit}
 use Rattle.session_states.specs.Looks.{IsLook}
 use Rattle.document_session.specs.declared.looking.Settling.{Settling}
 use Rattle.document_session.specs.declared.looking.Settling.TheVariants as settling

@@ -4,8 +4,8 @@ ghost use Rattle.core_rules.specs.Standing.{has_ended};
 ghost use Rattle.message_values.specs.Asked.{asked};
 ghost use Rattle.session_rules.specs.Services.{mode_of};
 ghost use Rattle.session_rules.specs.Accepting.{taken};
-ghost use Rattle.session_lists.specs.Items.{session_in};
-ghost use Rattle.session_lists.specs.Legal.{AreLegal};
+ghost use Rattle.session_states.specs.lists_below.Items.{session_in};
+ghost use Rattle.session_states.specs.lists_below.Legal.{AreLegal};
 ghost use Rattle.document_session.specs.Answers.{TakenSo};
 
 use crate::session::Session;
@@ -14,9 +14,9 @@ use byte_message::Message;
 use language::Language;
 use message_values::Refusal;
 use reply_outbox::{Outbox, Past};
-use session_replies::refused;
 use session_rules::{Entry, Service};
 use session_states::look_laws;
+use session_states::replies_below::refused;
 use std::alloc::{AllocError, Global};
 
 impl<L: Language, P: Past<Service, Entry> + Drop> Session<L, P> {

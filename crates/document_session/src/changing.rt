@@ -4,10 +4,10 @@ ghost use Rattle.core_rules.specs.Standing.{has_ended};
 ghost use Rattle.message_values.specs.Asked.{asked};
 ghost use Rattle.message_values.specs.declared.editor_message.EditorMessage.TheVariants as asks;
 ghost use Rattle.session_rules.specs.Services.{mode_of};
-ghost use Rattle.session_lists.specs.Items.{session_in};
-ghost use Rattle.session_lists.specs.Legal.{AreLegal};
-ghost use Rattle.session_replies.specs.Spelling.{spelling};
-ghost use Rattle.session_replies.specs.Cancelled.{cancelling_told};
+ghost use Rattle.session_states.specs.lists_below.Items.{session_in};
+ghost use Rattle.session_states.specs.lists_below.Legal.{AreLegal};
+ghost use Rattle.session_states.specs.replies_below.Spelling.{spelling};
+ghost use Rattle.session_states.specs.replies_below.Cancelled.{cancelling_told};
 ghost use Rattle.document_session.specs.Answers.{TakenSo};
 ghost use Rattle.document_session.specs.Cancels.{AreRepliesTo};
 
@@ -22,9 +22,9 @@ use language::Language;
 use message_values::{Protocol, Refusal};
 use pide_base::{ExecId, VersionId};
 use reply_outbox::Past;
-use session_replies::{cancelling, removed_law, removed_versions};
 use session_rules::{Entry, Service};
 use session_states::change_laws;
+use session_states::replies_below::{cancelling, removed_law, removed_versions};
 use sqlite_items::Items;
 use std::alloc::{AllocError, Global};
 
@@ -124,7 +124,7 @@ impl<L: Language, P: Past<Service, Entry> + Drop> Session<L, P> {
             return self.refuse(alloc, message, Refusal::ProtocolFixed);
         }
         make_room(&mut self.outbox, self.held, 1)?;
-        let reply = session_replies::protocol(alloc, protocol)?;
+        let reply = session_states::replies_below::protocol(alloc, protocol)?;
         self.protocol = protocol;
         self.called = true;
         self.outbox.add(Entry::Call(message), Some(reply));

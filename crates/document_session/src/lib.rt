@@ -21,5 +21,6 @@ mod working;
 
 pub use prover_core::Finish;
 pub use session::Session;
+pub use session_states::{jobs_below as jobs_below, lists_below as lists_below};
 pub use taking::Taken;
 pub use working::{Claim, GiveUp};

@@ -2,7 +2,7 @@
 ghost use Rattle.std.specs.Prelude.{◌≡◌, IfOk};
 ghost use Rattle.prover_core.specs.Results.{AreResults};
 ghost use Rattle.session_rules.specs.Session.{document};
-ghost use Rattle.session_lists.specs.Items.{session_in};
+ghost use Rattle.session_states.specs.lists_below.Items.{session_in};
 
 use crate::session::Session;
 use doc_versions::Live;

@@ -5,9 +5,9 @@ ghost use Rattle.reply_outbox.specs.Items.{has_sent, is_lost};
 ghost use Rattle.reply_outbox.specs.Waiting.{bytes_waiting};
 ghost use Rattle.message_values.specs.Workers.{most_workers};
 ghost use Rattle.session_rules.specs.Services.{free_workers};
-ghost use Rattle.session_lists.specs.Items.{heard_in, writer_of};
-ghost use Rattle.session_lists.specs.Legal.{AreLegal};
-ghost use Rattle.session_lists.specs.Pieces.{pieces, AreWaiting};
+ghost use Rattle.session_states.specs.lists_below.Items.{heard_in, writer_of};
+ghost use Rattle.session_states.specs.lists_below.Legal.{AreLegal};
+ghost use Rattle.session_states.specs.lists_below.Pieces.{pieces, AreWaiting};
 
 use crate::session::Session;
 use language::Language;

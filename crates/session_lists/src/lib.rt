@@ -8,3 +8,4 @@
 mod laws;
 
 pub use laws::{history_law, sent_law, unheard_law};
+pub use session_replies as replies_below;

@@ -21,8 +21,8 @@ use Rattle.session_rules.specs.Services.{mode_of}
 use Rattle.session_rules.specs.Session.{Session, document, answered, with_event}
 use Rattle.session_rules.specs.Accepting.{taken}
 use Rattle.session_rules.specs.Replies.{told_to}
-use Rattle.session_replies.specs.Spelling.{spelling}
-use Rattle.session_replies.specs.Cancelled.{cancelling_told}
+use Rattle.session_lists.specs.replies_below.Spelling.{spelling}
+use Rattle.session_lists.specs.replies_below.Cancelled.{cancelling_told}
 use Rattle.session_jobs.specs.Works.{Work}
 use Rattle.session_states.specs.Kept.{session_of, IsKept}
 use Rattle.session_states.proofs.Jobs.{jobs_on}

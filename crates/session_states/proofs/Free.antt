@@ -20,7 +20,7 @@ use Rattle.session_rules.specs.Services.{free_workers}
 use Rattle.session_rules.specs.Session.{Session, document, with_event}
 use Rattle.session_rules.specs.Replies.{claim_told, report_of}
 use Rattle.session_rules.specs.Steps.{Due}
-use Rattle.session_replies.specs.Spelling.{spelling}
+use Rattle.session_lists.specs.replies_below.Spelling.{spelling}
 use Rattle.session_jobs.specs.Works.{Work, WorkDone}
 use Rattle.session_jobs.specs.Works as jobs
 use Rattle.session_states.specs.Holders.{holders, without}

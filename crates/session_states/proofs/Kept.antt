@@ -21,7 +21,7 @@ use Rattle.session_rules.specs.Accepting.{taken}
 use Rattle.session_rules.specs.Legal.{IsSettledIn, awaited_of}
 use Rattle.session_rules.specs.Replies.{told_to}
 use Rattle.session_rules.specs.Steps.{Nothing, due, due_of}
-use Rattle.session_replies.specs.Spelling.{spelling}
+use Rattle.session_lists.specs.replies_below.Spelling.{spelling}
 use Rattle.session_jobs.specs.Works.{Work}
 use Rattle.session_lists.specs.Items.{SessionItem, heard_in}
 use Rattle.session_states.specs.Holders.{holders}

@@ -10,7 +10,7 @@ use Rattle.session_rules.specs.History.{after}
 use Rattle.session_rules.specs.Legal.{MayFollow}
 use Rattle.session_rules.specs.Replies.{told}
 use Rattle.session_rules.specs.Session.{Session}
-use Rattle.session_replies.specs.Spelling.{spelling}
+use Rattle.session_lists.specs.replies_below.Spelling.{spelling}
 use Rattle.session_lists.specs.Items.{SessionItem, heard_in}
 use Rattle.session_lists.specs.Pieces.{pieces, AreWaiting}
 use Rattle.session_lists.specs.Legal.{AreLegal, MayStand}

@@ -18,7 +18,7 @@ use Rattle.session_rules.specs.Services.{mode_of}
 use Rattle.session_rules.specs.Session.{Session, answered}
 use Rattle.session_rules.specs.Accepting.{taken}
 use Rattle.session_rules.specs.Replies.{or_refusal, told_to}
-use Rattle.session_replies.specs.Spelling.{spelling}
+use Rattle.session_lists.specs.replies_below.Spelling.{spelling}
 use Rattle.session_jobs.specs.Works.{Work}
 use Rattle.session_states.specs.Kept.{session_of, AreKeptJobs, IsKept}
 use Rattle.session_lists.specs.Unheard.{IsUnheard}

@@ -21,7 +21,7 @@ use Rattle.session_rules.specs.Session.{Session, document, answered, with_event}
 use Rattle.session_rules.specs.Updating.{removed_by}
 use Rattle.session_rules.specs.Replies.{live_among, or_refusal, told_of, told_to}
 use Rattle.session_rules.specs.Steps.{Nothing, due_by}
-use Rattle.session_replies.specs.Spelling.{spelling}
+use Rattle.session_lists.specs.replies_below.Spelling.{spelling}
 use Rattle.session_jobs.specs.Works.{Work}
 use Rattle.session_states.specs.Kept.{session_of, IsKept}
 use Rattle.session_states.proofs.Jobs.{jobs_on}

@@ -12,7 +12,7 @@ use Rattle.core_jobs.specs.Fits.{IsJobOf, IsDoneOf}
 use Rattle.session_rules.specs.Session.{Session, document}
 use Rattle.session_rules.specs.Shown.{told_in}
 use Rattle.session_rules.specs.Replies.{report_of}
-use Rattle.session_replies.specs.Reported.{source_of}
+use Rattle.session_lists.specs.replies_below.Reported.{source_of}
 use Rattle.session_jobs.specs.Works.{WorkDone}
 use Rattle.session_jobs.specs.Works as jobs
 use Rattle.session_states.specs.Works.{IsDoneWorkOf}

@@ -31,7 +31,7 @@ use Rattle.session_rules.specs.Accepting.{accepted, taken}
 use Rattle.session_rules.specs.Legal.{IsSettledIn, awaited_of}
 use Rattle.session_rules.specs.Replies.{claim_told, or_refusal, report_of, told_to}
 use Rattle.session_rules.specs.Steps.{Due, due, due_by, due_of, called_for}
-use Rattle.session_replies.specs.Spelling.{spelling}
+use Rattle.session_lists.specs.replies_below.Spelling.{spelling}
 use Rattle.session_jobs.specs.Works.{Work, WorkDone}
 use Rattle.session_jobs.specs.Works as jobs
 use Rattle.session_lists.specs.Items.{heard_in}

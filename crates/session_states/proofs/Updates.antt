@@ -28,7 +28,7 @@ use Rattle.session_rules.specs.Session.{Session, document, answered}
 use Rattle.session_rules.specs.Accepting.{taken}
 use Rattle.session_rules.specs.Updating.{with_buffer}
 use Rattle.session_rules.specs.Replies.{or_refusal, rows_told, told_to}
-use Rattle.session_replies.specs.Spelling.{spelling}
+use Rattle.session_lists.specs.replies_below.Spelling.{spelling}
 use Rattle.session_jobs.specs.Works.{Work}
 use Rattle.session_states.specs.Kept.{session_of, IsKept}
 use Rattle.session_states.proofs.Jobs.{jobs_on}

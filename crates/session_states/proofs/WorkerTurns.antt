@@ -27,7 +27,7 @@ use Rattle.session_rules.specs.History.{after}
 use Rattle.session_rules.specs.Legal.{MayFollow, MayClaim, IsTurn}
 use Rattle.session_rules.specs.Replies.{claim_told, report_of, told}
 use Rattle.session_rules.specs.Steps.{Due, Nothing, Claims, Finishes, due}
-use Rattle.session_replies.specs.Spelling.{spelling}
+use Rattle.session_lists.specs.replies_below.Spelling.{spelling}
 use Rattle.session_jobs.specs.Works.{Work, WorkDone}
 use Rattle.session_jobs.specs.Works as jobs
 use Rattle.session_lists.specs.Items.{SessionItem, heard_in}

@@ -6,3 +6,6 @@ pub mod Turns
 pub mod States
 pub mod Messages
 pub mod Workers
+pub use Rattle.session_jobs.specs as jobs_below
+pub use Rattle.session_lists.specs as lists_below
+pub use Rattle.session_lists.specs.replies_below as replies_below

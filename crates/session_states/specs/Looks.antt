@@ -9,7 +9,7 @@ use Rattle.session_rules.specs.Accepting.{taken}
 use Rattle.session_rules.specs.Legal.{IsSettledIn, awaited_of}
 use Rattle.session_rules.specs.Replies.{told_to}
 use Rattle.session_rules.specs.Steps.{Nothing, due_of}
-use Rattle.session_replies.specs.Spelling.{spelling}
+use Rattle.session_lists.specs.replies_below.Spelling.{spelling}
 
 -- what was read is accepted and changes nothing, what it waits for is settled, it calls for no
 -- worker's step, and these bytes are what is told of it

@@ -25,8 +25,8 @@ use Rattle.session_rules.specs.Session.{document}
 use Rattle.session_rules.specs.Accepting.{taken}
 use Rattle.session_rules.specs.Updating.{with_buffer}
 use Rattle.session_rules.specs.Replies.{live_among, rows_told}
-use Rattle.session_replies.specs.Spelling.{spelling}
-use Rattle.session_replies.specs.Cancelled.{cancelling_told}
+use Rattle.session_lists.specs.replies_below.Spelling.{spelling}
+use Rattle.session_lists.specs.replies_below.Cancelled.{cancelling_told}
 use Rattle.session_states.specs.Kept.{session_of}
 use Rattle.session_states.specs.Looks.{IsLook}
 use Rattle.session_states.specs.States.{State, IsSound, IsAdded, moved, heard_with}

@@ -22,7 +22,7 @@ use Rattle.session_rules.specs.declared.service.Service.{Service}
 use Rattle.session_rules.specs.declared.service.Service.TheVariants.{Script}
 use Rattle.session_rules.specs.Services.{free_workers, mode_of}
 use Rattle.session_rules.specs.Session.{document}
-use Rattle.session_replies.specs.Spelling.{spelling}
+use Rattle.session_lists.specs.replies_below.Spelling.{spelling}
 use Rattle.session_jobs.specs.Works.{Work, WorkDone}
 use Rattle.session_lists.specs.Items.{writer_of}
 use Rattle.session_states.specs.Kept.{IsKept}

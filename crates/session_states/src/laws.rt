@@ -5,8 +5,8 @@ ghost use Rattle.session_states.specs.Workers.{FreeLaws, StepLaws, WriterLaws};
 
 use core_rules::first_law;
 use language::Language;
+use session_lists::replies_below::{cancelling_law, report_law};
 use session_lists::{history_law, unheard_law};
-use session_replies::{cancelling_law, report_law};
 
 /// A message that is refused changes nothing but that a message came, and so does one that only
 /// looks.

@@ -8,3 +8,6 @@
 mod laws;
 
 pub use laws::{change_laws, free_laws, look_laws, step_laws, update_law, writer_laws};
+pub use session_jobs as jobs_below;
+pub use session_lists as lists_below;
+pub use session_lists::replies_below as replies_below;

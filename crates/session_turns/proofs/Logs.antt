@@ -7,8 +7,8 @@ use Rattle.hist_lock.specs.Entries.{Grows}
 use Rattle.session_rules.specs.declared.service.Service.{Service}
 use Rattle.session_rules.specs.declared.service.Service.TheVariants.{Workers}
 use Rattle.session_rules.specs.Session.{Session}
-use Rattle.session_lists.specs.Items.{SessionItem, session_in}
-use Rattle.session_lists.specs.Legal.{AreLegal}
+use Rattle.document_session.specs.lists_below.Items.{SessionItem, session_in}
+use Rattle.document_session.specs.lists_below.Legal.{AreLegal}
 use Rattle.thread_views.specs.Callers.{service_of, worker_count}
 use Rattle.thread_views.specs.Histories.{IsLegalLog, session_after}
 

@@ -7,7 +7,7 @@ use Rattle.session_rules.specs.declared.entry.Entry.TheVariants as entry
 use Rattle.session_rules.specs.declared.service.Service.{Service}
 use Rattle.session_rules.specs.declared.service.Service.TheVariants.{Workers}
 use Rattle.session_rules.specs.Steps.{Nothing, due}
-use Rattle.session_lists.specs.Items.{SessionItem, heard_in}
+use Rattle.document_session.specs.lists_below.Items.{SessionItem, heard_in}
 use Rattle.document_session.specs.declared.taking.Taken.{Taken}
 use Rattle.document_session.specs.declared.taking.Taken.TheVariants as taken
 use Rattle.document_session.specs.Answers.{IsAnswered, IsWaiting, TakenSo}

@@ -8,8 +8,8 @@ use Rattle.prover_core.specs.declared.finishing.Finish.TheVariants as finish
 use Rattle.reply_outbox.specs.declared.item.Item.TheVariants as item
 use Rattle.session_rules.specs.declared.entry.Entry.TheVariants as entry
 use Rattle.session_rules.specs.declared.service.Service.{Service}
-use Rattle.session_jobs.specs.Works.{Work}
-use Rattle.session_lists.specs.Items.{SessionItem}
+use Rattle.document_session.specs.jobs_below.Works.{Work}
+use Rattle.document_session.specs.lists_below.Items.{SessionItem}
 use Rattle.document_session.specs.declared.working.Claim.{Claim}
 use Rattle.document_session.specs.declared.working.Claim.TheVariants as claim
 use Rattle.document_session.specs.declared.working.GiveUp.{GiveUp}

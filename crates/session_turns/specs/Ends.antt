@@ -2,7 +2,7 @@
 use Rattle.std.specs.Prelude.{◌≡◌, true, false, List}
 use Rattle.language.specs.Lang.{Lang}
 use Rattle.core_rules.specs.Standing.{has_ended}
-use Rattle.session_lists.specs.Items.{SessionItem}
+use Rattle.document_session.specs.lists_below.Items.{SessionItem}
 use Rattle.thread_views.specs.Histories.{session_after}
 
 module _ {S : Type 0} (l : Lang S) (log : List SessionItem) where

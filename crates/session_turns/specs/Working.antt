@@ -6,7 +6,7 @@ use Rattle.core_rules.specs.Standing.{held}
 use Rattle.reply_outbox.specs.declared.item.Item.TheVariants as item
 use Rattle.reply_outbox.specs.Items.{is_lost}
 use Rattle.session_rules.specs.declared.entry.Entry.TheVariants as entry
-use Rattle.session_lists.specs.Items.{SessionItem}
+use Rattle.document_session.specs.lists_below.Items.{SessionItem}
 use Rattle.document_session.specs.declared.taking.Taken.{Taken}
 use Rattle.document_session.specs.declared.taking.Taken.TheVariants as taken
 use Rattle.document_session.specs.Answers.{ClaimedSo, IsClaimed, IsWaiting}

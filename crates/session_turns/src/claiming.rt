@@ -6,13 +6,14 @@ ghost use Rattle.thread_views.specs.Callers.{service_of, worker_count};
 ghost use Rattle.thread_views.specs.Histories.{IsLegalLog};
 ghost use Rattle.session_turns.specs.Working.{ClaimsSo};
 
+use crate::listening::news_of_claim;
 use crate::locked::Locked;
 use document_session::Claim;
+use document_session::jobs_below::SessionJob;
 use hist_lock::Turn;
 use language::Language;
 use pide_base::Flag;
 use reply_outbox::Past;
-use session_jobs::SessionJob;
 use session_rules::{Entry, Service};
 use std::alloc::Global;
 use thread_views::list_law;
@@ -87,6 +88,7 @@ impl<'a, L: Language, P: Past<Service, Entry> + Drop> Turn<Locked<L, P>> for Cla
 
     fn run(self, state: &mut Locked<L, P>) -> Claiming<L::State> {
         let ClaimTurn { alloc, lang, who } = self;
+        state.note(news_of_claim());
         state.claim(alloc, lang, who)
     }
 }

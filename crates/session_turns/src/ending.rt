@@ -2,17 +2,18 @@
 ghost use Rattle.std.specs.Prelude.{◌≡◌, ◌≤◌, reverse, Some};
 ghost use Rattle.hist_lock.specs.Entries.{Grows};
 ghost use Rattle.core_rules.specs.Standing.{held};
-ghost use Rattle.session_states.specs.Works.{IsDoneWorkOf};
+ghost use Rattle.document_session.specs.states_below.Works.{IsDoneWorkOf};
 ghost use Rattle.document_session.specs.Answers.{FinishedSo, GivenUpSo};
 ghost use Rattle.thread_views.specs.Callers.{service_of, worker_count};
 ghost use Rattle.thread_views.specs.Histories.{IsLegalLog, session_after};
 
+use crate::listening::news_of_end;
 use crate::locked::Locked;
+use document_session::jobs_below::{SessionDone, SessionJob};
 use document_session::{Finish, GiveUp};
 use hist_lock::Turn;
 use language::Language;
 use reply_outbox::Past;
-use session_jobs::{SessionDone, SessionJob};
 use session_rules::{Entry, Service};
 use thread_views::list_law;
 
@@ -62,6 +63,7 @@ impl<L: Language, P: Past<Service, Entry> + Drop> Turn<Locked<L, P>> for FinishT
 
     fn run(self, state: &mut Locked<L, P>) -> Finish {
         let FinishTurn { who, done } = self;
+        state.note(news_of_end(who));
         state.finish(who, done)
     }
 }
@@ -84,6 +86,7 @@ impl<L: Language, P: Past<Service, Entry> + Drop> Turn<Locked<L, P>> for GiveUpT
 
     fn run(self, state: &mut Locked<L, P>) -> GiveUp<L::State> {
         let GiveUpTurn { who, job } = self;
+        state.note(news_of_end(who));
         state.give_up(who, job)
     }
 }

@@ -1,13 +1,13 @@
 //! A session as a state that callers share.
 ghost use Rattle.std.specs.Prelude.{◌≡◌, ◌↔◌, ℕ, ◌+◌, true, reverse};
 ghost use Rattle.session_rules.specs.declared.service.Service.TheVariants.{Workers};
-ghost use Rattle.session_lists.specs.Legal.{AreLegal};
+ghost use Rattle.document_session.specs.lists_below.Legal.{AreLegal};
 ghost use Rattle.thread_views.specs.Callers.{service_of, whose, worker_count};
 ghost use Rattle.thread_views.specs.Histories.{IsLegalLog};
 ghost use Rattle.thread_views.specs.Idle.{HasNothingToDo};
 
 use document_session::Session;
-use hist_lock::State;
+use hist_lock::{News, State};
 use language::Language;
 use reply_outbox::{Item, Past};
 use session_rules::{Entry, Service};
@@ -19,6 +19,8 @@ use thread_views::list_law;
 #[derive(Drop)]
 pub struct Locked<L: Language, P: Past<Service, Entry>> {
     pub(crate) session: Session<L, P>,
+    /// For whom the item is news that came last. No contract speaks of it.
+    pub(crate) news: News,
 }
 
 impl<L: Language, P: Past<Service, Entry>> Model for Locked<L, P> {
@@ -46,7 +48,10 @@ impl<L: Language, P: Past<Service, Entry> + Drop> Locked<L, P> {
         ensures waiting { result.waiting ≡ session.waiting }
     {
         list_law::<L>();
-        Locked { session }
+        Locked {
+            session,
+            news: News::for_all(),
+        }
     }
 
     /// The session.
@@ -56,6 +61,13 @@ impl<L: Language, P: Past<Service, Entry> + Drop> Locked<L, P> {
         ensures waiting { result.waiting ≡ self.waiting }
     {
         self.session
+    }
+
+    /// Notes for whom the item is news that comes in this turn.
+    pub(crate) fn note(&mut self, news: News)
+        ensures { self.new ≡ self.old }
+    {
+        self.news = news;
     }
 
     /// How many workers there are.
@@ -89,5 +101,9 @@ impl<L: Language, P: Past<Service, Entry> + Drop> State for Locked<L, P> {
 
     fn count(&self) -> u64 {
         self.session.count()
+    }
+
+    fn news(&self) -> News {
+        self.news
     }
 }

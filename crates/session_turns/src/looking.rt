@@ -9,7 +9,7 @@ ghost use Rattle.thread_views.specs.Histories.{IsLegalLog, session_after};
 ghost use Rattle.session_turns.specs.Ends.{IsGoing};
 
 use crate::locked::Locked;
-use hist_lock::Turn;
+use hist_lock::{News, Turn};
 use language::Language;
 use reply_outbox::Past;
 use session_rules::{Entry, Service};
@@ -72,6 +72,7 @@ impl<L: Language, P: Past<Service, Entry> + Drop> Turn<Locked<L, P>> for EndTurn
     ghost gives = { λ call old answer new. new.log ≡ old.log ++ item.Made entry.Ended ∷ [] };
 
     fn run(self, state: &mut Locked<L, P>) {
+        state.note(News::for_all());
         state.end();
     }
 }

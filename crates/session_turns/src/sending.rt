@@ -7,8 +7,9 @@ ghost use Rattle.thread_views.specs.Callers.{worker_count};
 ghost use Rattle.thread_views.specs.Histories.{IsLegalLog};
 ghost use Rattle.session_turns.specs.Sending.{FindsNone, SendsSo, TakesPiece};
 
+use crate::listening::news_of_sending;
 use crate::locked::Locked;
-use hist_lock::Turn;
+use hist_lock::{News, Turn};
 use language::Language;
 use reply_outbox::Past;
 use session_rules::{Entry, Service};
@@ -92,7 +93,11 @@ impl<L: Language, P: Past<Service, Entry> + Drop> Turn<Locked<L, P>> for SendTur
     ghost gives = { λ call old answer new. SendsSo L.lang call.who old.log answer new.log };
 
     fn run(self, state: &mut Locked<L, P>) -> Sending {
-        state.send(self.who)
+        let was_backed_up = state.is_backed_up();
+        let sending = state.send(self.who);
+        let makes_room = was_backed_up && !state.is_backed_up();
+        state.note(news_of_sending(makes_room));
+        sending
     }
 }
 
@@ -109,6 +114,7 @@ impl<L: Language, P: Past<Service, Entry> + Drop> Turn<Locked<L, P>> for LoseTur
         ≡ old.log ++ item.Lost (worker_count old.log + 1) ∷ [] };
 
     fn run(self, state: &mut Locked<L, P>) {
+        state.note(News::for_all());
         state.lose();
     }
 }

@@ -6,6 +6,7 @@ ghost use Rattle.session_turns.specs.Ends.{IsGoing};
 ghost use Rattle.session_turns.specs.Room.{is_backed_up};
 ghost use Rattle.session_turns.specs.Working.{AnswersSo, MustWait, TakesSo};
 
+use crate::listening::news_of_message;
 use crate::locked::Locked;
 use byte_message::Message;
 use document_session::{Claim, Taken};
@@ -35,7 +36,7 @@ const MOST_WAITING: u128 = 0x10_0000;
 
 impl<L: Language, P: Past<Service, Entry> + Drop> Locked<L, P> {
     /// Whether more waits for the writer, which has begun to take replies.
-    fn is_backed_up(&self) -> bool
+    pub(crate) fn is_backed_up(&self) -> bool
         ensures { result ≡ is_backed_up self.now }
     {
         self.session.has_sent() && self.session.bytes_waiting() > MOST_WAITING
@@ -112,6 +113,7 @@ impl<'a, L: Language, P: Past<Service, Entry> + Drop> Turn<Locked<L, P>> for Tak
             lang,
             message,
         } = self;
+        state.note(news_of_message());
         state.take(alloc, lang, message)
     }
 }

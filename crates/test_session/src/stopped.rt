@@ -2,16 +2,16 @@
 ghost use Rattle.std.specs.Prelude.{◌≡◌, IfOk, Some};
 ghost use Rattle.core_rules.specs.Standing.{held};
 ghost use Rattle.session_rules.specs.declared.service.Service.TheVariants as service_is;
-ghost use Rattle.session_lists.specs.Items.{session_in};
-ghost use Rattle.session_states.specs.Works.{IsWorkOf};
+ghost use Rattle.document_session.specs.lists_below.Items.{session_in};
+ghost use Rattle.document_session.specs.states_below.Works.{IsWorkOf};
 
 use crate::messages::{CANCEL, CANCELLED, LET_GO, PROVED, UPDATE, message};
 use crate::steps::{Past, WORKER, begun, claimed, finished, replied, told, worked};
+use document_session::jobs_below::{SessionJob, SessionRan};
 use document_session::{Claim, GiveUp, Session};
 use language::Language;
 use pide_base::{Flag, PartKind};
 use pide_io::NthStop;
-use session_jobs::{SessionJob, SessionRan};
 use std::alloc::Global;
 use std::test::Fail;
 use toplevel::Isar;

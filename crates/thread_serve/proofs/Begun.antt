@@ -13,12 +13,12 @@ use Rattle.hist_lock.specs.Passes.{view, IsPassOf}
 use Rattle.worker_loop.specs.Held.{held_in}
 use Rattle.reply_outbox.specs.declared.item.Item.TheVariants as item
 use Rattle.session_rules.specs.declared.service.Service.TheVariants.{Workers}
-use Rattle.session_lists.specs.Items.{SessionItem}
-use Rattle.thread_views.specs.Callers.{whose}
-use Rattle.thread_views.specs.Histories.{replies_after}
-use Rattle.thread_views.specs.Says.{says}
-use Rattle.thread_views.specs.Sent.{bytes_sent, joined_bytes, sent_count}
-use Rattle.session_crew.specs.Reading.{HasNoEnd}
+use Rattle.session_turns.specs.lists_below.Items.{SessionItem}
+use Rattle.session_turns.specs.views_below.Callers.{whose}
+use Rattle.session_turns.specs.views_below.Histories.{replies_after}
+use Rattle.session_turns.specs.views_below.Says.{says}
+use Rattle.session_turns.specs.views_below.Sent.{bytes_sent, joined_bytes, sent_count}
+use Rattle.session_turns.specs.Reading.{HasNoEnd}
 use Rattle.thread_serve.specs.Joins.{NoEnd}
 use Rattle.thread_serve.specs.Reader.{IsAtRest, calls_made}
 use Rattle.thread_serve.specs.Stopped.{IsWriter}

@@ -14,15 +14,15 @@ use Rattle.session_rules.specs.declared.service.Service.TheVariants.{Workers}
 use Rattle.session_rules.specs.Heard.{Heard}
 use Rattle.session_rules.specs.Legal.{IsLegal}
 use Rattle.session_rules.specs.Replies.{replies}
-use Rattle.session_lists.specs.Items.{SessionItem, heard_in}
-use Rattle.session_lists.specs.Legal.{AreLegal}
-use Rattle.session_lists.specs.Pieces.{pieces}
-use Rattle.session_lists.specs.Sent.{IsFrontSent}
-use Rattle.thread_views.specs.Callers.{service_of, whose, worker_count}
-use Rattle.thread_views.specs.Histories.{IsLegalLog, session_after}
-use Rattle.thread_views.specs.Idle.{Waits}
-use Rattle.thread_views.specs.Says.{says}
-use Rattle.thread_views.specs.Sent.{bytes_sent, joined_bytes}
+use Rattle.session_turns.specs.lists_below.Items.{SessionItem, heard_in}
+use Rattle.session_turns.specs.lists_below.Legal.{AreLegal}
+use Rattle.session_turns.specs.lists_below.Pieces.{pieces}
+use Rattle.session_turns.specs.lists_below.Sent.{IsFrontSent}
+use Rattle.session_turns.specs.views_below.Callers.{service_of, whose, worker_count}
+use Rattle.session_turns.specs.views_below.Histories.{IsLegalLog, session_after}
+use Rattle.session_turns.specs.views_below.Idle.{Waits}
+use Rattle.session_turns.specs.views_below.Says.{says}
+use Rattle.session_turns.specs.views_below.Sent.{bytes_sent, joined_bytes}
 
 -- what lists tell, the newest item first
 pub record ListLaws {S : Type 0} (l : Lang S) : Type 0 where

@@ -4,13 +4,13 @@ use Rattle.language.specs.Lang.{Lang}
 use Rattle.hist_lock.specs.declared.view.View.{View}
 use Rattle.worker_loop.specs.Held.{held_in}
 use Rattle.worker_loop.specs.Stays.{Stays}
-use Rattle.session_lists.specs.Items.{SessionItem}
-use Rattle.document_session.specs.declared.working.Claim.{Claim}
-use Rattle.document_session.specs.declared.working.Claim.TheVariants as claim
-use Rattle.thread_views.specs.Histories.{IsLegalLog}
-use Rattle.thread_views.specs.Idle.{HasNothingToDo}
-use Rattle.thread_views.specs.Says.{says}
-use Rattle.thread_views.specs.Works.{IsRightWork}
+use Rattle.session_turns.specs.lists_below.Items.{SessionItem}
+use Rattle.session_turns.specs.sessions_below.declared.working.Claim.{Claim}
+use Rattle.session_turns.specs.sessions_below.declared.working.Claim.TheVariants as claim
+use Rattle.session_turns.specs.views_below.Histories.{IsLegalLog}
+use Rattle.session_turns.specs.views_below.Idle.{HasNothingToDo}
+use Rattle.session_turns.specs.views_below.Says.{says}
+use Rattle.session_turns.specs.views_below.Works.{IsRightWork}
 
 -- it holds the part of a right job; or it holds none, and may wait for another item where it was
 -- told so

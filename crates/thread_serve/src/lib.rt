@@ -19,5 +19,7 @@ mod status;
 mod together;
 mod working;
 
+pub use document_serve as serving_below;
 pub use run::serve;
 pub use served::Served;
+pub use session_turns::sessions_below as sessions_below;

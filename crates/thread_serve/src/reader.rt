@@ -7,9 +7,8 @@ use language::Language;
 use message_input::{Answering, Halt};
 use pide_base::Gate;
 use reply_outbox::Past;
-use session_crew::Crew;
 use session_rules::{Entry, Service};
-use session_turns::Locked;
+use session_turns::{Crew, Locked};
 use std::sync::Wait;
 
 /// Has each message answered at its own turn.

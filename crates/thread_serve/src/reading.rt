@@ -13,9 +13,8 @@ use language::Language;
 use message_input::answer_input;
 use pide_base::{Gate, Source, Status};
 use reply_outbox::Past;
-use session_crew::Crew;
 use session_rules::{Entry, Service};
-use session_turns::Locked;
+use session_turns::{Crew, Locked};
 use std::sync::Wait;
 
 /// What the reader brings back.

@@ -13,15 +13,14 @@ ghost use Rattle.thread_serve.specs.Promises.{IsServed, LosesOnly, NobodyHolds};
 use crate::finishing::finish;
 use crate::served::Served;
 use crate::together::run_together;
-use document_session::Session;
-use hist_lock::{Pass, Shared};
+use hist_lock::{Pass, Role, Shared};
 use language::Language;
 use pide_base::{Gate, Sink, Source, Status};
 use reply_outbox::Past;
-use session_crew::Crew;
-use session_lists::history_law;
 use session_rules::{Entry, Service};
-use session_turns::Locked;
+use session_turns::lists_below::history_law;
+use session_turns::sessions_below::Session;
+use session_turns::{Crew, Locked};
 use std::alloc::{AllocFailed, Global};
 use std::sync::Wait;
 use std::thread::Threads;
@@ -97,7 +96,7 @@ where
 {
     let mut reader = reader;
     let passes = split_workers::<Locked<L, P>, Crew<'_, L>>(&lock, &mut reader, passes, count);
-    let writer = lock.split(&mut reader);
+    let writer = lock.split(&mut reader, Role::Writer);
     let (stopped, read) = run_together(
         rt,
         crew,

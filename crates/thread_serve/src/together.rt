@@ -6,7 +6,7 @@ ghost use Rattle.pide_base.specs.Faults.{Rose};
 ghost use Rattle.hist_lock.specs.Known.{IsSameCaller};
 ghost use Rattle.hist_lock.specs.Passes.{view, IsPassOf};
 ghost use Rattle.worker_loop.specs.Crew.{AreBack, AreWorkers};
-ghost use Rattle.thread_views.specs.Says.{says};
+ghost use Rattle.session_turns.specs.views_below.Says.{says};
 ghost use Rattle.thread_serve.specs.Reader.{IsAtRest, calls_made};
 ghost use Rattle.thread_serve.specs.Stopped.{HasRead, HasWritten, IsWriter};
 
@@ -16,9 +16,8 @@ use hist_lock::{Pass, Shared};
 use language::Language;
 use pide_base::{Gate, Sink, Source, Status};
 use reply_outbox::Past;
-use session_crew::Crew;
 use session_rules::{Entry, Service};
-use session_turns::Locked;
+use session_turns::{Crew, Locked};
 use std::sync::Wait;
 use std::thread::{Threads, join};
 

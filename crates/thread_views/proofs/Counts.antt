@@ -9,7 +9,7 @@ use Rattle.session_rules.specs.declared.service.Service.{Service}
 use Rattle.session_rules.specs.declared.service.Service.TheVariants.{Workers}
 use Rattle.session_rules.specs.Heard.{heard}
 use Rattle.session_rules.specs.Replies.{told}
-use Rattle.session_replies.specs.Spelling.{spelling}
+use Rattle.session_lists.specs.replies_below.Spelling.{spelling}
 use Rattle.session_lists.specs.Items.{SessionItem, heard_in}
 use Rattle.session_lists.specs.Legal.{AreLegal, MayStand}
 use Rattle.session_lists.specs.Pieces.{pieces}

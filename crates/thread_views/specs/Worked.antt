@@ -8,7 +8,7 @@ use Rattle.reply_writing.specs.declared.told.Told.TheVariants as tells
 use Rattle.core_rules.specs.Small.{small, eval}
 use Rattle.session_rules.specs.declared.entry.Entry.TheVariants.{Call, Claimed, Finished, Ended}
 use Rattle.session_rules.specs.declared.service.Service.TheVariants.{Workers}
-use Rattle.session_replies.specs.Spelling.{spelling}
+use Rattle.session_lists.specs.replies_below.Spelling.{spelling}
 use Rattle.session_lists.specs.Items.{SessionItem}
 use Rattle.thread_views.specs.Callers.{whose}
 use Rattle.thread_views.specs.Histories.{IsLegalLog}

@@ -14,8 +14,8 @@ use Rattle.prover_core.specs.Removal.{with_removal}
 use Rattle.prover_core.specs.States.{CoreState}
 use Rattle.session_rules.specs.Services.{mode_of}
 use Rattle.session_rules.specs.Replies.{live_among}
-use Rattle.session_replies.specs.Removed.{IsRisen}
-use Rattle.session_lists.specs.Items.{SessionItem, session_in}
+use Rattle.session_states.specs.replies_below.Removed.{IsRisen}
+use Rattle.session_states.specs.lists_below.Items.{SessionItem, session_in}
 use Rattle.session_states.specs.Kept.{session_of, IsKept}
 use Rattle.document_session.specs.Contents.{SessionState}
 use Rattle.document_session.proofs.Inside.{going_on, known_inside}

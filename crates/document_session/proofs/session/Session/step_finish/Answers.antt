@@ -4,8 +4,8 @@ use Rattle.message_values.specs.declared.editor_message.EditorMessage.TheVariant
 use Rattle.prover_core.specs.Looked.{looked}
 use Rattle.session_rules.specs.Services.{mode_of}
 use Rattle.session_rules.proofs.KnownScript.{script_finishes}
-use Rattle.session_jobs.specs.Works.{Work}
-use Rattle.session_replies.specs.Spelling.{spelling}
+use Rattle.session_states.specs.jobs_below.Works.{Work}
+use Rattle.session_states.specs.replies_below.Spelling.{spelling}
 use Rattle.session_states.specs.Turns.{entry_of, told_of}
 use Rattle.session_states.specs.Works.{IsDoneWorkOf}
 use Rattle.document_session.proofs.Holding.{one_held}

@@ -1,6 +1,0 @@
-mod Lists
-mod Turns
-mod Claims
-mod Ended
-mod Sends
-mod Takes
