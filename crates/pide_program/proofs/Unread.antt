@@ -9,7 +9,7 @@ use Rattle.markup_lines.specs.Lines.{lines}
 use Rattle.std.specs.Io.KnownBytes.{Appends}
 use Rattle.made_summary.specs.Summary.{summary_lines}
 use Rattle.pide_check.specs.Checked.{IsChecked}
-use Rattle.pide_gen.specs.Generated.{IsGenerated}
+use Rattle.pide_program.specs.Generated.{IsGenerated}
 
 nothing_checked : {S : Type 0} (l : Lang S) (left held : Option (List ℕ)) → IsChecked l status.NoMemory left left held held
 nothing_checked l left held = ([], Consumes-nil left, omega (arith), ([], lines l (chars []), refl, Appends-nil held))

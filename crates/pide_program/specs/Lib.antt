@@ -1,3 +1,8 @@
 pub mod Words
 pub mod Limit
 pub mod Held
+pub mod Headline
+pub mod Outcomes
+pub mod Answered
+pub mod Generated
+pub mod Told

@@ -1,5 +1,6 @@
 -- What the program does for the words of the command line (this project's own).
-use Rattle.std.specs.Prelude.{ℕ, nat_le, Bool, true, false, ◌&&◌, ◌||◌, List, Option, Some, Result}
+use Rattle.std.specs.Prelude.{ℕ, nat_le, Bool, true, false, ◌&&◌, ◌||◌, List, map, Option, Some}
+use Rattle.std.specs.Borrow.{Bor}
 use Rattle.command_words.specs.declared.request.Request.{Request}
 use Rattle.command_words.specs.declared.request.Request.TheVariants as request
 use Rattle.command_words.specs.Asked.{asked}
@@ -7,12 +8,6 @@ use Rattle.session_rules.specs.declared.service.Service.{Service}
 use Rattle.session_rules.specs.declared.service.Service.TheVariants as service
 use Rattle.made_document.specs.Texts.{most_nodes}
 use Rattle.message_values.specs.Workers.{most_workers}
-use Rattle.message_values.specs.declared.editor_message.EditorMessage.{EditorMessage}
-use Rattle.message_values.specs.declared.refusal.Refusal.{Refusal}
-use Rattle.session_rules.specs.Heard.{Heard}
-use Rattle.session_lists.specs.Items.{heard_in}
-use Rattle.session_laws.specs.Promises.{EachMessage}
-use Rattle.document_session.specs.Contents.{SessionState}
 
 -- messages are served beside as many workers as there may be, and as a script tells
 abbrev pub serves : Option Request → Bool
@@ -45,35 +40,34 @@ abbrev pub service_for : Option Request → Service
 service_for (Some (request.Serve workers)) = service.Workers workers
 service_for _ = service.Script
 
+-- what words that are lent ask for
+abbrev pub request_of : List (Bor (List ℕ)) → Option Request
+request_of words = asked (map (λ w. w.now) words)
+
 -- the words are `serve`, with a number of workers or without, or `replay`
-abbrev pub is_served : List (List ℕ) → Bool
-is_served words = serves (asked words)
+abbrev pub is_served : List (Bor (List ℕ)) → Bool
+is_served words = serves (request_of words)
 
 -- the word is `check`
-abbrev pub is_check : List (List ℕ) → Bool
-is_check words = checks (asked words)
+abbrev pub is_check : List (Bor (List ℕ)) → Bool
+is_check words = checks (request_of words)
 
 -- the words are `build`, with a number of workers or without
-abbrev pub is_build : List (List ℕ) → Bool
-is_build words = builds (asked words)
+abbrev pub is_build : List (Bor (List ℕ)) → Bool
+is_build words = builds (request_of words)
 
 -- the words are `gen` with a number of nodes, and with a number of workers or without
-abbrev pub is_gen : List (List ℕ) → Bool
-is_gen words = makes (asked words)
+abbrev pub is_gen : List (Bor (List ℕ)) → Bool
+is_gen words = makes (request_of words)
 
 -- the number of nodes
-abbrev pub nodes_of : List (List ℕ) → ℕ
-nodes_of words = nodes_for (asked words)
+abbrev pub nodes_of : List (Bor (List ℕ)) → ℕ
+nodes_of words = nodes_for (request_of words)
 
 -- the words are taken
-abbrev pub is_taken : List (List ℕ) → Bool
+abbrev pub is_taken : List (Bor (List ℕ)) → Bool
 is_taken words = is_served words || (is_check words || (is_build words || is_gen words))
 
 -- how the words ask to be served
-abbrev pub service_of : List (List ℕ) → Service
-service_of words = service_for (asked words)
-
--- of each message of a session's history, behind the entries before it
-abbrev pub EachOf : (Service → List Heard → Result EditorMessage Refusal → Type 0) → SessionState
-    → Type 0
-EachOf Holds s = EachMessage (Holds s.service) (heard_in s.service s.items)
+abbrev pub service_of : List (Bor (List ℕ)) → Service
+service_of words = service_for (request_of words)

@@ -5,9 +5,12 @@
 //! texts checked.
 #![tactic(auto)]
 
+mod laws;
+mod made;
 mod outcome;
 mod program;
 mod running;
 
+pub use laws::one_outcome_law;
 pub use outcome::Outcome;
 pub use program::pide;

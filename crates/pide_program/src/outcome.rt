@@ -1,8 +1,8 @@
 //! What a run hands back.
-use document_session::Session;
 use pide_base::Status;
 use reply_outbox::Past;
 use session_rules::{Entry, Service};
+use thread_serve::sessions_below::Session;
 use toplevel::Isar;
 
 /// How a run ended, the source and sink that it was given, and its session, which lends the list of

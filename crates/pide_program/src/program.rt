@@ -1,16 +1,13 @@
 //! The one call that the program makes.
-ghost use Rattle.std.specs.Prelude.{◌≡◌, ◌⊎◌, ℕ, true, false, [], map, IsOk, IsErr, IfOk, IfErr};
+ghost use Rattle.std.specs.Prelude.{◌≡◌, ◌⊎◌, true, false, [], IsOk, IsErr, IfOk, IfErr};
 ghost use Rattle.pide_base.specs.Faults.{Rose};
 ghost use Rattle.pide_check.specs.Checked.{ChecksWhole, IsChecked};
-ghost use Rattle.message_input.specs.Causes.{BadFrameSo, CompleteSo, DoneSo, HasCause, LongSo, TruncatedSo};
-ghost use Rattle.document_serve.specs.Headline.{BytesWritten, MadeAlone, MessagesRead, OneLegalHistory};
-ghost use Rattle.pide_gen.specs.Generated.{IsGenerated};
+ghost use Rattle.message_input.specs.Causes.{CompleteSo, HasCause};
 ghost use Rattle.isar_rules.specs.Isar.{isar};
-ghost use Rattle.session_rules.specs.Services.{free_workers};
-ghost use Rattle.session_laws.specs.Promises.{CoversSo, ShowsSo};
 ghost use Rattle.pide_build.specs.Runs.{IsBuild};
-ghost use Rattle.pide_program.specs.Words.{EachOf, is_build, is_check, is_gen, is_served, is_taken, nodes_of, service_of};
-ghost use Rattle.pide_program.specs.Held.{HoldsSo};
+ghost use Rattle.pide_program.specs.Generated.{IsGenerated};
+ghost use Rattle.pide_program.specs.Headline.{Headline};
+ghost use Rattle.pide_program.specs.Words.{is_build, is_check, is_gen, is_served, is_taken, nodes_of, service_of};
 ghost use Rattle.pide_program.specs.Limit.{input_limit};
 
 use crate::outcome::Outcome;
@@ -20,12 +17,10 @@ use crate::running::{
 use command_words::{Request, asked};
 use pide_base::{Gate, Sink, Source, Status};
 use reply_outbox::Past;
-use session_laws::headline_law;
 use session_rules::{Entry, Service};
 use std::alloc::Global;
 use std::sync::Wait;
 use std::thread::Threads;
-use toplevel::Isar;
 
 /// Does what the words ask: serves the messages of the source, each when it is whole, on this
 /// thread alone, which writes the replies before more is read, or beside workers and a writer in
@@ -43,71 +38,53 @@ pub fn pide<
     P: Past<Service, Entry> + Drop + Send,
 >(rt: &R, alloc: Global, words: &[&str], source: S, sink: K, gate: &G, past: P) -> Outcome<S, K, P>
     requires empty { P.items past ≡ [] }
-    ensures bytes_written { IfOk result.session (λ s. BytesWritten isar result.status
-        (K.contents sink) (K.contents result.sink) s) }
-    ensures one_legal_history { IfOk result.session (λ s. OneLegalHistory isar result.status s) }
-    ensures messages_read { IfOk result.session (λ s. MessagesRead result.status
-        (S.left source) (S.left result.source) s) }
-    ensures shows_and_lists { IfOk result.session (λ s. EachOf (ShowsSo isar) s) }
-    ensures covers { IfOk result.session (λ s. EachOf (CoversSo isar) s) }
-    ensures alone { IfOk result.session (λ s. free_workers s.service ≡ 0 → MadeAlone isar
-        result.status (S.left source) (S.left result.source) s) }
-    ensures nobody_holds { IfOk result.session (λ s. HoldsSo isar result.status s) }
-
-    ensures service { IfOk result.session (λ s. s.service
-        ≡ service_of (map (λ w. w.now) words.now)) }
-    ensures served { is_served (map (λ w. w.now) words.now) ≡ true
+    ensures headline { IfOk result.session (λ s. Headline result.status (S.left source)
+        (S.left result.source) (K.contents sink) (K.contents result.sink) s) }
+    ensures service { IfOk result.session (λ s. s.service ≡ service_of words.now) }
+    ensures served { is_served words.now ≡ true
         → IsOk result.session ⊎ (result.status ≡ Status.NoMemory) }
+    ensures complete { is_served words.now ≡ true
+        → CompleteSo input_limit (S.left source) (S.faults source) (S.faults result.source)
+        (K.faults sink) (K.faults result.sink) result.status }
+
+    ensures unserved { is_served words.now ≡ false → IsErr result.session }
     ensures handed_back { IfErr result.session (λ list. P.items list ≡ []) }
-    ensures unserved { is_served (map (λ w. w.now) words.now) ≡ false → IsErr result.session }
-    ensures unbegun { IsErr result.session → is_check (map (λ w. w.now) words.now) ≡ false
-        → is_build (map (λ w. w.now) words.now) ≡ false
-        → is_gen (map (λ w. w.now) words.now) ≡ false
+    ensures unbegun { IsErr result.session → is_check words.now ≡ false
+        → is_build words.now ≡ false → is_gen words.now ≡ false
         → (result.source ≡ source) × (result.sink ≡ sink) }
-    ensures lines_written { is_check (map (λ w. w.now) words.now) ≡ true
+
+    ensures lines_written { is_check words.now ≡ true
         → IsChecked isar result.status (S.left source) (S.left result.source) (K.contents sink)
         (K.contents result.sink) }
-    ensures replies_built { is_build (map (λ w. w.now) words.now) ≡ true
+    ensures checks_whole { is_check words.now ≡ true
+        → ChecksWhole (S.left source) (S.faults source) (S.faults result.source) (K.faults sink)
+        (K.faults result.sink) result.status }
+
+    ensures replies_built { is_build words.now ≡ true
         → IsBuild isar result.status (S.left source) (S.left result.source) (K.contents sink)
         (K.contents result.sink) }
-    ensures generated { is_gen (map (λ w. w.now) words.now) ≡ true
-        → IsGenerated isar (nodes_of (map (λ w. w.now) words.now)) result.status
-        (K.contents sink) (K.contents result.sink) }
-    ensures unread { is_gen (map (λ w. w.now) words.now) ≡ true → result.source ≡ source }
+    ensures build_causes { is_build words.now ≡ true
+        → HasCause input_limit result.status (S.left source) (S.left result.source) }
+    ensures builds_whole { is_build words.now ≡ true
+        → CompleteSo input_limit (S.left source) (S.faults source) (S.faults result.source)
+        (K.faults sink) (K.faults result.sink) result.status }
 
-    ensures usage { result.status ≡ Status.Usage → is_taken (map (λ w. w.now) words.now) ≡ false }
-    ensures refused { is_taken (map (λ w. w.now) words.now) ≡ false
+    ensures generated { is_gen words.now ≡ true
+        → IsGenerated isar (nodes_of words.now) result.status (K.contents sink)
+        (K.contents result.sink) }
+    ensures unread { is_gen words.now ≡ true → result.source ≡ source }
+    ensures generates_whole { is_gen words.now ≡ true
+        → (Rose (K.faults sink) (K.faults result.sink) → ⊥)
+        → (result.status ≡ Status.Done) ⊎ (result.status ≡ Status.NoMemory) }
+
+    ensures usage { result.status ≡ Status.Usage → is_taken words.now ≡ false }
+    ensures refused { is_taken words.now ≡ false
         → (result.status ≡ Status.Usage) ⊎ (result.status ≡ Status.NoMemory) }
     ensures read_fault { result.status ≡ Status.ReadFault
         → Rose (S.faults source) (S.faults result.source) }
     ensures write_fault { result.status ≡ Status.WriteFault
         → Rose (K.faults sink) (K.faults result.sink) }
-    ensures bad_frame { (at : ℕ) → result.status ≡ Status.BadFrame at
-        → BadFrameSo at (S.left source) (S.left result.source) }
-    ensures truncated { (at : ℕ) → result.status ≡ Status.Truncated at
-        → TruncatedSo at (S.left source) (S.left result.source) }
-    ensures long_input { IsOk result.session
-        → LongSo input_limit result.status (S.left source) (S.left result.source) }
-    ensures done { IsOk result.session → result.status ≡ Status.Done
-        → DoneSo (S.left source) (S.left result.source) }
-    ensures bad_text { (at : ℕ) → result.status ≡ Status.BadText at
-        → is_check (map (λ w. w.now) words.now) ≡ true }
-    ensures complete { is_served (map (λ w. w.now) words.now) ≡ true
-        → CompleteSo input_limit (S.left source) (S.faults source) (S.faults result.source)
-        (K.faults sink) (K.faults result.sink) result.status }
-    ensures build_causes { is_build (map (λ w. w.now) words.now) ≡ true
-        → HasCause input_limit result.status (S.left source) (S.left result.source) }
-    ensures builds_whole { is_build (map (λ w. w.now) words.now) ≡ true
-        → CompleteSo input_limit (S.left source) (S.faults source) (S.faults result.source)
-        (K.faults sink) (K.faults result.sink) result.status }
-    ensures checks_whole { is_check (map (λ w. w.now) words.now) ≡ true
-        → ChecksWhole (S.left source) (S.faults source) (S.faults result.source) (K.faults sink)
-        (K.faults result.sink) result.status }
-    ensures generates_whole { is_gen (map (λ w. w.now) words.now) ≡ true
-        → (Rose (K.faults sink) (K.faults result.sink) → ⊥)
-        → (result.status ≡ Status.Done) ⊎ (result.status ≡ Status.NoMemory) }
 {
-    headline_law::<Isar>();
     match asked(alloc, words) {
         Ok(Some(Request::Serve { workers: 0 })) => {
             serve_alone(alloc, Service::Workers { count: 0 }, source, sink, past)

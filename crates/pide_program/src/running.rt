@@ -2,32 +2,30 @@
 ghost use Rattle.std.specs.Prelude.{◌≡◌, ◌≢◌, ◌≤◌, ◌⊎◌, ℕ, [], Err, IsOk, IsErr, IfOk, IfErr};
 ghost use Rattle.pide_base.specs.Faults.{Rose};
 ghost use Rattle.pide_check.specs.Checked.{ChecksWhole, IsChecked};
-ghost use Rattle.message_input.specs.Causes.{BadFrameSo, CompleteSo, DoneSo, HasCause, LongSo, TruncatedSo};
+ghost use Rattle.message_input.specs.Causes.{CompleteSo, HasCause};
 ghost use Rattle.pide_build.specs.Runs.{IsBuild};
-ghost use Rattle.document_serve.specs.Headline.{IsRun};
-ghost use Rattle.pide_gen.specs.Generated.{IsGenerated};
+ghost use Rattle.pide_program.specs.Generated.{IsGenerated};
 ghost use Rattle.isar_rules.specs.Isar.{isar};
 ghost use Rattle.made_document.specs.Texts.{most_nodes};
 ghost use Rattle.message_values.specs.Workers.{most_workers};
 ghost use Rattle.session_rules.specs.Services.{free_workers};
 ghost use Rattle.session_rules.specs.declared.service.Service.TheVariants.{Workers};
-ghost use Rattle.thread_serve.specs.Promises.{IsServed};
-ghost use Rattle.pide_program.specs.Held.{HoldsSo};
+ghost use Rattle.pide_program.specs.Headline.{Headline};
 ghost use Rattle.pide_program.specs.Limit.{input_limit};
 
+use crate::made::generate;
 use crate::outcome::Outcome;
-use document_serve::{Served, serve};
-use document_session::Session;
 use pide_base::{Gate, Sink, Source, Status};
 use pide_build::{Ended, build_theories};
 use pide_check::check_text;
-use pide_gen::generate;
 use reply_outbox::Past;
-use session_laws::holders_law;
+use session_laws::{headline_law, holders_law};
 use session_rules::{Entry, Service};
 use std::alloc::{AllocFailed, Global};
 use std::sync::Wait;
 use std::thread::Threads;
+use thread_serve::serving_below::{Served, serve};
+use thread_serve::sessions_below::Session;
 use toplevel::Isar;
 
 /// The most bytes that a run takes.
@@ -70,9 +68,8 @@ pub(crate) fn serve_alone<S: Source, K: Sink, P: Past<Service, Entry> + Drop>(
 ) -> Outcome<S, K, P>
     requires empty { P.items past ≡ [] }
     requires alone { free_workers service ≡ 0 }
-    ensures run { IfOk result.session (λ s. IsRun isar input_limit result.status
-        (S.left source) (S.left result.source) (K.contents sink) (K.contents result.sink) s) }
-    ensures holds { IfOk result.session (λ s. HoldsSo isar result.status s) }
+    ensures headline { IfOk result.session (λ s. Headline result.status (S.left source)
+        (S.left result.source) (K.contents sink) (K.contents result.sink) s) }
     ensures service { IfOk result.session (λ s. s.service ≡ service) }
     ensures begun { IsOk result.session ⊎ (result.status ≡ Status.NoMemory) }
     ensures handed_back { IfErr result.session (λ list. P.items list ≡ []) }
@@ -81,17 +78,10 @@ pub(crate) fn serve_alone<S: Source, K: Sink, P: Past<Service, Entry> + Drop>(
         → Rose (S.faults source) (S.faults result.source) }
     ensures write_fault { result.status ≡ Status.WriteFault
         → Rose (K.faults sink) (K.faults result.sink) }
-    ensures bad_frame { (at : ℕ) → result.status ≡ Status.BadFrame at
-        → BadFrameSo at (S.left source) (S.left result.source) }
-    ensures truncated { (at : ℕ) → result.status ≡ Status.Truncated at
-        → TruncatedSo at (S.left source) (S.left result.source) }
-    ensures long_input { IsOk result.session
-        → LongSo input_limit result.status (S.left source) (S.left result.source) }
-    ensures done { result.status ≡ Status.Done
-        → DoneSo (S.left source) (S.left result.source) }
     ensures complete { CompleteSo input_limit (S.left source) (S.faults source)
         (S.faults result.source) (K.faults sink) (K.faults result.sink) result.status }
 {
+    headline_law::<Isar>();
     holders_law::<Isar>();
     let mut source = source;
     let session = match Session::<Isar, P>::new(alloc, service, past) {
@@ -121,10 +111,10 @@ pub(crate) fn serve_beside<
     P: Past<Service, Entry> + Drop + Send,
 >(rt: &R, alloc: Global, workers: u32, source: S, sink: K, gate: &G, past: P) -> Outcome<S, K, P>
     requires empty { P.items past ≡ [] }
+    requires beside { workers ≢ 0 }
     requires few { workers ≤ most_workers }
-    ensures run { IfOk result.session (λ s. IsServed isar input_limit result.status
-        (S.left source) (S.left result.source) (K.contents sink) (K.contents result.sink) s) }
-    ensures holds { IfOk result.session (λ s. HoldsSo isar result.status s) }
+    ensures headline { IfOk result.session (λ s. Headline result.status (S.left source)
+        (S.left result.source) (K.contents sink) (K.contents result.sink) s) }
     ensures service { IfOk result.session (λ s. s.service ≡ Workers workers) }
     ensures begun { IsOk result.session ⊎ (result.status ≡ Status.NoMemory) }
     ensures handed_back { IfErr result.session (λ list. P.items list ≡ []) }
@@ -133,17 +123,10 @@ pub(crate) fn serve_beside<
         → Rose (S.faults source) (S.faults result.source) }
     ensures write_fault { result.status ≡ Status.WriteFault
         → Rose (K.faults sink) (K.faults result.sink) }
-    ensures bad_frame { (at : ℕ) → result.status ≡ Status.BadFrame at
-        → BadFrameSo at (S.left source) (S.left result.source) }
-    ensures truncated { (at : ℕ) → result.status ≡ Status.Truncated at
-        → TruncatedSo at (S.left source) (S.left result.source) }
-    ensures long_input { IsOk result.session
-        → LongSo input_limit result.status (S.left source) (S.left result.source) }
-    ensures done { result.status ≡ Status.Done
-        → DoneSo (S.left source) (S.left result.source) }
     ensures complete { CompleteSo input_limit (S.left source) (S.faults source)
         (S.faults result.source) (K.faults sink) (K.faults result.sink) result.status }
 {
+    headline_law::<Isar>();
     let session = match Session::<Isar, P>::new(alloc, Service::Workers { count: workers }, past) {
         Ok(session) => session,
         Err(AllocFailed { value }) => return unserved(Status::NoMemory, source, sink, value),

@@ -1,5 +1,5 @@
 //! Runs of exchanges.
-ghost use Rattle.std.specs.Prelude.{◌≡◌, ◌⊎◌, ◌<◌, true, length, map};
+ghost use Rattle.std.specs.Prelude.{◌≡◌, ◌⊎◌, ◌<◌, true, length};
 ghost use Rattle.byte_message.specs.Stream.Ending.{Whole};
 ghost use Rattle.message_input.specs.Causes.{HasEnding};
 ghost use Rattle.pide_program.specs.Limit.{input_limit};
@@ -270,7 +270,7 @@ fn watched<R: Threads + Wait + Sync, G: Gate + Sync>(
     sink: MemSink,
     gate: &G,
 ) -> Looked
-    ensures whole { is_served (map (λ w. w.now) words.now) ≡ true → HasEnding source.left Whole
+    ensures whole { is_served words.now ≡ true → HasEnding source.left Whole
         → length source.left < input_limit → source.faults ≡ 0 → sink.faults ≡ 0
         → result.pulls ≡ 0 → result.pushes ≡ 0
         → (result.outcome.status ≡ Status.Done) ⊎ (result.outcome.status ≡ Status.NoMemory) }

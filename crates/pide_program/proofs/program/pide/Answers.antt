@@ -1,5 +1,5 @@
 -- Where memory is short for the words, nothing is taken or written.
-use Rattle.std.proofs.Common.{ap, map, Bor, List, ℕ}
+use Rattle.std.proofs.Common.{ap}
 use Rattle.isar_rules.specs.Isar.{isar}
 use Rattle.pide_program.specs.Words.{nodes_of}
 use Rattle.pide_program.proofs.Unbuilt.{nothing_built, nothing_caused}
@@ -24,5 +24,5 @@ returns-in-Err-clause-build_causes g c taken =
 pub returns-in-Err-clause-generated : goal.returns-in-Err-clause-generated
 returns-in-Err-clause-generated g c taken =
     let made = c.unserved-in-Err.ensures in
-    nothing_made isar (nodes_of (map (λ (w : Bor (List ℕ)). w.now) c.args.words.now))
+    nothing_made isar (nodes_of c.args.words.now)
     (g.K.Sink.contents c.args.sink) _ _ made.status (ap g.K.Sink.contents made.sink)

@@ -3,7 +3,7 @@ use denote.Param.Send.{sendable}
 use Rattle.std.proofs.Common.{subst}
 use Rattle.toplevel.proofs.Crossing.{crosses}
 use Rattle.isar_rules.specs.Isar.{isar}
-use Rattle.pide_gen.specs.Generated.{IsGenerated}
+use Rattle.pide_program.specs.Generated.{IsGenerated}
 use Rattle.pide_program.proofs.running.make.Goals as goal
 
 pub returns-clause-no_read_fault : goal.returns-clause-no_read_fault

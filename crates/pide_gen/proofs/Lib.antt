@@ -1,4 +1,0 @@
-mod Asking
-mod Shown
-mod Loops
-mod Summing

@@ -1,3 +1,0 @@
-pub mod Answered
-pub mod Generated
-pub mod Told

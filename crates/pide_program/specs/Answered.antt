@@ -1,0 +1,27 @@
+-- What is known of a session that answered messages (this project's own).
+use Rattle.std.specs.Prelude.{◌≡◌, ℕ, List}
+use Rattle.byte_message.specs.Stream.{Ending, IsReadAs}
+use Rattle.language.specs.Lang.{Lang}
+use Rattle.session_rules.specs.declared.service.Service.{Service}
+use Rattle.session_rules.specs.declared.service.Service.TheVariants.{Workers}
+use Rattle.session_rules.specs.Legal.{IsLegal}
+use Rattle.thread_serve.specs.lists_below.Items.{heard_in}
+use Rattle.session_laws.specs.OneThread.{reads}
+use Rattle.thread_serve.specs.sessions_below.Contents.{SessionState}
+use Rattle.thread_serve.specs.serving_below.Served.{calls_in}
+use Rattle.settled_laws.specs.Updates.{all_read}
+use Rattle.made_summary.specs.Summary.{made_updates}
+
+-- the messages of these bytes were answered, by one legal history
+pub record Answered {S : Type 0} (l : Lang S) (service : Service) (bytes : List ℕ)
+    (s : SessionState) : Type 0 where
+  pub served : s.service ≡ service
+  pub legal : IsLegal l s.service (heard_in s.service s.items)
+  pub ending : Ending
+  pub read : IsReadAs bytes (calls_in s.items) ending
+
+-- those that make a document of so many nodes were, beside so many workers
+pub record Made {S : Type 0} (l : Lang S) (count workers : ℕ) (s : SessionState) : Type 0 where
+  pub served : s.service ≡ Workers workers
+  pub legal : IsLegal l (Workers workers) (heard_in (Workers workers) s.items)
+  pub read : reads (heard_in (Workers workers) s.items) ≡ all_read (made_updates count)

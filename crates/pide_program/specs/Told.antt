@@ -1,0 +1,24 @@
+-- What a session tells of a version (this project's own).
+use Rattle.std.specs.Prelude.{◌≡◌, ℕ, List, Some, flat_map}
+use Rattle.report_markup.specs.declared.report.Report.{Report}
+use Rattle.doc_versions.specs.Live.{version_of}
+use Rattle.exec_rules.specs.declared.version.Version.{Version}
+use Rattle.language.specs.Lang.{Lang}
+use Rattle.core_rules.specs.Shown.{parts_shown}
+use Rattle.session_rules.specs.Session.{Session, document}
+use Rattle.thread_serve.specs.lists_below.Items.{session_in}
+use Rattle.thread_serve.specs.sessions_below.Contents.{SessionState}
+use Rattle.settled_laws.specs.Reported.{part_reports}
+
+-- what the session has after its list
+abbrev pub after : {S : Type 0} → Lang S → SessionState → Session
+after l s = session_in l s.service s.items
+
+-- the live version of this id
+abbrev pub IsLive : {S : Type 0} → Lang S → SessionState → ℕ → Version → Type 0
+IsLive l s id version = version_of (document l (after l s)).live id ≡ Some version
+
+-- the reports that are shown of a node
+abbrev pub shown_reports : {S : Type 0} → Lang S → SessionState → Version → List ℕ → List Report
+shown_reports l s version name = flat_map part_reports
+    (parts_shown l (after l s).events (document l (after l s)) version name)
