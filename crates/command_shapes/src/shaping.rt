@@ -9,8 +9,8 @@ ghost use Rattle.command_shapes.specs.Commands.{verb_in, begins_by};
 
 use crate::forms::worded;
 use crate::header::header_shape;
-use crate::verbs::{meant, verb_of};
-use doc_blobs::needs;
+use crate::verbs::verb_of;
+use doc_blobs::{meant, needs};
 use doc_nodes::Aliases;
 use isar_rules::{Shape, Spot, Verb};
 use outer_tokens::{Kind, Token, scalars};

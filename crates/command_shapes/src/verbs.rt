@@ -1,23 +1,11 @@
 //! Which command a word is.
 ghost use Rattle.std.specs.Prelude.{◌≡◌};
 ghost use Rattle.doc_nodes.specs.Names.{equal};
-ghost use Rattle.doc_blobs.specs.Needs.{meant};
 ghost use Rattle.isar_rules.specs.Verbs.{verb_of};
 ghost use Rattle.command_shapes.specs.Commands.{proof_verb_of};
 
-use doc_nodes::Aliases;
 use isar_rules::Verb;
 use std::cmp::Ordering;
-
-/// The command that a name stands for: an alias's target, else the name itself.
-pub(crate) fn meant<'a>(aliases: &'a Aliases, name: &'a [char]) -> &'a [char]
-    ensures { result.now ≡ meant aliases.now name.now }
-{
-    match aliases.target_of(name) {
-        Some(target) => target,
-        None => name,
-    }
-}
 
 /// Whether the word is this name.
 fn is(word: &[char], name: &[char]) -> bool

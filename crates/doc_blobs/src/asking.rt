@@ -4,6 +4,7 @@ ghost use Rattle.std.specs.Option.{option_and_then};
 ghost use Rattle.doc_nodes.specs.Names.{equal};
 ghost use Rattle.doc_blobs.specs.Needs.{is_load, asked_by, named_by, just_two, needs};
 
+use crate::naming::meant;
 use doc_nodes::{Aliases, BlobName};
 use outer_tokens::{Kind, Token, content, proper_under, scalars};
 use std::alloc::{AllocError, Global};
@@ -69,11 +70,7 @@ fn is_load(source: &[char], aliases: &Aliases, name: Token) -> bool
     if name.kind != Kind::Command {
         return false;
     }
-    let text = scalars(source, name.range);
-    match aliases.target_of(text) {
-        Some(target) => spells_load(target),
-        None => spells_load(text),
-    }
+    spells_load(meant(aliases, scalars(source, name.range)))
 }
 
 fn spells_load(word: &[char]) -> bool

@@ -5,5 +5,7 @@
 #![tactic(auto)]
 
 mod asking;
+mod naming;
 
 pub use asking::needs;
+pub use naming::meant;

@@ -122,12 +122,17 @@ pub step-kept : (source : List ℕ) (blob : Option (List ℕ)) (before : State) 
 step-kept source blob before = made-kept source _ before _ (shape-clean source blob before)
 
 -- what is reported of a command, of its fork and of its print
-pub all-tidy : (source : List ℕ) (blob : Option (List ℕ)) (before : State) → AreTidyIn source (reports_of isar source blob before)
-all-tidy source blob before =
+pub all-placed : (source : List ℕ) (blob : Option (List ℕ)) (before : State)
+    → AllByRecursion (Placed source (source_tokens (aliases_at before.place before.aliases) source)) (reports_of isar source blob before)
+all-placed source blob before =
     let tokens = source_tokens (aliases_at before.place before.aliases) source in
     let behind = (step source blob before).state in
-    tidy source tokens (source-rises (aliases_at before.place before.aliases) source) _
-    (each-both (Placed source tokens) _ _
+    each-both (Placed source tokens) _ _
     (each-both (Placed source tokens) _ _ (made-placed source tokens before _ (shape-clean source blob before))
     (if-forks source tokens (step source blob before).forks _ (fork-placed source tokens before.place)))
-    (inl refl, suggestion-placed source tokens (suggested_at (map (λ pair. pair.0) behind.aliases) behind.place)))
+    (inl refl, suggestion-placed source tokens (suggested_at (map (λ pair. pair.0) behind.aliases) behind.place))
+
+pub all-tidy : (source : List ℕ) (blob : Option (List ℕ)) (before : State) → AreTidyIn source (reports_of isar source blob before)
+all-tidy source blob before =
+    let aliases = aliases_at before.place before.aliases in
+    tidy source (source_tokens aliases source) (source-rises aliases source) _ (all-placed source blob before)

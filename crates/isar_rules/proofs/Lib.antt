@@ -10,6 +10,7 @@ mod Spots
 mod Clean
 mod Keeping
 pub mod KnownTidy
+pub mod KnownPlaced
 mod Checking
 mod Forking
 mod WorkedSources

@@ -1,2 +1,3 @@
 mod SymbolCounts
 mod ToldSoFar
+mod ScalarRanges

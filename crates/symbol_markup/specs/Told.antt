@@ -3,7 +3,7 @@ use Rattle.std.specs.Prelude.{ℕ, ◌==◌, Bool, not, List, map, filter}
 use Rattle.pide_base.specs.declared.range.Range.{Range}
 use Rattle.report_markup.specs.declared.report.Report.{Report}
 use Rattle.report_markup.specs.Sorting.{in_order}
-use Rattle.symbol_markup.specs.Places.{symbol_range}
+use Rattle.symbol_markup.specs.Places.{symbol_range, scalar_range}
 
 -- the report at its range in symbols
 abbrev pub at_symbols : List ℕ → Report → Report
@@ -18,3 +18,7 @@ is_filled range = not (range.start == range.stop)
 abbrev pub in_symbols : List ℕ → List Report → List Report
 in_symbols text reports =
     in_order (filter (λ r. is_filled r.range) (map (at_symbols text) reports))
+
+-- a report that counts symbols, at its range in scalars
+abbrev pub at_scalars : List ℕ → Report → Report
+at_scalars text r = record r { range = scalar_range text r.range }

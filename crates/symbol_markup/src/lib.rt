@@ -9,6 +9,6 @@ mod laws;
 mod places;
 mod told;
 
-pub use laws::places_in_symbols;
+pub use laws::{places_in_symbols, ranges_are_had_back};
 pub use places::SymbolPlaces;
 pub use told::{in_symbols, reports_in_symbols};

@@ -12,4 +12,5 @@ returns c =
       rises = λ text place later upto. omega (arith, ended-rises place later (symbols_of text) upto);
       behind = λ text place past. ap (λ n. n + 1) (all-ended text 0 (length text) place (symbols_of text) (are text) past ∙ sym (all-ended text 0 (length text) (length text) (symbols_of text) (are text) (omega arith)));
       within = λ text place. omega (arith, ended-within place (symbols_of text), count-within text 0 (length text) (symbols_of text) (are text));
+      counted = λ text place. omega (arith, ended-within place (symbols_of text));
     }

@@ -1,0 +1,3 @@
+pub mod Headed
+pub mod PlainReports
+pub mod OddSources

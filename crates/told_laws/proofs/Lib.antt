@@ -1,0 +1,7 @@
+mod QuietOrders
+mod SaidShapes
+mod ActedForks
+mod ForkedSteps
+mod TokenPlaces
+mod ScratchStates
+mod AliasesInForce
