@@ -1,0 +1,32 @@
+-- What was heard among moves, and the entries of a history from its beginning.
+use Rattle.std.proofs.Common.{◌≡◌, List, [], ◌∷◌, ◌++◌, Some, refl, ap, sym, ◌∙◌}
+use Rattle.reply_writing.specs.declared.told.Told.{Told}
+use Rattle.session_rules.specs.declared.entry.Entry.{Entry}
+use Rattle.mirror_rules.specs.Events.{heard_moves}
+use Rattle.mirror_rules.specs.Moves.{Move, Sent, Heard, Broken}
+use Rattle.mirror_laws.proofs.HeardReplies.{HeardTold}
+use Rattle.mirror_laws.proofs.Walking.{whole}
+
+pub heard_both : (a b : List Move) → heard_moves (a ++ b) ≡ heard_moves a ++ heard_moves b
+heard_both [] b = refl
+heard_both (Sent read ∷ a) b = heard_both a b
+heard_both (Heard at reply ∷ a) b = ap (λ ms. Heard at reply ∷ ms) (heard_both a b)
+heard_both (Broken fault ∷ a) b = ap (λ ms. Broken fault ∷ ms) (heard_both a b)
+
+-- what was heard is one list of replies
+pub heard_same : (moves : List Move) (f g : List Told) → HeardTold moves f → HeardTold moves g → f ≡ g
+heard_same [] f g x y = x ∙ sym y
+heard_same (Sent read ∷ moves) f g x y = absurd x
+heard_same (Broken fault ∷ moves) f g x y = absurd x
+heard_same (Heard at reply ∷ moves) f g (a, t, p, r, x) (b, u, q, s, y) =
+    let told : Some t ≡ Some u = sym r ∙ s in
+    let same : t ≡ u = cc in
+    p ∙ ap (λ us. us ++ t ∷ []) (heard_same moves a b x y) ∙ ap (λ z. b ++ z ∷ []) same ∙ sym q
+
+pub next_of : (history : List Entry) → (next : List Entry) × (history ≡ whole next [])
+next_of [] = ([], refl)
+next_of (e ∷ h) = let r = next_of h in (r.0 ++ e ∷ [], ap (λ hs. e ∷ hs) r.1 ∙ sym (last r.0 []))
+  where
+    last : (next hs : List Entry) → whole (next ++ e ∷ []) hs ≡ e ∷ whole next hs
+    last [] hs = refl
+    last (x ∷ next) hs = last next (x ∷ hs)

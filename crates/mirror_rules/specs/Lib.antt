@@ -1,0 +1,15 @@
+pub mod Images
+pub mod Rows
+pub mod Reports
+pub mod Updates
+pub mod Answers
+pub mod Unexpected
+pub mod Replies
+pub mod Moves
+pub mod Events
+pub mod Parts
+pub mod Looking
+pub mod Telling
+pub mod Small
+pub mod Worked
+pub mod WorkedFaults
