@@ -20,3 +20,11 @@ mod GivenNodes
 mod KeptPrints
 mod Keeping
 mod Covers
+pub mod KnownLiveVersions
+mod HeldParts
+mod Worked
+mod OpenParts
+mod MadeParts
+mod Reported
+mod Unnumbered
+mod SameTexts

@@ -2,3 +2,5 @@ pub mod OneThread
 pub mod Runs
 pub mod Keeping
 pub mod Promises
+pub mod Reporting
+pub mod Checked

@@ -1,6 +1,11 @@
 //! What holds of histories.
 ghost use Rattle.std.specs.Prelude.{◌≡◌, ◌≢◌, ℕ, List, None};
 ghost use Rattle.message_values.specs.Workers.{IsWorker};
+ghost use Rattle.doc_nodes.specs.Imports.{NodeList};
+ghost use Rattle.exec_rules.specs.Kept.{BlobList};
+ghost use Rattle.buffer_rules.specs.Nodes.{nodes_after};
+ghost use Rattle.buffer_rules.specs.Sheets.{SheetList};
+ghost use Rattle.core_rules.specs.Scratch.{scratch};
 ghost use Rattle.core_rules.specs.Standing.{held};
 ghost use Rattle.session_rules.specs.declared.entry.Entry.{Entry};
 ghost use Rattle.session_rules.specs.declared.service.Service.{Service};
@@ -10,13 +15,16 @@ ghost use Rattle.session_rules.specs.Heard.{Heard, all_heard};
 ghost use Rattle.session_rules.specs.History.{session};
 ghost use Rattle.session_rules.specs.Legal.{IsLegal};
 ghost use Rattle.session_rules.specs.Alone.{IsAlone};
+ghost use Rattle.session_laws.specs.Checked.{checked_nodes, texts_of};
 ghost use Rattle.session_laws.specs.OneThread.{reads, thread};
 ghost use Rattle.session_laws.specs.Promises.{CoversSo, EachMessage, ExactSo, KeepsSo, LeavesCancelled, ShowsSo};
+ghost use Rattle.session_laws.specs.Reporting.{EachFinished, ReportsSo};
 ghost use Rattle.session_laws.specs.Runs.{IsWholeRun, called};
 
+use buffer_rules::ids_law;
 use core_rules::{
-    alone_law as core_alone_law, cancelled_law, core_law, covers_law, first_law, homes_law,
-    places_law, rest_law,
+    alone_law as core_alone_law, cancelled_law, core_law, covers_law, first_law,
+    holders_law as core_holders_law, homes_law, places_law, rest_law, tip_law,
 };
 use doc_nodes::order_law;
 use exec_rules::rows_law;
@@ -81,4 +89,38 @@ pub fn headline_law<L: Language>()
     places_law::<L>();
     order_law();
     rows_law();
+}
+
+/// In each legal history the reply of a finished part tells what checking a version from nothing
+/// gives for the part at the command to which the version assigns it: so for the version whose
+/// update made the execution, for each that was live since then and assigned it, and for each that
+/// is live and assigns it now, as one does.
+pub fn reports_law<L: Language>()
+    ensures { (service : Service) (h : List Heard) → IsLegal L.lang service h
+        → EachFinished (ReportsSo L.lang service) h }
+{
+    events_law::<L>();
+    core_law::<L>();
+    core_holders_law::<L>();
+    homes_law::<L>();
+    places_law::<L>();
+    tip_law::<L>();
+    order_law();
+    rows_law();
+}
+
+/// What a document comes to when it is checked from nothing depends on the names, texts and blobs
+/// alone: documents of the same texts come to the same states and reports, whatever ids their
+/// commands were given and whatever is visible or required. So do lists of nodes that differ in
+/// this alone.
+pub fn texts_law<L: Language>()
+    ensures texts { (sheets others : SheetList) (tip old : NodeList) (next last : ℕ)
+        (blobs : BlobList) → texts_of sheets ≡ texts_of others
+        → scratch L.lang (nodes_after tip sheets next).nodes blobs
+        ≡ scratch L.lang (nodes_after old others last).nodes blobs }
+    ensures nodes { (nodes others : NodeList) (blobs : BlobList)
+        → checked_nodes nodes ≡ checked_nodes others
+        → scratch L.lang nodes blobs ≡ scratch L.lang others blobs }
+{
+    ids_law();
 }

@@ -1,5 +1,5 @@
 -- What an editor may believe at a moment of a legal history.
-use Rattle.std.proofs.Common.{◌≡◌, ℕ, ◌≤◌, ◌↔◌, true, List, [], ◌∷◌, length, Some, sym, subst}
+use Rattle.std.proofs.Common.{◌≡◌, ℕ, ◌<◌, ◌≤◌, ◌↔◌, true, List, [], ◌∷◌, length, Some, sym, subst}
 use Rattle.std.specs.Prelude.{slice_get}
 use Rattle.std.specs.List.{flat_map}
 use Rattle.doc_nodes.specs.declared.node.Node.{Node}
@@ -9,6 +9,7 @@ use Rattle.doc_nodes.specs.Wanted.{is_reached, wanted_at}
 use Rattle.doc_versions.specs.declared.versions.Live.{Live}
 use Rattle.doc_versions.specs.Live.{version_of}
 use Rattle.exec_rules.specs.declared.version.Version.{Version}
+use Rattle.exec_rules.specs.Assigning.{entries_in}
 use Rattle.exec_rules.proofs.KnownThere.{all_at}
 use Rattle.message_values.specs.declared.protocol.Protocol.TheVariants.{Scalars}
 use Rattle.core_rules.specs.declared.event.Event.{Event}
@@ -26,10 +27,12 @@ use Rattle.session_rules.specs.Shown.{placed}
 use Rattle.session_laws.proofs.KnownWaited.{live_at}
 use Rattle.isar_rules.specs.Isar.{isar}
 use Rattle.isar_rules.specs.Kept.{errors_in}
-use Rattle.soundness_laws.specs.Believed.{IsSoundAt}
+use Rattle.soundness_laws.specs.Believed.{IsSoundAt, IsTheoryAt}
 use Rattle.soundness_laws.specs.Seen.{HasNoPending, HasSettled, IsQuiet, IsWhole, OfEachNeeded, ShowsNoError, TellsNoError}
 use Rattle.soundness_laws.proofs.Believing.{Laws, sound_at}
-use Rattle.soundness_laws.proofs.LiveVersions.{each_live}
+use Rattle.soundness_laws.proofs.NodeTheories.{theory_at}
+use Rattle.soundness_laws.proofs.TextTheories.{Just}
+use Rattle.session_laws.proofs.KnownLiveVersions.{each_live}
 use Rattle.soundness_laws.proofs.Required.{IsAssigned, whole_from}
 use Rattle.soundness_laws.proofs.Resting.{none_pending}
 use Rattle.soundness_laws.proofs.Telling.{clean_told, none_told}
@@ -65,6 +68,11 @@ module _ (laws : Laws) (service : Service) (h : List Heard) (legal : IsLegalList
   sound_shown quiet = of_version (λ x. place_of x.nodes name ≡ Some p → OfEachNeeded (IsQuiet s.events x) x p → IsSoundAt x.nodes x.blobs p)
       (document isar s).live id v live
       (λ k one at. sound_at laws s.events legal k one at name p) place quiet
+
+  pub theory_shown : Just → OfEachNeeded (IsQuiet s.events v) v p → 0 < length (entries_in v name) → IsTheoryAt v.nodes v.blobs p
+  theory_shown just quiet some = of_version (λ x. place_of x.nodes name ≡ Some p → OfEachNeeded (IsQuiet s.events x) x p → 0 < length (entries_in x name) → IsTheoryAt x.nodes x.blobs p)
+      (document isar s).live id v live
+      (λ k one at. theory_at laws just s.events legal k one at name p) place quiet some
 
   pub sound_settled : HasSettled s.events v → OfEachNeeded (IsWhole v) v p → OfEachNeeded (ShowsNoError s.events v) v p → IsSoundAt v.nodes v.blobs p
   sound_settled rest whole clean = sound_shown (λ q n needs at. record {

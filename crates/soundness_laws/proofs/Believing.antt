@@ -1,5 +1,5 @@
 -- Where all of a node and of its imports is checked, and no error is shown, its theory is sound.
-use Rattle.std.proofs.Common.{◌≡◌, ℕ, suc, ◌<◌, ◌↔◌, true, false, List, [], ◌∷◌, ◌++◌, length, Some, refl, ap, sym, subst, ◌∙◌, arith}
+use Rattle.std.proofs.Common.{◌≡◌, ℕ, suc, ◌<◌, ◌↔◌, true, false, List, [], ◌∷◌, ◌++◌, length, find, Some, refl, ap, sym, subst, ◌∙◌, arith}
 use Rattle.std.proofs.lemmas.Bool.{eqb-true}
 use Rattle.std.proofs.lemmas.List.Quantifiers.{position-Some}
 use Rattle.std.specs.Prelude.{◌==◌, slice_get}
@@ -75,7 +75,7 @@ place_within : (nodes : NodeList) (name : List ℕ) (q : ℕ) → place_of nodes
 place_within [] name q e = absurd (cc)
 place_within (n ∷ ns) name q e = (position-Some (λ (pair : List ℕ × Node). equal pair.0 name) (n ∷ ns) q n e).0
 
-length_run : (node : Node) (blobs : BlobList) (es : List Entry) (state : State) → length (run_from isar node blobs es state) ≡ length es
+pub length_run : (node : Node) (blobs : BlobList) (es : List Entry) (state : State) → length (run_from isar node blobs es state) ≡ length es
 length_run node blobs [] state = refl
 length_run node blobs (e ∷ es) state = ap suc (length_run node blobs es (state_behind isar (set_in node blobs e state)))
 
@@ -107,13 +107,20 @@ module _ (laws : Laws) (h : List Event) (legal : IsLegal isar h) (k : ℕ) (live
       subst AreClean commands (commands_clean h (entries_in v name) (rows_in v name) ss quiet.whole (omega (arith, within))
       (seen_all name quiet.checked) (fine (flat_map placed (scratch_shown isar h v name)) clean))
 
+  pub clean_from : (name : List ℕ) (p : ℕ) → place_of v.nodes name ≡ Some p → OfEachNeeded (IsQuiet h v) v p → AreCleanFrom v.nodes v.blobs p
+  clean_from name p place quiet =
+      each_on IsRun (λ one. Needs v.nodes p one.0 → AreClean one.1.commands) (scratch isar v.nodes v.blobs)
+      (λ one is needs. let n = named needs name place in clean_at n.0 one is n.1 (quiet one.0 n.0 needs n.1))
+      (all_run isar v.nodes v.blobs (laws.every v.nodes) (laws.once v.nodes)).each
+
+  -- the run of the node at a place of a name
+  pub run_at : (name : List ℕ) (p : ℕ) → place_of v.nodes name ≡ Some p → (one : ℕ × Run State) × (find (λ o. o.0 == p) (scratch isar v.nodes v.blobs) ≡ Some one)
+  run_at name p place =
+      (all_run isar v.nodes v.blobs (laws.every v.nodes) (laws.once v.nodes)).there p ((laws.every v.nodes p).1 (place_within v.nodes name p place))
+
   pub sound_at : (name : List ℕ) (p : ℕ) → place_of v.nodes name ≡ Some p → OfEachNeeded (IsQuiet h v) v p → IsSoundAt v.nodes v.blobs p
   sound_at name p place quiet =
-      let runs = all_run isar v.nodes v.blobs (laws.every v.nodes) (laws.once v.nodes) in
-      let clean : AreCleanFrom v.nodes v.blobs p =
-      each_on IsRun (λ one. Needs v.nodes p one.0 → AreClean one.1.commands) (scratch isar v.nodes v.blobs)
-      (λ one is needs. let n = named needs name place in clean_at n.0 one is n.1 (quiet one.0 n.0 needs n.1)) runs.each in
-      let here = runs.there p ((laws.every v.nodes p).1 (place_within v.nodes name p place)) in
+      let here = run_at name p place in
       let good = found_of (λ (one : ℕ × Run State). AreCleanFrom v.nodes v.blobs one.0
       → FactsFollow (IsAxiomFrom v.nodes v.blobs one.0) (final isar one.1)) (λ one. one.0 == p) (scratch isar v.nodes v.blobs) here.0
       (laws.sound v.nodes v.blobs) here.1 in
@@ -122,5 +129,5 @@ module _ (laws : Laws) (h : List Event) (legal : IsLegal isar h) (k : ℕ) (live
         behind = final isar here.0.1;
         comes_to = ap (option_map (λ (one : ℕ × Run State). final isar one.1)) here.1;
         follows = subst (λ q. FactsFollow (IsAxiomFrom v.nodes v.blobs q) (final isar here.0.1)) same
-            (good.1 (subst (AreCleanFrom v.nodes v.blobs) (sym same) clean));
+            (good.1 (subst (AreCleanFrom v.nodes v.blobs) (sym same) (clean_from name p place quiet)));
       }

@@ -4,6 +4,7 @@ mod ScratchRuns
 mod Believing
 mod Resting
 mod Telling
-mod LiveVersions
 mod Required
 mod Beliefs
+mod TextTheories
+mod NodeTheories

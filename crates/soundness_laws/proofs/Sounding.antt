@@ -41,38 +41,46 @@ commands_clean node (e ∷ es) state f =
       commands_clean node es (state_behind isar s) (behind (reported isar (e, s)) others f),
     )
 
-module _ (alone : Alone) (name : List ℕ) (node : Node) where
+module _ (name : List ℕ) (node : Node) where
   abbrev nodes : NodeList
   nodes = (name, node) ∷ []
 
   -- the only run
-  abbrev run : Run State
+  abbrev pub run : Run State
   run = run_node isar node [] (begins_at isar nodes [] 0 (name, node))
 
-  only : scratch isar nodes [] ≡ (0, run) ∷ []
+  pub only : scratch isar nodes [] ≡ (0, run) ∷ []
   only = ap (λ ps. run_all isar nodes [] ps []) (order_one name node)
 
   abbrev commands_in : Runs State → List (Setting State)
   commands_in runs = option_map_or (λ one. one.1.commands) (find (λ one. one.0 == 0) runs) []
 
-  clean : AreFine (flat_map (reported isar) (zip node.entries (commands_in (scratch isar nodes [])))) → AreClean run.commands
+  pub commands_are : scratch_at isar nodes [] 0 ≡ run.commands
+  commands_are = ap commands_in only
+
+  pub clean : AreFine (flat_map (reported isar) (zip node.entries (commands_in (scratch isar nodes [])))) → AreClean run.commands
   clean f = commands_clean node node.entries run.begins
       (subst (λ runs. AreFine (flat_map (reported isar) (zip node.entries (commands_in runs)))) only f)
 
-  follows : AreFine (flat_map (reported isar) (zip node.entries (commands_in (scratch isar nodes []))))
-      → FactsFollow (IsAxiomOf run.commands) (final isar run)
-  follows f = (subst (AllByRecursion RestsOnItself) only (alone name node [])).0 (clean f)
+  module _ (alone : Alone) where
+    follows : AreFine (flat_map (reported isar) (zip node.entries (commands_in (scratch isar nodes []))))
+        → FactsFollow (IsAxiomOf run.commands) (final isar run)
+    follows f = (subst (AllByRecursion RestsOnItself) only (alone name node [])).0 (clean f)
 
-  pub sound : AreFine (flat_map (reported isar) (zip node.entries (commands_in (scratch isar nodes []))))
-      → (r : Run State) × (scratch isar nodes [] ≡ (0, r) ∷ []) × FactsFollow (IsAxiomOf r.commands) (final isar r)
-  sound f = (run, only, follows f)
+    pub sound : AreFine (flat_map (reported isar) (zip node.entries (commands_in (scratch isar nodes []))))
+        → (r : Run State) × (scratch isar nodes [] ≡ (0, r) ∷ []) × FactsFollow (IsAxiomOf r.commands) (final isar r)
+    sound f = (run, only, follows f)
 
 -- the only node of a text
-abbrev node_of : List ℕ → Node
+abbrev pub node_of : List ℕ → Node
 node_of text = cut (record { text = text; required = true; ranges = [] })
     (aliases_at (uncut_all (one_sheet text)) 0).pairs (before_in [] (name_of text)) 1
 
+-- its commands report no error
+pub text_fine : (text : List ℕ) → errors_in (markup_of isar text) ≡ []
+    → AreFine (flat_map (reported isar) (zip (entries_of (one_node text)) (scratch_at isar (one_node text) [] 0)))
+text_fine text e = unordered (flat_map (reported isar) (zip (entries_of (one_node text)) (scratch_at isar (one_node text) [] 0)))
+    (fine (markup_of isar text) e)
+
 pub sound_text : Alone → (text : List ℕ) → errors_in (markup_of isar text) ≡ [] → IsSound text
-sound_text alone text e = sound alone (name_of text) (node_of text)
-    (unordered (flat_map (reported isar) (zip (entries_of (one_node text)) (scratch_at isar (one_node text) [] 0)))
-    (fine (markup_of isar text) e))
+sound_text alone text e = sound (name_of text) (node_of text) alone (text_fine text e)

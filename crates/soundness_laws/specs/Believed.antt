@@ -7,6 +7,7 @@ use Rattle.isar_rules.specs.declared.state.State.{State}
 use Rattle.isar_rules.specs.Isar.{isar}
 use Rattle.theory_laws.specs.Facts.{FactsFollow}
 use Rattle.theory_laws.specs.Imports.{IsAxiomFrom}
+use Rattle.theory_laws.specs.Theories.{IsStatedFrom, IsTheoryOf}
 
 -- the theory that the node at a place comes to when all nodes are checked from nothing: each of its
 -- facts is derived from finitely many axioms of this node and its imports, direct or not
@@ -14,3 +15,10 @@ pub record IsSoundAt (nodes : NodeList) (blobs : BlobList) (p : ℕ) : Type 0 wh
   pub behind : State
   pub comes_to : final_at isar (scratch isar nodes blobs) p ≡ Some behind
   pub follows : FactsFollow (IsAxiomFrom nodes blobs p) behind
+
+-- the theory that it comes to has just the facts that the commands of this node and its imports,
+-- direct or not, state
+pub record IsTheoryAt (nodes : NodeList) (blobs : BlobList) (p : ℕ) : Type 0 where
+  pub behind : State
+  pub comes_to : final_at isar (scratch isar nodes blobs) p ≡ Some behind
+  pub is_theory : IsTheoryOf (IsStatedFrom nodes blobs p) behind

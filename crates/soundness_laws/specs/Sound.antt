@@ -1,11 +1,12 @@
 -- What a text without errors says (natural deduction, Gentzen 1935).
-use Rattle.std.specs.Prelude.{◌≡◌, ℕ, List, [], ◌∷◌}
+use Rattle.std.specs.Prelude.{◌≡◌, ℕ, ◌<◌, List, [], ◌∷◌, length}
 use Rattle.core_rules.specs.Scratch.{Run, final, scratch}
 use Rattle.isar_rules.specs.declared.state.State.{State}
 use Rattle.isar_rules.specs.Isar.{isar}
-use Rattle.markup_lines.specs.OneText.{one_node}
+use Rattle.markup_lines.specs.OneText.{name_of, one_node}
 use Rattle.theory_laws.specs.Axioms.{IsAxiomOf}
 use Rattle.theory_laws.specs.Facts.{FactsFollow}
+use Rattle.theory_laws.specs.Theories.{IsStatedIn, IsTheoryOf}
 
 -- the text comes to this when it is checked from nothing, as the only node of a document
 abbrev pub ComesTo : List ℕ → Run State → Type 0
@@ -15,3 +16,9 @@ ComesTo text run = scratch isar (one_node text) [] ≡ (0, run) ∷ []
 abbrev pub IsSound : List ℕ → Type 0
 IsSound text = (run : Run State) × ComesTo text run
     × FactsFollow (IsAxiomOf run.commands) (final isar run)
+
+-- where the text has a command, it is a theory of its node's name, and the facts of this are just
+-- those that the commands state
+abbrev pub IsTheory : List ℕ → Type 0
+IsTheory text = (run : Run State) × ComesTo text run × (0 < length run.commands
+    → IsTheoryOf (IsStatedIn (name_of text) run.commands) (final isar run))

@@ -1,9 +1,10 @@
 //! A theory of which an editor sees no error.
-ghost use Rattle.std.specs.Prelude.{◌≡◌, ℕ, true, List, slice_get, Some};
+ghost use Rattle.std.specs.Prelude.{◌≡◌, ℕ, ◌<◌, true, List, length, slice_get, Some};
 ghost use Rattle.doc_nodes.specs.declared.node.Node.{Node};
 ghost use Rattle.doc_nodes.specs.Imports.{is_ordered, place_of};
 ghost use Rattle.doc_versions.specs.Live.{version_of};
 ghost use Rattle.exec_rules.specs.declared.version.Version.{Version};
+ghost use Rattle.exec_rules.specs.Assigning.{entries_in};
 ghost use Rattle.message_values.specs.declared.protocol.Protocol.TheVariants.{Scalars};
 ghost use Rattle.session_rules.specs.declared.service.Service.{Service};
 ghost use Rattle.session_rules.specs.Heard.{Heard};
@@ -11,13 +12,13 @@ ghost use Rattle.session_rules.specs.History.{session};
 ghost use Rattle.session_rules.specs.Legal.{IsLegal};
 ghost use Rattle.session_rules.specs.Session.{document};
 ghost use Rattle.isar_rules.specs.Isar.{isar};
-ghost use Rattle.soundness_laws.specs.Believed.{IsSoundAt};
+ghost use Rattle.soundness_laws.specs.Believed.{IsSoundAt, IsTheoryAt};
 ghost use Rattle.soundness_laws.specs.Seen.{HasSettled, IsQuiet, IsWhole, OfEachNeeded, ShowsNoError, TellsNoError};
 
 use core_rules::{core_law, covers_law, homes_law, places_law};
 use doc_nodes::{order_law, wanted_law};
 use session_rules::events_law;
-use theory_laws::sound_law as theories_law;
+use theory_laws::{facts_law, sound_law as theories_law};
 use toplevel::Isar;
 
 /// At each moment of each legal history, for each node of each live version: where the node and all
@@ -60,4 +61,25 @@ pub fn sound_law()
     order_law();
     wanted_law();
     theories_law();
+}
+
+/// At each moment of each legal history, for each node of each live version that has a command:
+/// where the node and all its imports, direct or not, have an evaluation for each command, nothing
+/// of them is pending and no error is shown of them, the node's theory has just the facts that the
+/// commands of these theories state, each under its name.
+pub fn theory_law()
+    ensures { (service : Service) (h : List Heard) (id : ℕ) (v : Version) (name : List ℕ)
+        (p : ℕ) → IsLegal isar service h
+        → version_of (document isar (session isar service h)).live id ≡ Some v
+        → place_of v.nodes name ≡ Some p
+        → OfEachNeeded (IsQuiet (session isar service h).events v) v p
+        → 0 < length (entries_in v name) → IsTheoryAt v.nodes v.blobs p }
+{
+    core_law::<Isar>();
+    homes_law::<Isar>();
+    places_law::<Isar>();
+    events_law::<Isar>();
+    order_law();
+    theories_law();
+    facts_law();
 }

@@ -41,3 +41,8 @@ mod CutRuns
 mod SuggestedReports
 mod TakenLemmas
 mod EditedSheets
+mod CutNodes
+mod HeadRuns
+mod SheetRuns
+mod EditedNodes
+mod TakenNodes

@@ -17,7 +17,7 @@ use Rattle.buffer_rules.specs.Sheets.{SheetList}
 use Rattle.suggest_laws.specs.SameHeaders.{SameHeaders}
 
 -- nodes of the same names, imports and keyword pairs
-abbrev SameHeads : NodeList → NodeList → Type 0
+abbrev pub SameHeads : NodeList → NodeList → Type 0
 SameHeads [] [] = ⊤
 SameHeads (n ∷ ns) (m ∷ ms) = (n.0 ≡ m.0) × (n.1.imports ≡ m.1.imports) × (n.1.keywords ≡ m.1.keywords) × SameHeads ns ms
 SameHeads _ _ = ⊥
@@ -36,7 +36,7 @@ first_places [] (m ∷ ms) name same = absurd same
 first_places (n ∷ ns) [] name same = absurd same
 first_places (n ∷ ns) (m ∷ ms) name same = λ i. cond (not (equal (same.0 i) name)) (1 + first_places ns ms name same.3 i) 0
 
-places : (ns ms : NodeList) → SameHeads ns ms → (name : List ℕ) → place_of ns name ≡ place_of ms name
+pub places : (ns ms : NodeList) → SameHeads ns ms → (name : List ℕ) → place_of ns name ≡ place_of ms name
 places ns ms same name = λ i. cond (nat_lt (first_places ns ms name same i) (sizes ns ms same i)) (Some (first_places ns ms name same i)) None
 
 each_place : (f g : List ℕ → Option ℕ) → ((name : List ℕ) → f name ≡ g name) → (names : List (List ℕ)) → map f names ≡ map g names
@@ -60,10 +60,10 @@ own_pairs (n ∷ ns) (m ∷ ms) zero same = ap (map (λ (pair : KeywordPair). (p
 own_pairs (n ∷ ns) (m ∷ ms) (suc p) same = own_pairs ns ms p same.3
 
 module _ (ns ms : NodeList) (same : SameHeads ns ms) where
-  aims_same : aims ns ≡ aims ms
+  pub aims_same : aims ns ≡ aims ms
   aims_same = rows ns ms (places ns ms same) ns ms same
 
-  order_same : order ns ≡ order ms
+  pub order_same : order ns ≡ order ms
   order_same = λ i. in_rounds (aims_same i) ++ filter (λ p. not (has (in_rounds (aims_same i)) p)) (range_with_len 0 (sizes ns ms same i))
 
   by_same : (done : List (ℕ × NodeAliases)) (p : ℕ) → aliases_by ns done p ≡ aliases_by ms done p
@@ -74,10 +74,10 @@ module _ (ns ms : NodeList) (same : SameHeads ns ms) where
   turn_same [] done = refl
   turn_same (p ∷ ps) done = ap (λ a. in_turn ns ps ((p, a) ∷ done)) (by_same done p) ∙ turn_same ps ((p, aliases_by ms done p) ∷ done)
 
-  same_at : (p : ℕ) → aliases_at ns p ≡ aliases_at ms p
+  pub same_at : (p : ℕ) → aliases_at ns p ≡ aliases_at ms p
   same_at p = ap (λ ps. known (in_turn ns ps []) p) order_same ∙ ap (λ d. known d p) (turn_same (order ms) [])
 
-heads : (ones others : SheetList) → SameHeaders ones others → SameHeads (uncut_all ones) (uncut_all others)
+pub heads : (ones others : SheetList) → SameHeaders ones others → SameHeads (uncut_all ones) (uncut_all others)
 heads [] [] same = tt
 heads [] (m ∷ ms) same = absurd same
 heads (n ∷ ns) [] same = absurd same

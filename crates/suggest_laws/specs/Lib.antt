@@ -7,3 +7,4 @@ pub mod ProofTexts
 pub mod CitableStates
 pub mod Proving
 pub mod Suggesting
+pub mod Edited

@@ -7,15 +7,19 @@ ghost use Rattle.doc_nodes.specs.declared.node.Entry.{Entry};
 ghost use Rattle.doc_headers.specs.Reading.{header_in};
 ghost use Rattle.doc_nodes.specs.Aliases.{aliases_at};
 ghost use Rattle.doc_nodes.specs.Names.{in_order};
+ghost use Rattle.doc_nodes.specs.Imports.{NodeList};
+ghost use Rattle.exec_rules.specs.Assigning.{entries_at};
 ghost use Rattle.exec_rules.specs.Kept.{BlobList};
+ghost use Rattle.core_rules.specs.Scratch.{Run};
 ghost use Rattle.core_rules.specs.Settings.{Setting};
 ghost use Rattle.isar_rules.specs.declared.state.State.{State};
 ghost use Rattle.buffer_rules.specs.declared.sheet.Sheet.{Sheet};
-ghost use Rattle.buffer_rules.specs.Nodes.{uncut_all};
+ghost use Rattle.buffer_rules.specs.Nodes.{nodes_after, uncut_all};
 ghost use Rattle.buffer_rules.specs.Numbers.{Command};
 ghost use Rattle.buffer_rules.specs.Sheets.{SheetList};
 ghost use Rattle.language.specs.declared.made.Imports.{Imports};
 ghost use Rattle.inserted_commands.specs.Insertion.{IsUnbroken};
+ghost use Rattle.suggest_laws.specs.Edited.{NodeComesTo, IsTakenAt};
 ghost use Rattle.suggest_laws.specs.Suggesting.{Beginning, beginning_at, IsEditedAt, node_of, run_of, Suggests, IsTaken};
 
 /// Where a command's print suggests a proof and the command's last token is no error: after the
@@ -62,4 +66,25 @@ pub fn document_law()
     suggest_law();
     crate::aliases::names_law();
     crate::aliases::headers_law();
+}
+
+/// The same over what documents come to when they are checked from nothing. Where the print of a
+/// node's command suggests a proof, and the edit puts it in behind the command, the document with
+/// the new text is checked from nothing: there the node begins with what its own imports come to,
+/// and comes to the old commands with the proof behind that one, which reports no error.
+pub fn edited_law()
+    ensures { (sheets others : SheetList) (p : ℕ) (sheet : Sheet) (tip old : NodeList)
+        (next last : ℕ) (blobs : BlobList) (run : Run State) (k : ℕ) (e : Entry)
+        (s : Setting State) (text new : List ℕ)
+        → let nodes = (nodes_after tip sheets next).nodes in
+        IsEditedAt sheets others p sheet new → NodeComesTo nodes blobs p run
+        → slice_get (entries_at nodes p) k ≡ Some e
+        → slice_get run.commands k ≡ Some s → Suggests s text
+        → IsUnbroken sheet.text (map (λ pair. pair.0) (aliases_at nodes p).pairs) e.range.stop
+        → Applies (edit e.range.stop text) sheet.text new
+        → IsTakenAt (nodes_after old others last).nodes blobs p run sheet.text new text k }
+{
+    document_law();
+    buffer_rules::ids_law();
+    doc_nodes::order_law();
 }

@@ -15,6 +15,6 @@ mod texts;
 
 pub use aliases::{headers_law, names_law};
 pub use commands::{citable_states, suggested_by};
-pub use laws::{document_law, suggest_law};
+pub use laws::{document_law, edited_law, suggest_law};
 pub use lexemes::written_tokens;
 pub use texts::{alike_terms, suggested_command, suggested_proof};

@@ -8,3 +8,16 @@ mod Running
 mod Needed
 mod Documents
 mod Alone
+mod Grown
+mod Goals
+mod Adding
+mod Added
+mod Closing
+mod Ending
+mod Stating
+mod Merging
+mod Imported
+mod Owned
+mod NodeRuns
+mod Handing
+mod DocumentFacts
