@@ -10,3 +10,4 @@ pub mod Scan
 pub mod Counted
 pub mod State
 pub mod Feeding
+pub mod First

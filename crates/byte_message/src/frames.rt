@@ -30,6 +30,7 @@ impl Frames {
     ghost use Rattle.byte_message.specs.Kept.{Stands};
     ghost use Rattle.byte_message.specs.Stream.{IsReadAs};
     ghost use Rattle.byte_message.specs.Feeding.{Feeds, Takes, ending_of, cut_off};
+    ghost use Rattle.byte_message.specs.First.{FeedsFirst};
 
     /// A decoder at the beginning of a stream. It takes no memory.
     pub fn new(alloc: Global) -> Frames
@@ -65,6 +66,32 @@ impl Frames {
             return Err(FeedError::Frame(fault));
         }
         Ok(made)
+    }
+
+    /// Takes the next piece up to the end of the first message that it makes whole, or all of it
+    /// where it makes none. Answers how many bytes it took; `next` hands the message out. A fault
+    /// is answered from then on, and where memory runs out nothing has changed, as by `feed`.
+    pub fn feed_first(&mut self, piece: &[u8]) -> Result<usize, FeedError>
+        ensures feeds { FeedsFirst self.old piece.now self.new result }
+        ensures faulted { IfSome self.old.fault (λ fault.
+            (result ≡ Err (FeedError.Frame fault)) × (self.new ≡ self.old)) }
+    {
+        if let Some(fault) = self.state.part.fault() {
+            return Err(FeedError::Frame(fault));
+        }
+        let used = self.state.feed_first(self.alloc, piece)?;
+        if let Some(fault) = self.state.part.fault() {
+            return Err(FeedError::Frame(fault));
+        }
+        Ok(used)
+    }
+
+    /// Where the message in progress begins, or the next one: its first byte, counted from the
+    /// stream's beginning; past 2^64 - 1 it is told as that.
+    pub fn place(&self) -> u64
+        ensures { result ≡ self.now.at }
+    {
+        self.state.at
     }
 
     /// The next whole message; `None` exactly where none is whole.

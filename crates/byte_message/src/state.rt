@@ -1,14 +1,16 @@
 //! What a decoder keeps, and what a piece does to it.
-ghost use Rattle.std.specs.Prelude.{◌≡◌, ◌++◌, ◌+◌, IfOk, OnOk, OnErr, IsOk, ◌≤◌, length, None};
+ghost use Rattle.std.specs.Prelude.{◌≡◌, [], ◌++◌, ◌+◌, IfOk, OnOk, OnErr, IsOk, ◌≤◌, length, None};
 ghost use Rattle.std.specs.VecDeque.{deque_len, deque_capacity};
 ghost use Rattle.byte_message.specs.Kept.{Advances};
 ghost use Rattle.byte_message.specs.Parts.{rest_of, fault_of};
 ghost use Rattle.byte_message.specs.Begun.{BeginsAs};
 ghost use Rattle.byte_message.specs.Chunks.{cut};
+ghost use Rattle.byte_message.specs.First.{LeadsOn};
+ghost use Rattle.byte_message.specs.Stream.{told};
 
 use crate::begin::{Begun, begin};
 use crate::message::Message;
-use crate::part::{Chunks, Part};
+use crate::part::{Chunks, Line, Part};
 use crate::read::{Reading, read};
 use std::alloc::{AllocError, Global};
 use std::collections::VecDeque;
@@ -129,6 +131,97 @@ impl State {
         let message = complete(alloc, chunks, &piece[..missing])?;
         reading.made.push_front_reserved(message);
         self.join(reading)
+    }
+
+    /// Takes the next piece up to the end of the first message that it makes, where no fault was
+    /// judged. Answers how many bytes it took.
+    pub(crate) fn feed_first(&mut self, alloc: Global, piece: &[u8]) -> Result<usize, AllocError>
+        requires { fault_of self.old.part ≡ None }
+        ensures ok { IfOk result (LeadsOn (framing self.old) piece.now (framing self.new)) }
+        ensures err { OnErr result (framing self.new ≡ framing self.old) }
+    {
+        match &self.part {
+            Part::Bad(_) => Ok(0),
+            Part::Line(line) => {
+                let held = line.bytes.len();
+                let begun = begin(alloc, line.bytes.as_slice(), piece)?;
+                self.take_first(alloc, begun, held, piece)
+            }
+            Part::Chunks(_) => self.fill_chunks(alloc, piece),
+        }
+    }
+
+    /// What came of a line that hadn't ended, of `held` bytes, up to the end of its message.
+    fn take_first(
+        &mut self,
+        alloc: Global,
+        begun: Begun,
+        held: usize,
+        piece: &[u8],
+    ) -> Result<usize, AllocError>
+        requires line { HoldsLine self.old.part }
+        requires held { held ≡ length (rest_of self.old.part) }
+        requires begun { BeginsAs (rest_of self.old.part) piece.now begun }
+        ensures ok { IfOk result (LeadsOn (framing self.old) piece.now (framing self.new)) }
+        ensures err { OnErr result (framing self.new ≡ framing self.old) }
+    {
+        let place = self.at;
+        match begun {
+            Begun::Line => {
+                if let Part::Line(line) = &mut self.part {
+                    line.bytes.extend_from_slice(piece)?;
+                }
+            }
+            Begun::Bad(fault) => self.part = Part::Bad(fault.placed(place)),
+            Begun::Within(chunks) => self.part = Part::Chunks(chunks),
+            Begun::Whole { message, used } => {
+                self.waiting.push_back(message)?;
+                self.go_on(alloc, held, used);
+                return Ok(used);
+            }
+        }
+        Ok(piece.len())
+    }
+
+    /// Goes on to the message behind the one in progress, of which so many bytes were held, and so
+    /// many came with the piece.
+    fn go_on(&mut self, alloc: Global, held: usize, used: usize)
+        ensures waiting { self.new.waiting ≡ self.old.waiting }
+        ensures at { self.new.at ≡ told (self.old.at + (held + used)) }
+        ensures rest { rest_of self.new.part ≡ [] }
+        ensures fault { fault_of self.new.part ≡ None }
+    {
+        self.at = self
+            .at
+            .saturating_add(held as u64)
+            .saturating_add(used as u64);
+        self.part = Part::Line(Line {
+            bytes: Vec::new(alloc),
+        });
+    }
+
+    /// A piece up to the end of the message, where a fit line is kept and fewer bytes than its
+    /// chunks have.
+    fn fill_chunks(&mut self, alloc: Global, piece: &[u8]) -> Result<usize, AllocError>
+        requires { HoldsChunks self.old.part }
+        ensures ok { IfOk result (LeadsOn (framing self.old) piece.now (framing self.new)) }
+        ensures err { OnErr result (framing self.new ≡ framing self.old) }
+    {
+        let chunks = match &mut self.part {
+            Part::Chunks(chunks) => chunks,
+            _ => return Ok(0),
+        };
+        let missing = chunks.whole - chunks.bytes.len();
+        if piece.len() < missing {
+            chunks.bytes.extend_from_slice(piece)?;
+            return Ok(piece.len());
+        }
+        let held = chunks.line.len() + chunks.bytes.len();
+        self.waiting.reserve(1)?;
+        let message = complete(alloc, chunks, &piece[..missing])?;
+        self.waiting.push_back_reserved(message);
+        self.go_on(alloc, held, missing);
+        Ok(missing)
     }
 }
 
