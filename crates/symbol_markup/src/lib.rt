@@ -7,8 +7,10 @@
 
 mod laws;
 mod places;
+mod scalars;
 mod told;
 
 pub use laws::{places_in_symbols, ranges_are_had_back};
 pub use places::SymbolPlaces;
+pub use scalars::reports_in_scalars;
 pub use told::{in_symbols, reports_in_symbols};

@@ -1,6 +1,7 @@
 //! The places of one text, counted in symbols.
-ghost use Rattle.std.specs.Prelude.{◌≡◌, ◌+◌, ◌≤◌, length, IfOk};
-ghost use Rattle.symbol_markup.specs.Places.{symbol_place, symbol_range};
+ghost use Rattle.std.specs.Prelude.{◌≡◌, ◌+◌, ◌≤◌, ◌&&◌, nat_le, length, IfOk};
+ghost use Rattle.symbols.specs.Symbols.{symbols_of};
+ghost use Rattle.symbol_markup.specs.Places.{symbol_place, symbol_range, scalar_place, scalar_range};
 
 use crate::laws::places_in_symbols;
 use pide_base::Range;
@@ -59,6 +60,35 @@ impl<'a> SymbolPlaces<'a> {
     {
         places_in_symbols();
         self.symbol_at(place.min(self.text.len())) + 1
+    }
+
+    /// Whether a symbol of the text, or its end, has this number, counted from 1.
+    pub fn has(&self, number: usize) -> bool
+        ensures { result
+            ≡ (nat_le 1 number && nat_le number (length (symbols_of self.now) + 1)) }
+    {
+        number > 0 && self.table.to_scalar(number - 1).is_some()
+    }
+
+    /// Where the symbol of a number, counted from 1, begins, in scalars from 0; the text's end for
+    /// a number that is higher than those of all symbols. Time is constant.
+    pub fn scalar(&self, number: usize) -> usize
+        ensures { result ≡ scalar_place self.now number }
+    {
+        match self.table.to_scalar(number.saturating_sub(1)) {
+            Some(place) => place,
+            None => self.text.len(),
+        }
+    }
+
+    /// The range in scalars of one in symbols.
+    pub fn scalars(&self, range: Range) -> Range
+        ensures { result ≡ scalar_range self.now range }
+    {
+        Range {
+            start: self.scalar(range.start),
+            stop: self.scalar(range.stop),
+        }
     }
 
     /// The range in symbols of one in scalars.
