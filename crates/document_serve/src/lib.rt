@@ -8,7 +8,6 @@
 
 mod alone;
 mod laws;
-mod never;
 mod run;
 mod served;
 mod serving;

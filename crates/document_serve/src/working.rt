@@ -10,7 +10,6 @@ ghost use Rattle.document_session.specs.lists_below.Legal.{AreLegal};
 ghost use Rattle.document_session.specs.states_below.Works.{IsWorkOf};
 ghost use Rattle.document_serve.specs.Steps.{IsWorked, IsLeftOff};
 
-use crate::never::Never;
 use core_jobs::job_law;
 use document_session::jobs_below::{SessionJob, SessionRan};
 use document_session::{Claim, Session};
@@ -65,7 +64,7 @@ fn work_on<L: Language, P: Past<Service, Entry> + Drop>(
     ensures legal { AreLegal L.lang session.new.service session.new.items }
 {
     job_law::<L>();
-    match job.run(alloc, lang, &mut Never) {
+    match job.run(alloc, lang, &mut Never::new()) {
         SessionRan::Done(done) => {
             session.finish(0, done);
             Ok(())

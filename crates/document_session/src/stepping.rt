@@ -23,7 +23,7 @@ use core_jobs::job_law;
 use joined_results::both;
 use language::Language;
 use message_values::{Refusal, Worker, a_message_is_asked_where_it_is_spelled};
-use pide_base::{Part, Stop};
+use pide_base::{Never, Part};
 use prover_core::Claim as CoreClaim;
 use reply_outbox::{Outbox, Past};
 use session_rules::{Entry, Service};
@@ -31,18 +31,6 @@ use session_states::jobs_below::{SessionJob, SessionRan};
 use session_states::replies_below::{claimed, dropped};
 use session_states::step_laws;
 use std::alloc::{AllocError, Global};
-
-/// Never asks to stop.
-#[derive(Drop)]
-struct Never;
-
-impl Stop for Never {
-    ghost yeses = { λ never. 0 };
-
-    fn asked(&mut self) -> bool {
-        false
-    }
-}
 
 impl<L: Language, P: Past<Service, Entry> + Drop> Session<L, P> {
     /// The worker takes the first ready part.
@@ -125,7 +113,7 @@ impl<L: Language, P: Past<Service, Entry> + Drop> Session<L, P> {
         let Some(job) = take_out(&mut self.jobs, who) else {
             return self.refuse(alloc, message, Refusal::NothingToStep);
         };
-        match job.run(alloc, lang, &mut Never) {
+        match job.run(alloc, lang, &mut Never::new()) {
             SessionRan::Done(done) => {
                 self.called = true;
                 self.outbox.add(Entry::Call(message), None);

@@ -2,22 +2,10 @@
 ghost use Rattle.std.specs.Prelude.{◌≡◌, None, IfOk};
 
 use language::{Answer, Language, Made};
-use pide_base::Stop;
+use pide_base::Never;
 use report_markup::Report;
 use sqlite_items::Items;
 use std::alloc::{AllocError, Global};
-
-/// Never asks.
-#[derive(Drop)]
-struct Never;
-
-impl Stop for Never {
-    ghost yeses = { λ _. 0 };
-
-    fn asked(&mut self) -> bool {
-        false
-    }
-}
 
 /// What the command of this source makes of the state; there is no blob for it.
 pub(crate) fn step<L: Language>(
@@ -28,7 +16,7 @@ pub(crate) fn step<L: Language>(
 ) -> Result<Made<L::State>, AllocError>
     ensures { IfOk result (λ made. made ≡ L.lang.step source.now None state.now) }
 {
-    match language.step(alloc, source, None, state, &mut Never) {
+    match language.step(alloc, source, None, state, &mut Never::new()) {
         Answer::Given(made) => Ok(made),
         Answer::Stopped => unreachable!(),
         Answer::NoMemory => Err(AllocError),
@@ -44,7 +32,7 @@ pub(crate) fn fork<L: Language>(
 ) -> Result<Items<Report>, AllocError>
     ensures { IfOk result (λ reports. reports ≡ L.lang.fork source.now state.now) }
 {
-    match language.fork(alloc, source, state, &mut Never) {
+    match language.fork(alloc, source, state, &mut Never::new()) {
         Answer::Given(reports) => Ok(reports),
         Answer::Stopped => unreachable!(),
         Answer::NoMemory => Err(AllocError),

@@ -3,3 +3,4 @@ pub mod Faults
 pub mod Ids
 pub mod Moves
 pub mod NodeName
+pub mod Questions

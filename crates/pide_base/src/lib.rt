@@ -9,6 +9,7 @@
 mod flag;
 mod gate;
 mod ids;
+mod never;
 mod node_name;
 mod part;
 mod push_all;
@@ -21,6 +22,7 @@ mod stop;
 pub use flag::Flag;
 pub use gate::{Gate, Point};
 pub use ids::{CommandId, ExecId, VersionId};
+pub use never::Never;
 pub use node_name::{NodeName, is_node_name};
 pub use part::{Part, PartKind};
 pub use push_all::push_whole;

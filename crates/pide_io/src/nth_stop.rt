@@ -23,6 +23,8 @@ impl NthStop {
 impl Stop for NthStop {
     ghost yeses = { λ s. s.yeses };
 
+    ghost questions = { λ s. s.questions };
+
     fn asked(&mut self) -> bool {
         self.questions = self.questions.saturating_add(1);
         if self.questions != self.nth {

@@ -6,7 +6,6 @@ ghost use Rattle.core_rules.specs.Doc.{doc};
 ghost use Rattle.test_editor.specs.Tally.{counting};
 ghost use Rattle.test_editor.specs.Desk.{IsPreparedBy};
 
-use crate::never::Never;
 use crate::table::{Table, put, take_out};
 use crate::tally::Tally;
 use buffer_laws::fits_law;
@@ -17,7 +16,7 @@ use editor_buffer::{Buffer, Prepared};
 use exec_assign::{AssignFault, ToldNode};
 use exec_table::Cancelling;
 use message_values::{BlobChange, Item, Refusal};
-use pide_base::{ExecId, Part, VersionId};
+use pide_base::{ExecId, Never, Part, VersionId};
 use prover_core::{Claim, Core, Finish, GiveUp};
 use sheet_edits::PrepareError;
 use sqlite_items::Items;
@@ -155,7 +154,7 @@ impl Desk {
             return Ok(Left::Nothing);
         };
         let part = job.part();
-        match job.run(alloc, &Tally, &mut Never) {
+        match job.run(alloc, &Tally, &mut Never::new()) {
             Ran::Stopped(_) | Ran::NoMemory(_) => Err(AllocError),
             Ran::Done(done) => match self.core.finish(who, done) {
                 Finish::Finished => Ok(Left::Finished(part)),

@@ -1,10 +1,9 @@
 //! A language whose states are lengths (`language`).
 use crate::asking::named;
-use crate::never::Never;
 use crate::sharing::shared;
 use doc_nodes::{Aliases, NodeAliases};
 use language::{Answer, Imports, Language, Made};
-use pide_base::{NodeName, Stop};
+use pide_base::{Never, NodeName, Stop};
 use report_markup::Report;
 use script_lines::Fault;
 use sqlite_items::Items;
@@ -84,7 +83,7 @@ fn begun<L: Language>(lang: &L, alloc: Global) -> Result<L::State, Fault> {
 /// The state behind a command of this source, in a node without imports.
 fn left<L: Language>(lang: &L, alloc: Global, source: &[char]) -> Result<L::State, Fault> {
     let state = begun(lang, alloc)?;
-    match lang.step(alloc, source, None, &state, &mut Never) {
+    match lang.step(alloc, source, None, &state, &mut Never::new()) {
         Answer::Given(made) => Ok(made.state),
         Answer::Stopped => Err(Fault::Line),
         Answer::NoMemory => Err(Fault::NoMemory),

@@ -13,7 +13,6 @@ mod jobs;
 mod laws;
 mod lengths;
 mod long_texts;
-mod never;
 mod open_nodes;
 mod orders;
 mod parity;

@@ -1,6 +1,5 @@
 //! A version checked from nothing: its nodes in the order of imports, in each one command after the
 //! other. No execution, worker or version before is in it.
-use crate::never::Never;
 use crate::sharing::shared;
 use crate::tally::Tally;
 use doc_nodes::{Entry, ImportGraph, Node, NodeAliases, Nodes, aliases_of};
@@ -107,10 +106,10 @@ fn command(
         state: behind,
         reports,
         forks,
-    } = given(Tally.step(alloc, source, blob, &state, &mut Never))?;
+    } = given(Tally.step(alloc, source, blob, &state, &mut Never::new()))?;
     add(said, start, reports)?;
     if forks {
-        let forked = given(Tally.fork(alloc, source, &state, &mut Never))?;
+        let forked = given(Tally.fork(alloc, source, &state, &mut Never::new()))?;
         add(said, start, forked)?;
     }
     if entry.visible {

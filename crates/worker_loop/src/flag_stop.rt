@@ -10,6 +10,7 @@ pub struct FlagStop<'a, 'b, G> {
     part: Part,
     muted: bool,
     yeses: u64,
+    questions: u64,
 }
 
 impl<'a, 'b, G: Gate> FlagStop<'a, 'b, G> {
@@ -29,6 +30,7 @@ impl<'a, 'b, G: Gate> FlagStop<'a, 'b, G> {
             part,
             muted,
             yeses: 0,
+            questions: 0,
         }
     }
 }
@@ -36,7 +38,10 @@ impl<'a, 'b, G: Gate> FlagStop<'a, 'b, G> {
 impl<'a, 'b, G: Gate> Stop for FlagStop<'a, 'b, G> {
     ghost yeses = { λ s. s.yeses };
 
+    ghost questions = { λ s. s.questions };
+
     fn asked(&mut self) -> bool {
+        self.questions = self.questions.saturating_add(1);
         self.gate.at(self.who, Point::Asked(self.part));
         if self.muted || !self.flag.is_set() {
             return false;

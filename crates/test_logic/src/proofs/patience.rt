@@ -23,6 +23,8 @@ impl Patience {
 impl Stop for Patience {
     ghost yeses = { λ s. s.yeses };
 
+    ghost questions = { λ s. s.asked };
+
     fn asked(&mut self) -> bool {
         self.asked = self.asked.saturating_add(1);
         if self.asked < self.last {
