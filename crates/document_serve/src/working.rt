@@ -14,6 +14,7 @@ use core_jobs::job_law;
 use document_session::jobs_below::{SessionJob, SessionRan};
 use document_session::{Claim, Session};
 use language::Language;
+use pide_base::Never;
 use reply_outbox::Past;
 use session_rules::{Entry, Service};
 use std::alloc::{AllocError, Global};

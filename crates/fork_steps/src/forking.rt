@@ -1,15 +1,19 @@
 //! What is reported of the proof behind a command that forks.
 ghost use Rattle.std.specs.Prelude.{◌≡◌, ◌∷◌, [], ℕ, IfOk, drop};
+ghost use Rattle.pide_base.specs.Questions.{risen_by};
 ghost use Rattle.report_markup.specs.declared.kind.ReportKind.TheVariants as kinds;
 ghost use Rattle.report_markup.specs.Sorting.{in_order};
 ghost use Rattle.proof_terms.specs.Marks.{marks};
 ghost use Rattle.proof_terms.specs.Reading.{proof_of};
 ghost use Rattle.proof_terms.specs.Texts.{fault_text};
 ghost use Rattle.proof_checks.specs.Checks.{checked};
+ghost use Rattle.proof_checks.specs.Questions.{rules_judged};
 ghost use Rattle.language.specs.Answers.{IsAnswer};
+ghost use Rattle.language.specs.Questions.{AsksSo};
 ghost use Rattle.isar_rules.specs.Reports.{report, whole, error_report};
 ghost use Rattle.isar_rules.specs.Cites.{refs};
 ghost use Rattle.isar_rules.specs.Forks.{verdict, judged, forked_at};
+ghost use Rattle.fork_steps.specs.Questions.{questions_of, questions_at};
 
 use crate::citing::add_cites;
 use command_reports::{error_report, proved_report};
@@ -28,8 +32,10 @@ use theory_ctx::Scope;
 
 /// What was made, as the answer of a job that was not stopped.
 pub fn given<T>(made: Result<T, AllocError>) -> Answer<T>
-    ensures { (value : T) (before now : ℕ) → IfOk made (λ x. x ≡ value)
+    ensures answer { (value : T) (before now : ℕ) → IfOk made (λ x. x ≡ value)
         → IsAnswer result value before now }
+    ensures asks { (questions before now : ℕ) → now ≡ risen_by questions before
+        → AsksSo result questions before now }
 {
     match made {
         Ok(made) => Answer::Given(made),
@@ -82,8 +88,10 @@ fn checked<P: Stop>(
     term: &Term,
     stop: &mut P,
 ) -> Answer<Items<Report>>
-    ensures { IsAnswer result (verdict source.now (refs scope.now term.now)
+    ensures answer { IsAnswer result (verdict source.now (refs scope.now term.now)
         (checked term.now goal.now scope.now)) (P.yeses stop.old) (P.yeses stop.new) }
+    ensures asks { AsksSo result (rules_judged term.now goal.now scope.now)
+        (P.questions stop.old) (P.questions stop.new) }
 {
     match check(alloc, term, goal, scope, stop) {
         Checked::Proved(theorem) => {
@@ -105,8 +113,11 @@ fn judged<P: Stop>(
     scope: &Scope,
     stop: &mut P,
 ) -> Answer<Items<Report>>
-    ensures { IsAnswer result (judged source.now goal.now scope.now
+    ensures answer { IsAnswer result (judged source.now goal.now scope.now
         (proof_of (marks source.now tokens.now))) (P.yeses stop.old) (P.yeses stop.new) }
+    ensures asks { AsksSo result
+        (questions_of goal.now scope.now (proof_of (marks source.now tokens.now)))
+        (P.questions stop.old) (P.questions stop.new) }
 {
     one_answer();
     match read(alloc, source, tokens) {
@@ -130,7 +141,8 @@ fn behind_first(tokens: &[Token]) -> &[Token]
     }
 }
 
-/// What is reported of the tokens of a command at a place: nothing where no goal is open.
+/// What is reported of the tokens of a command at a place: nothing where no goal is open. `stop` is
+/// asked once before each rule of the proof that is judged, and nowhere else.
 pub fn forked_at<P: Stop>(
     alloc: Global,
     source: &[char],
@@ -138,8 +150,10 @@ pub fn forked_at<P: Stop>(
     place: &Place,
     stop: &mut P,
 ) -> Answer<Items<Report>>
-    ensures { IsAnswer result (forked_at source.now tokens.now place.now)
+    ensures answer { IsAnswer result (forked_at source.now tokens.now place.now)
         (P.yeses stop.old) (P.yeses stop.new) }
+    ensures asks { AsksSo result (questions_at source.now tokens.now place.now)
+        (P.questions stop.old) (P.questions stop.new) }
 {
     let Place::Proof { theory, proof, .. } = place else {
         return Answer::Given(Items::new(alloc));

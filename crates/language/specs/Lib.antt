@@ -1,3 +1,4 @@
 pub mod Lang
 pub mod Answers
+pub mod Questions
 pub mod Laws

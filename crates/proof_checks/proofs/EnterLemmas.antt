@@ -18,7 +18,7 @@ use Rattle.proof_checks.specs.Rows.{Planned, step_of}
 use Rattle.proof_checks.proofs.FitLemmas.{step_fits}
 use Rattle.proof_checks.proofs.ProvingLemmas.{within_of}
 
-out-Fact : (t : Term) (c : Cite) → t ≡ Fact c → out-Term t ≡ Term-F.Fact c
+pub out-Fact : (t : Term) (c : Cite) → t ≡ Fact c → out-Term t ≡ Term-F.Fact c
 out-Fact t c is = ap out-Term (is ∙ sym (rolls-Fact c)) ∙ out-roll-Term (Term-F.Fact c)
 
 cited_layer : (left : ℕ) (c : Cite) (goal : Formula) → step_within left (Term-F.Fact c) goal ≡ Ok (Cited c)

@@ -21,3 +21,6 @@ mod RowLemmas
 mod StepLemmas
 mod FormLemmas
 mod ToldLemmas
+mod QuestionLemmas
+mod JudgedLemmas
+mod PartQuestions

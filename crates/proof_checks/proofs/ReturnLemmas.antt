@@ -83,7 +83,7 @@ module _ (sub : Term → Formula → Scoped → Found) (goal : Formula) (scope :
   same_taken step other result is told = subst (λ x. Taken x result) (sym is) told
 
   -- a part that was checked in the scope as it came back
-  here : (s : Scoped) (result : Result Thm Halt) (p : Part) → s ≡ scope → Gives result (Below s p) (meaning p.goal) → Gives result (Below scope p) (meaning p.goal)
+  pub here : (s : Scoped) (result : Result Thm Halt) (p : Part) → s ≡ scope → Gives result (Below s p) (meaning p.goal) → Gives result (Below scope p) (meaning p.goal)
   here s result p same told = subst (λ k. Gives result (Below k p) (meaning p.goal)) same told
 
   module _ (rule : Binary) (p q : Part) where

@@ -9,3 +9,4 @@ pub mod Kernel
 pub mod Joined
 pub mod Forms
 pub mod Told
+pub mod Questions

@@ -2,6 +2,7 @@ ghost use Rattle.std.specs.Prelude.{◌≡◌};
 ghost use Rattle.nj_formula.specs.Meaning.{meaning};
 ghost use Rattle.proof_checks.specs.Answers.{Answers, AssumesOnly, Counts};
 ghost use Rattle.proof_checks.specs.Checks.{checked};
+ghost use Rattle.proof_checks.specs.Questions.{AsksEach, rules_judged};
 ghost use Rattle.proof_checks.specs.Scopes.{Stands};
 ghost use Rattle.proof_checks.specs.Told.{Tells};
 
@@ -29,6 +30,8 @@ pub fn check<P: Stop>(
     ensures answer { Answers result (checked term.now goal.now scope.now) (meaning goal.now) }
     ensures assumes { AssumesOnly result (Stands scope.now) }
     ensures counts { Counts result (P.yeses stop.old) (P.yeses stop.new) }
+    ensures asks { AsksEach result (rules_judged term.now goal.now scope.now)
+        (P.questions stop.old) (P.questions stop.new) }
 {
     let mut within = scope.inner(alloc);
     told(proved(alloc, term, goal, &mut within, stop, deepest()))

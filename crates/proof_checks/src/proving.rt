@@ -1,6 +1,7 @@
 //! A term is taken apart, its parts are proved, and their theorems are joined.
 
 ghost use Rattle.std.specs.Prelude.{◌≡◌, ◌≢◌, ◌-◌, IfOk, OnOk, drop};
+ghost use Rattle.pide_base.specs.Faults.{risen};
 ghost use Rattle.nj_formula.specs.Meaning.{meaning};
 ghost use Rattle.theory_ctx.specs.Locals.{seen};
 ghost use Rattle.proof_terms.specs.declared.term.Cite.{Cite};
@@ -8,6 +9,7 @@ ghost use Rattle.proof_terms.specs.declared.term.Term.{out-Term};
 ghost use Rattle.proof_terms.specs.declared.term.Term.TheVariants.{Fact};
 ghost use Rattle.proof_checks.specs.Answers.{Gives, Enters, Asked};
 ghost use Rattle.proof_checks.specs.Checks.{checked_within, step_within, of_step};
+ghost use Rattle.proof_checks.specs.Questions.{rules_in_parts, judged_within, AskedEach};
 ghost use Rattle.proof_checks.specs.Fits.{FitsTwo, FitsThree, Fits, IsWithin};
 ghost use Rattle.proof_checks.specs.Scopes.{inside};
 ghost use Rattle.proof_checks.specs.declared.step.Step.TheVariants.{Two, Three};
@@ -36,6 +38,7 @@ fn entered<P: Stop>(
     requires { (c : Cite) → term.now ≢ Fact c }
     ensures plans { Enters result (step_within left (out-Term term.now) goal.now) }
     ensures asked { Asked result (P.yeses stop.old) (P.yeses stop.new) }
+    ensures asks { P.questions stop.new ≡ risen (P.questions stop.old) }
     ensures deep { IfOk result (λ step. IsWithin step left) }
     ensures fits { IfOk result (λ step. Fits step (meaning goal.now)) }
 {
@@ -72,6 +75,8 @@ pub(crate) fn proved<P: Stop>(
         (meaning goal.now) }
     ensures scope { OnOk result (scope.new ≡ scope.old) }
     ensures asked { Asked result (P.yeses stop.old) (P.yeses stop.new) }
+    ensures asks { AskedEach result (judged_within left term.now goal.now (seen scope.old))
+        (P.questions stop.old) (P.questions stop.new) }
 {
     if let Term::Fact(cite) = term {
         return cited(alloc, cite, goal, scope);
@@ -97,6 +102,9 @@ fn taken<P: Stop>(
         (meaning goal.now) }
     ensures scope { OnOk result (scope.new ≡ scope.old) }
     ensures asked { Asked result (P.yeses stop.old) (P.yeses stop.new) }
+    ensures asks { AskedEach result
+        (rules_in_parts (checked_within (left - 1)) (judged_within (left - 1)) (seen scope.old) step.now)
+        (P.questions stop.old) (P.questions stop.new) }
 {
     match step {
         Step::Cited(cite) => cited(alloc, cite, goal, scope),
@@ -127,6 +135,9 @@ fn two<P: Stop>(
         (Two rule.now p.now q.now)) (meaning goal.now) }
     ensures scope { OnOk result (scope.new ≡ scope.old) }
     ensures asked { Asked result (P.yeses stop.old) (P.yeses stop.new) }
+    ensures asks { AskedEach result
+        (rules_in_parts (checked_within left) (judged_within left) (seen scope.old)
+        (Two rule.now p.now q.now)) (P.questions stop.old) (P.questions stop.new) }
 {
     let t = premise(alloc, p, scope, stop, left)?;
     let last = premise(alloc, q, scope, stop, left);
@@ -153,6 +164,9 @@ fn three<P: Stop>(
         (Three p.now q.now r.now)) (meaning goal.now) }
     ensures scope { OnOk result (scope.new ≡ scope.old) }
     ensures asked { Asked result (P.yeses stop.old) (P.yeses stop.new) }
+    ensures asks { AskedEach result
+        (rules_in_parts (checked_within left) (judged_within left) (seen scope.old)
+        (Three p.now q.now r.now)) (P.questions stop.old) (P.questions stop.new) }
 {
     let t = premise(alloc, p, scope, stop, left)?;
     let u = premise(alloc, q, scope, stop, left)?;
@@ -175,6 +189,8 @@ fn premise<P: Stop>(
         (inside part.now.own (seen scope.old))) (meaning part.now.goal) }
     ensures scope { OnOk result (scope.new ≡ scope.old) }
     ensures asked { Asked result (P.yeses stop.old) (P.yeses stop.new) }
+    ensures asks { AskedEach result (judged_within left part.now.term part.now.goal
+        (inside part.now.own (seen scope.old))) (P.questions stop.old) (P.questions stop.new) }
 {
     match &part.own {
         None => proved(alloc, part.term.get(), &part.goal, scope, stop, left),

@@ -7,6 +7,7 @@ use exec_rules::Blobs;
 use joined_results::both;
 use language::{Answer, Imported, Imports, Language, Made};
 use outer_tokens::scalars;
+use pide_base::Never;
 use report_markup::Report;
 use script_lines::{Fault, once};
 use sqlite_items::Items;

@@ -1,6 +1,8 @@
 //! What is reported of a command that forks.
 ghost use Rattle.language.specs.Answers.{IsAnswer};
+ghost use Rattle.language.specs.Questions.{AsksSo};
 ghost use Rattle.isar_rules.specs.Forks.{fork};
+ghost use Rattle.fork_steps.specs.Questions.{fork_questions};
 
 use crate::tokens::{aliases_at, source_tokens};
 use doc_nodes::Aliases;
@@ -19,8 +21,10 @@ pub(crate) fn fork<P: Stop>(
     before: &State,
     stop: &mut P,
 ) -> Answer<Items<Report>>
-    ensures { IsAnswer result (fork source.now before.now)
+    ensures answer { IsAnswer result (fork source.now before.now)
         (P.yeses stop.old) (P.yeses stop.new) }
+    ensures asks { AsksSo result (fork_questions source.now before.now)
+        (P.questions stop.old) (P.questions stop.new) }
 {
     let none = Aliases::new(alloc);
     let aliases = aliases_at(&before.place, before.aliases.get(), &none);
