@@ -106,9 +106,9 @@ module _ {S : Type 0} (l : Lang S) (service : Service) (items : List SessionItem
     step_alone (entry.Claimed who part) e legal called a =
         claim_alone who part (legal_made l service (entry.Claimed who part) told legal).1.1 called a
     step_alone (entry.Finished who part) e legal called a =
-        finished_alone who part (finish_named who (legal_made l service (entry.Finished who part) told legal).1.2 called) a
+        finished_alone who part (finish_named who (legal_made l service (entry.Finished who part) told legal).1.1 called) a
     step_alone (entry.Dropped who part) e legal called a =
-        dropped_alone who part (finish_named who (legal_made l service (entry.Dropped who part) told legal).1.2 called) a
+        dropped_alone who part (finish_named who (legal_made l service (entry.Dropped who part) told legal).1.1 called) a
 
     -- it goes on after a message that is answered
     pub record IsAfter (new : List SessionItem) : Type 0 where

@@ -68,9 +68,9 @@ module _ {S : Type 0} (l : Lang S) (laws : HistoryLaws l) (service : Service) wh
       let s = session l service h in
       let fine = fine_after l laws service h legal.0 sound in
       let events = laws.legal service h legal.0 in
-      let real = held_part l s.events who p events legal.1.0 in
+      let real = held_part l s.events who p events legal.1.0.0 in
       let live = (and_parts (is_assigned (document l s).live p.exec)
-      (not (has (document l s).cancelled p.exec)) legal.1.1).0 in
+      (not (has (document l s).cancelled p.exec)) legal.1.0.1).0 in
       let one = any_from (λ (x : Live Version). assigns x.version p.exec)
       (document l s).live live in
       let good : FineLive one.1 = all_at FineLive (document l s).live one.0 one.1 fine.live one.2 in

@@ -49,7 +49,7 @@ module _ {S : Type 0} (l : Lang S) (laws : HistoryLaws l) (service : Service) wh
       let s = session l service h in (
         record {
           fits = part_fits l s p (fine_after l laws service h legal.0 sound.1)
-              (held_part l s.events who p (laws.legal service h legal.0) legal.1.0);
+              (held_part l s.events who p (laws.legal service h legal.0) legal.1.0.0);
           form = tt;
         },
         tt,

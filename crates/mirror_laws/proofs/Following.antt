@@ -101,14 +101,14 @@ module _ {S : Type 0} (l : Lang S) (laws : Laws) (is_told : IsTold l) (facts : F
         (waits ∙ ap (λ d. step_called d ++ (asked (mode_of service) c ∷ before)) legal.1.1)
     entry_step (entry.Claimed who part) legal alone first waits = claimed_step l laws is_told facts mode service (all_heard service h) m before is waits who part legal
     entry_step (entry.Finished who part) legal alone first waits =
-        finished_step l laws is_told facts mode service (all_heard service h) m before is waits who part legal (by legal.1.2)
+        finished_step l laws is_told facts mode service (all_heard service h) m before is waits who part legal (by legal.1.1)
       where
         by : (due l service (all_heard service h) ≡ Finishes who) ⊎ ((due l service (all_heard service h) ≡ Nothing) × (who ≤ free_workers service))
             → MayEnd mode (due l service (all_heard service h)) who before
         by (inl called) = inl (called, script_due h who called)
         by (inr free) = inr (free.0, finishes_so l part ahead h before service who free.1 alone first)
     entry_step (entry.Dropped who part) legal alone first waits =
-        dropped_step l laws is_told facts mode service (all_heard service h) m before is waits who part legal (by legal.1.2)
+        dropped_step l laws is_told facts mode service (all_heard service h) m before is waits who part legal (by legal.1.1)
       where
         by : (due l service (all_heard service h) ≡ Finishes who) ⊎ ((due l service (all_heard service h) ≡ Nothing) × (who ≤ free_workers service))
             → MayEnd mode (due l service (all_heard service h)) who before

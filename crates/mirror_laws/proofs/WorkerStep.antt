@@ -65,17 +65,17 @@ module _ {S : Type 0} (l : Lang S) (laws : Laws) (is_told : IsTold l) (facts : F
       → Outcome l mode m (told l service h (Finished who part)) (session l service (Finished who part ∷ h)) Nothing more
   finished_step who part legal may =
       let listed = facts.legal service h legal.0 in
-      let rs = reports l laws is_told facts s m listed is who part legal.1.0 in
+      let rs = reports l laws is_told facts s m listed is who part legal.1.0.0 in
       record {
         mirror = after_step mode (after_report m part rs);
         hears = (
           after_step mode (after_report m part rs),
           is_heard mode m (tells.Report part rs) (report_fine m (slice_get m.unanswered 0) part rs
-              (expected l laws is_told facts s m listed is who part legal.1.0 legal.1.1)),
+              (expected l laws is_told facts s m listed is who part legal.1.0.0 legal.1.0.1)),
           refl,
         );
         is = mirrors_other l (with_event s (event.Finished who part)) (with_event s (event.Finished who part)) (after_report m part rs)
-            (after_step mode (after_report m part rs)) (finished l laws is_told facts s m listed is who part legal.1.0) refl refl refl refl;
+            (after_step mode (after_report m part rs)) (finished l laws is_told facts s m listed is who part legal.1.0.0) refl refl refl refl;
         waits = left_waiting who may;
       }
 
@@ -87,7 +87,7 @@ module _ {S : Type 0} (l : Lang S) (laws : Laws) (is_told : IsTold l) (facts : F
         mirror = after_step mode m;
         hears = (after_step mode m, is_heard mode m (tells.Dropped part) (dropped_fine m (slice_get m.unanswered 0) part), refl);
         is = mirrors_other l (with_event s (event.Dropped who part)) (with_event s (event.Dropped who part)) m (after_step mode m)
-            (dropped l laws is_told facts s m listed is who part legal.1.0) refl refl refl refl;
+            (dropped l laws is_told facts s m listed is who part legal.1.0.0) refl refl refl refl;
         waits = left_waiting who may;
       }
 

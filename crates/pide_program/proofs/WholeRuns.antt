@@ -56,10 +56,10 @@ module _ {S : Type 0} (l : Lang S) (service : Service) (none : free_workers serv
   ends (entry.Claimed who p ∷ es) legal alone is = absurd (not_both (of es) legal.1.0.0 is)
   ends (entry.Finished zero p ∷ es) legal alone is = absurd (alone)
   ends (entry.Finished (suc w) p ∷ es) legal alone is =
-      absurd (not_both (of es) (goes_on (of es) (suc w) legal.0 (called_step _ _ w legal.1.2)) is)
+      absurd (not_both (of es) (goes_on (of es) (suc w) legal.0 (called_step _ _ w legal.1.1)) is)
   ends (entry.Dropped zero p ∷ es) legal alone is = absurd (alone)
   ends (entry.Dropped (suc w) p ∷ es) legal alone is =
-      absurd (not_both (of es) (goes_on (of es) (suc w) legal.0 (called_step _ _ w legal.1.2)) is)
+      absurd (not_both (of es) (goes_on (of es) (suc w) legal.0 (called_step _ _ w legal.1.1)) is)
 
 -- messages in order are those that the newest begins, read back
 called_back : (h : List Entry) → calls h ≡ reverse (called h)

@@ -107,12 +107,12 @@ module _ {S : Type 0} (l : Lang S) (service : Service) (law : AskedLaw) (none : 
 
   by_finish : (w : ℕ) (p : Part) (es : List Entry) → IsLegal l service (of (entry.Finished (suc w) p ∷ es)) → IsAlone l service None (of es)
       → due l service (of es) ≡ Finishes (suc w) → Known es → same (entry.Finished (suc w) p ∷ es)
-  by_finish w p (entry.Call m ∷ es) legal a is known = finishes es m (known_with es m legal.0 a known) (suc w) p is legal.1.0 legal.1.1
+  by_finish w p (entry.Call m ∷ es) legal a is known = finishes es m (known_with es m legal.0 a known) (suc w) p is legal.1.0.0 legal.1.0.1
   by_finish w p es legal a is known = absurd (cc)
 
   by_drop : (w : ℕ) (p : Part) (es : List Entry) → IsLegal l service (of (entry.Dropped (suc w) p ∷ es)) → IsAlone l service None (of es)
       → due l service (of es) ≡ Finishes (suc w) → Known es → same (entry.Dropped (suc w) p ∷ es)
-  by_drop w p (entry.Call m ∷ es) legal a is known = drops es m (known_with es m legal.0 a known) (suc w) p is legal.1.0 legal.1.1
+  by_drop w p (entry.Call m ∷ es) legal a is known = drops es m (known_with es m legal.0 a known) (suc w) p is legal.1.0.0 legal.1.0.1
   by_drop w p es legal a is known = absurd (cc)
 
   -- by the number of entries at most
@@ -124,9 +124,9 @@ module _ {S : Type 0} (l : Lang S) (service : Service) (law : AskedLaw) (none : 
       sym (thread_by es m known Nothing r.rest)
   all_same (suc k) (entry.Claimed (suc w) p ∷ es) le r = by_claim w p es r.legal r.alone (called es w (Claims (suc w)) r.legal.1.1)
       (λ from short rest. all_same k from (omega (arith, le, short)) rest)
-  all_same (suc k) (entry.Finished (suc w) p ∷ es) le r = by_finish w p es r.legal r.alone (called es w (Finishes (suc w)) r.legal.1.2)
+  all_same (suc k) (entry.Finished (suc w) p ∷ es) le r = by_finish w p es r.legal r.alone (called es w (Finishes (suc w)) r.legal.1.1)
       (λ from short rest. all_same k from (omega (arith, le, short)) rest)
-  all_same (suc k) (entry.Dropped (suc w) p ∷ es) le r = by_drop w p es r.legal r.alone (called es w (Finishes (suc w)) r.legal.1.2)
+  all_same (suc k) (entry.Dropped (suc w) p ∷ es) le r = by_drop w p es r.legal r.alone (called es w (Finishes (suc w)) r.legal.1.1)
       (λ from short rest. all_same k from (omega (arith, le, short)) rest)
   all_same (suc k) (entry.Ended ∷ es) le r = let going = r.going in absurd (cc)
   all_same (suc k) (e ∷ es) le r = let a = r.alone in absurd (a)

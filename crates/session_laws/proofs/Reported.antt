@@ -120,13 +120,13 @@ module _ {S : Type 0} (l : Lang S) (scratch : (h : List Event) (k : ℕ) (one : 
     reports service events (Finished who part ∷ h) legal =
         let s = session l service h in
         let is_legal = events h legal.0 in
-        let is = held_part l s.events is_legal who part legal.1.0 in
-        let wanted = (and_parts (is_assigned (document l s).live part.exec) _ legal.1.1).0 in
+        let is = held_part l s.events is_legal who part legal.1.0.0 in
+        let wanted = (and_parts (is_assigned (document l s).live part.exec) _ legal.1.0.1).0 in
         let one = live_one part.exec (document l s).live wanted in
         let row = rows_live s.events is_legal one.0 one.1 one.2 part.exec one.3 in (
           reports service events h legal.0,
           record {
-            home = tells_home s is_legal who part legal.1.0 legal.1.1;
+            home = tells_home s is_legal who part legal.1.0.0 legal.1.0.1;
             each = λ more before k one name i. tells_then s is_legal more before k one name i part;
             live = (one.0, one.1, row.name, row.place, one.2, its_row s.events is_legal one.0 one.1 one.2 part is row);
           },

@@ -114,8 +114,8 @@ module _ {S : Type 0} (l : Lang S) (service : Service) (law : AskedLaw) (given :
     ends = go (is_wanted (document l (session l service now)) holds_by.0.exec) refl
       where
         go : (b : Bool) → is_wanted (document l (session l service now)) holds_by.0.exec ≡ b → RestOf l service (m ∷ called es)
-        go true e = behind (entry.Finished (suc w) holds_by.0) (is.legal, (same_held, e, inl turn)) is.alone refl goes refl
-        go false e = behind (entry.Dropped (suc w) holds_by.0) (is.legal, (same_held, e, inl turn)) is.alone refl goes refl
+        go true e = behind (entry.Finished (suc w) holds_by.0) (is.legal, ((same_held, e), inl turn)) is.alone refl goes refl
+        go false e = behind (entry.Dropped (suc w) holds_by.0) (is.legal, ((same_held, e), inl turn)) is.alone refl goes refl
 
   -- what is due is done
   pub with_step : (d : Due) → due l service now ≡ d → RestOf l service (m ∷ called es)

@@ -67,7 +67,7 @@ module _ {S : Type 0} (l : Lang S) (laws : CoreLaws l) (law : AskedLaw) (service
       record {
         legal = (
           (w.legal, ((w.going, reader_idle l service (Some version) (of es) w.alone, first), inr (w.rest, turn))),
-          (refl, ready_wanted l (past es) p first, inr (refl, turn)),
+          ((refl, ready_wanted l (past es) p first), inr (refl, turn)),
         );
         alone = (refl, unsettled, w.alone);
         rest = refl;

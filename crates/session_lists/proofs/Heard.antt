@@ -48,9 +48,9 @@ module _ {S : Type 0} (l : Lang S) (service : Service) where
   unheard_after (Claimed who part ∷ h) legal e =
       absurd (unready l (session l service h).events part (unheard_after h legal.0 e).homes legal.1.0.2.ready)
   unheard_after (Finished who part ∷ h) legal e =
-      let none = (unheard_after h legal.0 e).idle who in let holds = legal.1.0 in absurd (cc)
+      let none = (unheard_after h legal.0 e).idle who in let holds = legal.1.0.0 in absurd (cc)
   unheard_after (Dropped who part ∷ h) legal e =
-      let none = (unheard_after h legal.0 e).idle who in let holds = legal.1.0 in absurd (cc)
+      let none = (unheard_after h legal.0 e).idle who in let holds = legal.1.0.0 in absurd (cc)
   unheard_after (Ended ∷ h) legal e =
       let before = unheard_after h legal.0 e in record { homes = before.homes; idle = before.idle }
 

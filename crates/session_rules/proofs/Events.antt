@@ -73,8 +73,8 @@ module _ {S : Type 0} (l : Lang S) (laws : FitLaws) where
   all_legal service (Claimed who part ∷ h) legal =
       still l laws (session l service h) (event.Claimed who part) (all_legal service h legal.0) legal.1.0 (refl, refl)
   all_legal service (Finished who part ∷ h) legal =
-      still l laws (session l service h) (event.Finished who part) (all_legal service h legal.0) (legal.1.0, legal.1.1) (refl, refl)
+      still l laws (session l service h) (event.Finished who part) (all_legal service h legal.0) legal.1.0 (refl, refl)
   all_legal service (Dropped who part ∷ h) legal =
-      still l laws (session l service h) (event.Dropped who part) (all_legal service h legal.0) (legal.1.0, legal.1.1) (refl, refl)
+      still l laws (session l service h) (event.Dropped who part) (all_legal service h legal.0) legal.1.0 (refl, refl)
   all_legal service (Ended ∷ h) legal =
       still l laws (session l service h) event.Ended (all_legal service h legal.0) legal.1.0 (refl, refl)

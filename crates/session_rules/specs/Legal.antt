@@ -1,15 +1,16 @@
 -- Which histories are legal, the newest entry first (Wenzel, ITP 2014, for claims and
 -- cancellations; the rest is this project's own).
 use Rattle.std.specs.Prelude.{◌≡◌, ℕ, ◌≤◌, ◌⊎◌, true, false, List, [], ◌∷◌, ⊤, Option, Some, None, Result, Ok, Err}
-use Rattle.pide_base.specs.declared.part.Part.{Part}
 use Rattle.exec_rules.specs.declared.version.Version.{Version}
 use Rattle.language.specs.Lang.{Lang}
 use Rattle.message_values.specs.declared.editor_message.EditorMessage.{EditorMessage}
 use Rattle.message_values.specs.declared.editor_message.EditorMessage.TheVariants as asks
 use Rattle.message_values.specs.declared.refusal.Refusal.{Refusal}
-use Rattle.core_rules.specs.Standing.{held, has_ended}
-use Rattle.core_rules.specs.Ready.{IsFirst, is_wanted}
+use Rattle.core_rules.specs.declared.event.Event.{Event}
+use Rattle.core_rules.specs.declared.event.Event.TheVariants as event
+use Rattle.core_rules.specs.Standing.{has_ended}
 use Rattle.core_rules.specs.Stuck.{is_settled}
+use Rattle.core_rules.specs.Legal as core
 use Rattle.session_rules.specs.declared.service.Service.{Service}
 use Rattle.session_rules.specs.Services.{free_workers}
 use Rattle.session_rules.specs.Heard.{Heard, Message, Claimed, Finished, Dropped, Ended}
@@ -45,10 +46,9 @@ abbrev pub IsTurn : Service → Due → ℕ → Due → Type 0
 IsTurn service called who step =
     (called ≡ step) ⊎ ((called ≡ Nothing) × (who ≤ free_workers service))
 
--- the part is the first ready one, and the worker holds none
-abbrev pub MayClaim : {S : Type 0} → Lang S → Session → ℕ → Part → Type 0
-MayClaim l s who part =
-    (has_ended s.events ≡ false) × (held s.events who ≡ None) × IsFirst l s.events part
+-- the event may follow those of a history
+abbrev pub MayHappen : {S : Type 0} → Lang S → Service → List Heard → Event → Type 0
+MayHappen l service h e = core.MayFollow l (session l service h).events e
 
 -- the entry may stand after this history
 abbrev pub MayFollow : {S : Type 0} → Lang S → Service → List Heard → Heard → Type 0
@@ -56,18 +56,16 @@ MayFollow l service h (Message read) =
     (has_ended (session l service h).events ≡ false) × (due l service h ≡ Nothing)
     × IsSettledIn l (session l service h) (awaited l service h read)
 MayFollow l service h (Claimed who part) =
-    MayClaim l (session l service h) who part
+    MayHappen l service h (event.Claimed who part)
     × IsTurn service (due l service h) who (Claims who)
 MayFollow l service h (Finished who part) =
-    (held (session l service h).events who ≡ Some part)
-    × (is_wanted (document l (session l service h)) part.exec ≡ true)
+    MayHappen l service h (event.Finished who part)
     × IsTurn service (due l service h) who (Finishes who)
 MayFollow l service h (Dropped who part) =
-    (held (session l service h).events who ≡ Some part)
-    × (is_wanted (document l (session l service h)) part.exec ≡ false)
+    MayHappen l service h (event.Dropped who part)
     × IsTurn service (due l service h) who (Finishes who)
 MayFollow l service h Ended =
-    (has_ended (session l service h).events ≡ false) × (due l service h ≡ Nothing)
+    MayHappen l service h event.Ended × (due l service h ≡ Nothing)
 
 -- each entry may stand after those before it
 abbrev pub IsLegal : {S : Type 0} → Lang S → Service → List Heard → Type 0

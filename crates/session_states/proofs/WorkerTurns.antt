@@ -10,6 +10,7 @@ use Rattle.reply_writing.specs.declared.told.Told.TheVariants as tells
 use Rattle.core_rules.specs.declared.event.Event.{Event}
 use Rattle.core_rules.specs.declared.event.Event.TheVariants as event
 use Rattle.core_rules.specs.Doc.{Doc}
+use Rattle.core_rules.specs.Legal.{MayFollow as MayFollowEvents}
 use Rattle.core_rules.specs.Ready.{IsFirst, is_wanted}
 use Rattle.core_rules.specs.Standing.{held, has_ended}
 use Rattle.prover_core.specs.declared.finishing.Finish.{Finish}
@@ -24,7 +25,7 @@ use Rattle.session_rules.specs.Services.{free_workers}
 use Rattle.session_rules.specs.Session.{Session, document, with_event}
 use Rattle.session_rules.specs.Heard.{heard}
 use Rattle.session_rules.specs.History.{after}
-use Rattle.session_rules.specs.Legal.{MayFollow, MayClaim, IsTurn}
+use Rattle.session_rules.specs.Legal.{MayFollow, IsTurn}
 use Rattle.session_rules.specs.Replies.{claim_told, report_of, told}
 use Rattle.session_rules.specs.Steps.{Due, Nothing, Claims, Finishes, due}
 use Rattle.session_lists.specs.replies_below.Spelling.{spelling}
@@ -74,7 +75,7 @@ module _ {S : Type 0} (l : Lang S) (service : Service) (items : List SessionItem
       → IsKept l service new (with_event s (event.Claimed who part)) last (holding + 1) now
   claimed_from who part replies holding going idle first turn told_is items_are waiting_are holders_are room jobs_are =
       turned (entry.Claimed who part) (with_event s (event.Claimed who part)) replies (holding + 1)
-      (subst (λ (t : Session). MayClaim l t who part) (sym listed.stands) (going, idle, first), turn)
+      (subst (λ (t : Session). MayFollowEvents l t.events (event.Claimed who part)) (sym listed.stands) (going, idle, first), turn)
       told_is refl refl items_are waiting_are refl refl refl (omega (arith, holders_are))
       (subst (λ (b : Bool). holding + 1 + (if b then 0 else 1) ≤ new.free) (sym going) (omega (arith, room))) jobs_are
 
@@ -90,7 +91,7 @@ module _ {S : Type 0} (l : Lang S) (service : Service) (items : List SessionItem
         → IsKept l service new (with_event s (event.Finished who part)) last holding now
     finished wanted reply told_is items_are waiting_are =
         let may = subst (λ (t : Session). (held t.events who ≡ Some part) × (is_wanted (document l t) part.exec ≡ true)) (sym listed.stands) (holds, wanted) in
-        turned (entry.Finished who part) (with_event s (event.Finished who part)) (spelling reply ∷ []) holding (may.0, may.1, turn)
+        turned (entry.Finished who part) (with_event s (event.Finished who part)) (spelling reply ∷ []) holding (may, turn)
         (ap (λ (t : Session). spelling (report_of l t part) ∷ []) listed.stands ∙ ap (λ (r : Told). spelling r ∷ []) told_is)
         refl refl items_are waiting_are refl refl refl holders_are room
         (jobs_are (with_event s (event.Finished who part)) refl refl (λ w e. finished_others who w part (held s.events w) e) (itself (held s.events who)))
@@ -100,7 +101,7 @@ module _ {S : Type 0} (l : Lang S) (service : Service) (items : List SessionItem
         → IsKept l service new (with_event s (event.Dropped who part)) last holding now
     dropped unwanted items_are waiting_are =
         let may = subst (λ (t : Session). (held t.events who ≡ Some part) × (is_wanted (document l t) part.exec ≡ false)) (sym listed.stands) (holds, unwanted) in
-        turned (entry.Dropped who part) (with_event s (event.Dropped who part)) (spelling (tells.Dropped part) ∷ []) holding (may.0, may.1, turn) refl
+        turned (entry.Dropped who part) (with_event s (event.Dropped who part)) (spelling (tells.Dropped part) ∷ []) holding (may, turn) refl
         refl refl items_are waiting_are refl refl refl holders_are room
         (jobs_are (with_event s (event.Dropped who part)) refl refl (λ w e. dropped_others who w part (held s.events w) e) (itself (held s.events who)))
 
