@@ -1,6 +1,7 @@
 //! Jobs, and running them.
 ghost use Rattle.std.specs.Prelude.{◌≡◌};
 ghost use Rattle.std.specs.Option.{option_copied};
+ghost use Rattle.core_jobs.specs.Questions.{questions_by, JobAsks};
 ghost use Rattle.core_jobs.specs.Runs.{RanSo};
 
 use crate::input::Input;
@@ -87,14 +88,17 @@ impl<S: Drop> Job<S> {
     /// Works on the part. Done has the language's answer to the command, its blob and the state
     /// that is taken up, whatever `stop` says: an evaluation runs the command, a fork has what is
     /// reported of it later, a print what is printed of it. Stopped comes only where `stop`
-    /// answered yes in this call. There and for want of memory the job is as it was.
+    /// answered yes in this call. There and for want of memory the job is as it was. `stop` is asked
+    /// as often as the language asks.
     pub fn run<L: Language<State = S>, P: Stop>(
         self,
         alloc: Global,
         lang: &L,
         stop: &mut P,
     ) -> Ran<S>
-        ensures { RanSo L.lang self result (P.yeses stop.old) (P.yeses stop.new) }
+        ensures ran { RanSo L.lang self result (P.yeses stop.old) (P.yeses stop.new) }
+        ensures asks { JobAsks result (questions_by L.lang L.questions self)
+            (P.questions stop.old) (P.questions stop.new) }
     {
         match self.worked_on(alloc, lang, stop) {
             Answer::Given(done) => Ran::Done(done),

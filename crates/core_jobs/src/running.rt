@@ -2,7 +2,9 @@
 ghost use Rattle.std.specs.Prelude.{◌≡◌, Some, IfOk};
 ghost use Rattle.pide_base.specs.declared.part.PartKind.TheVariants as kind;
 ghost use Rattle.language.specs.Answers.{IsAnswer};
+ghost use Rattle.language.specs.Questions.{AsksSo};
 ghost use Rattle.core_jobs.specs.Jobs.{setting_in};
+ghost use Rattle.core_jobs.specs.Questions.{questions_in, questions_by};
 ghost use Rattle.core_jobs.specs.Runs.{given, done_as, done_in, done_by};
 
 use crate::done::{Done, Evaluated};
@@ -24,7 +26,10 @@ impl<S: Drop> Job<S> {
         lang: &L,
         stop: &mut P,
     ) -> Answer<Done<S>>
-        ensures { IsAnswer result (done_by L.lang self.now) (P.yeses stop.old) (P.yeses stop.new) }
+        ensures answer { IsAnswer result (done_by L.lang self.now)
+            (P.yeses stop.old) (P.yeses stop.new) }
+        ensures asks { AsksSo result (questions_by L.lang L.questions self.now)
+            (P.questions stop.old) (P.questions stop.new) }
     {
         match self.input() {
             Input::State(state) => self.done_in(alloc, lang, state.get(), stop),
@@ -46,8 +51,12 @@ impl<S: Drop> Job<S> {
         state: &S,
         stop: &mut P,
     ) -> Answer<Done<S>>
-        ensures { IsAnswer result (done_in L.lang self.now.part (setting_in self.now state.now))
+        ensures answer { IsAnswer result
+            (done_in L.lang self.now.part (setting_in self.now state.now))
             (P.yeses stop.old) (P.yeses stop.new) }
+        ensures asks { AsksSo result
+            (questions_in L.questions self.now.part.kind (setting_in self.now state.now))
+            (P.questions stop.old) (P.questions stop.new) }
     {
         match self.part().kind {
             PartKind::Eval => self.evaluated(alloc, lang, state, stop),
@@ -64,9 +73,12 @@ impl<S: Drop> Job<S> {
         state: &S,
         stop: &mut P,
     ) -> Answer<Done<S>>
-        ensures { IsAnswer result
+        ensures answer { IsAnswer result
             (done_as L.lang kind.Eval self.now.part (setting_in self.now state.now))
             (P.yeses stop.old) (P.yeses stop.new) }
+        ensures asks { AsksSo result
+            (questions_in L.questions kind.Eval (setting_in self.now state.now))
+            (P.questions stop.old) (P.questions stop.new) }
     {
         match lang.step(alloc, self.source(), self.blob(), state, stop) {
             Answer::Given(made) => given(self.with_state(alloc, made)),
@@ -83,9 +95,12 @@ impl<S: Drop> Job<S> {
         state: &S,
         stop: &mut P,
     ) -> Answer<Done<S>>
-        ensures { IsAnswer result
+        ensures answer { IsAnswer result
             (done_as L.lang kind.Fork self.now.part (setting_in self.now state.now))
             (P.yeses stop.old) (P.yeses stop.new) }
+        ensures asks { AsksSo result
+            (questions_in L.questions kind.Fork (setting_in self.now state.now))
+            (P.questions stop.old) (P.questions stop.new) }
     {
         match lang.fork(alloc, self.source(), state, stop) {
             Answer::Given(reports) => given(self.done(alloc, reports, None)),

@@ -10,6 +10,7 @@ use Rattle.proof_terms.specs.Marks.{marks}
 use Rattle.proof_terms.specs.Reading.{proof_of}
 use Rattle.proof_checks.specs.Questions.{rules_judged}
 use Rattle.doc_blobs.specs.Needs.{source_tokens}
+use Rattle.language.specs.Questions.{Questions}
 use Rattle.isar_rules.specs.declared.state.Place.{Place}
 use Rattle.isar_rules.specs.declared.state.Place.TheVariants as place
 use Rattle.isar_rules.specs.declared.state.State.{State}
@@ -32,3 +33,7 @@ questions_at source tokens _ = 0
 abbrev pub fork_questions : List ℕ → State → ℕ
 fork_questions source before = questions_at source
     (source_tokens (aliases_at before.place before.aliases) source) before.place
+
+-- of the command language: only a fork asks
+abbrev pub isar_questions : Questions State
+isar_questions = record { step = λ source blob before. 0; fork = fork_questions }

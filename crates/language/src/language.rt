@@ -4,6 +4,7 @@ ghost use Rattle.std.specs.Option.{option_copied};
 ghost use Rattle.language.specs.Answers.{IsAnswer};
 ghost use Rattle.language.specs.Lang.{Lang};
 ghost use Rattle.language.specs.Laws.{AreTidy};
+ghost use Rattle.language.specs.Questions.{Questions, AsksSo};
 
 use crate::answer::Answer;
 use crate::made::{Imports, Made};
@@ -21,6 +22,9 @@ pub trait Language {
 
     /// The language as a record of functions.
     ghost lang: { Lang Self.State };
+
+    /// How often it asks whether to stop.
+    ghost questions: { Questions Self.State };
 
     /// The state at the beginning of a node of this name, with what it has from its imports and
     /// with its aliases.
@@ -44,8 +48,12 @@ pub trait Language {
         state: &Self::State,
         stop: &mut P,
     ) -> Answer<Made<Self::State>>
-        ensures { IsAnswer result (lang.step source.now (option_copied blob.entry) state.now)
-            (P.yeses stop.old) (P.yeses stop.new) };
+        ensures answer { IsAnswer result
+            (lang.step source.now (option_copied blob.entry) state.now)
+            (P.yeses stop.old) (P.yeses stop.new) }
+        ensures asks { AsksSo result
+            (questions.step source.now (option_copied blob.entry) state.now)
+            (P.questions stop.old) (P.questions stop.new) };
 
     /// What is reported later of a command that forks, by the state before it.
     fn fork<P: Stop>(
@@ -55,8 +63,10 @@ pub trait Language {
         state: &Self::State,
         stop: &mut P,
     ) -> Answer<Items<Report>>
-        ensures { IsAnswer result (lang.fork source.now state.now)
-            (P.yeses stop.old) (P.yeses stop.new) };
+        ensures answer { IsAnswer result (lang.fork source.now state.now)
+            (P.yeses stop.old) (P.yeses stop.new) }
+        ensures asks { AsksSo result (questions.fork source.now state.now)
+            (P.questions stop.old) (P.questions stop.new) };
 
     /// What is printed of a command, by the state behind it.
     fn print(

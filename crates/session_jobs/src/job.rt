@@ -3,6 +3,8 @@ ghost use Rattle.std.specs.Prelude.{◌≡◌, IfOk};
 ghost use Rattle.reply_writing.specs.declared.told.Told.TheVariants as tells;
 ghost use Rattle.session_replies.specs.Spelling.{spelling};
 ghost use Rattle.session_jobs.specs.Works.{work_report};
+ghost use Rattle.core_jobs.specs.Questions.{questions_by};
+ghost use Rattle.session_jobs.specs.Questions.{SessionJobAsks};
 ghost use Rattle.session_jobs.specs.Runs.{RanSo, ReportedSo};
 
 use crate::done::SessionDone;
@@ -86,14 +88,17 @@ impl<S> SessionJob<S> {
 impl<S: Drop> SessionJob<S> {
     /// Works on the part, and writes the reply that tells its reports. Done has what the core's job
     /// gives, whatever `stop` says. Stopped comes only where `stop` answered yes in this call.
-    /// There and for want of memory the job is as it was.
+    /// There and for want of memory the job is as it was. `stop` is asked as often as the language
+    /// asks.
     pub fn run<L: Language<State = S>, P: Stop>(
         self,
         alloc: Global,
         lang: &L,
         stop: &mut P,
     ) -> SessionRan<S>
-        ensures { RanSo L.lang self result (P.yeses stop.old) (P.yeses stop.new) }
+        ensures ran { RanSo L.lang self result (P.yeses stop.old) (P.yeses stop.new) }
+        ensures asks { SessionJobAsks result (questions_by L.lang L.questions self.job)
+            (P.questions stop.old) (P.questions stop.new) }
     {
         match self.job.worked_on(alloc, lang, stop) {
             Answer::Stopped => SessionRan::Stopped(self),

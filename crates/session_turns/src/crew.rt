@@ -24,6 +24,7 @@ pub struct Crew<'a, L> {
 }
 
 impl<'a, L: Language, P: Past<Service, Entry> + Drop> Work<Locked<L, P>> for Crew<'a, L> {
+    ghost use Rattle.core_jobs.specs.Questions.{questions_by};
     ghost use Rattle.thread_views.specs.Says.{says};
     ghost use Rattle.thread_views.specs.Works.{IsRightDone, IsRightWork};
 
@@ -42,6 +43,8 @@ impl<'a, L: Language, P: Past<Service, Entry> + Drop> Work<Locked<L, P>> for Cre
     ghost answers = { IsRightDone L.lang };
 
     ghost was_stopped = { λ job. Unit {0} };
+
+    ghost questions = { λ job. questions_by L.lang L.questions job.job };
 
     fn claim<R: Wait>(
         &self,

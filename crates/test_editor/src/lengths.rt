@@ -19,6 +19,8 @@ impl Language for Lengths {
 
     ghost lang = { lengths };
 
+    ghost questions = { record { step = λ source blob state. 0; fork = λ source state. 0 } };
+
     ghost tidy = { tidy };
 
     fn start(

@@ -19,6 +19,8 @@ impl Language for Parity {
 
     ghost lang = { parity };
 
+    ghost questions = { record { step = λ source blob state. 2; fork = λ source state. 1 } };
+
     ghost tidy = { tidy };
 
     fn start(

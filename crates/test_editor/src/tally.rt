@@ -100,6 +100,8 @@ impl Language for Tally {
 
     ghost lang = { counting };
 
+    ghost questions = { record { step = λ source blob state. 1; fork = λ source state. 1 } };
+
     ghost tidy = { tidy };
 
     fn start(

@@ -22,10 +22,13 @@ pub struct Isar;
 impl Language for Isar {
     ghost use Rattle.isar_rules.specs.Isar.{isar};
     ghost use Rattle.isar_rules.proofs.KnownTidy.{isar_tidy};
+    ghost use Rattle.fork_steps.specs.Questions.{isar_questions};
 
     type State = State;
 
     ghost lang = { isar };
+
+    ghost questions = { isar_questions };
 
     ghost tidy = { isar_tidy };
 

@@ -2,6 +2,7 @@ pub mod Held
 pub mod Stays
 pub mod Rounds
 pub mod Answers
+pub mod Questions
 pub mod Worked
 pub mod Attempts
 pub mod Sending

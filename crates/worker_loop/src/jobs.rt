@@ -1,5 +1,5 @@
 //! How workers work on a state: what they ask of it in turns, and how a job is run.
-ghost use Rattle.std.specs.Prelude.{◌≡◌, List, Some, None};
+ghost use Rattle.std.specs.Prelude.{◌≡◌, ℕ, List, Some, None};
 ghost use Rattle.hist_lock.specs.Known.{IsSameCaller};
 ghost use Rattle.hist_lock.specs.Passes.{view, IsPassOf};
 ghost use Rattle.worker_loop.specs.Held.{held_in};
@@ -7,6 +7,7 @@ ghost use Rattle.worker_loop.specs.Stays.{Stays};
 ghost use Rattle.worker_loop.specs.declared.said.Said.{Said};
 ghost use Rattle.pide_base.specs.declared.part.Part.{Part};
 ghost use Rattle.worker_loop.specs.Answers.{ClaimedSo, FinishedSo, GivenUpSo, LookedSo, RanSo};
+ghost use Rattle.worker_loop.specs.Questions.{WorkAsks};
 
 use hist_lock::{Pass, Shared, State};
 use pide_base::{Flag, Part, Stop};
@@ -73,6 +74,9 @@ pub trait Work<S: State> {
 
     /// The job was stopped by a yes of its stop.
     ghost was_stopped: { Self.Job → Type 0 };
+
+    /// How often a run of the job asks whether to stop.
+    ghost questions: { Self.Job → ℕ };
 
     /// Claims the first part that is ready. The caller holds none. One that may not claim is given
     /// none, and answered NoMemory.
@@ -147,5 +151,7 @@ pub trait Work<S: State> {
         stop: &mut P,
     ) -> Ran<Self::Job, Self::Done>
         ensures ran { RanSo part_of part_done fits answers was_stopped (P.yeses stop.old)
-            (P.yeses stop.new) job result };
+            (P.yeses stop.new) job result }
+        ensures asks { WorkAsks result (questions job) (P.questions stop.old)
+            (P.questions stop.new) };
 }

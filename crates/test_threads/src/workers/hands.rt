@@ -81,6 +81,8 @@ impl Work<Board> for Hands {
 
     ghost was_stopped = { λ j. Unit {0} };
 
+    ghost questions = { λ j. 1 };
+
     fn claim<R: Wait>(
         &self,
         rt: &R,

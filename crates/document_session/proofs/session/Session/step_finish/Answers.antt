@@ -40,7 +40,7 @@ done_work : (g : Over) (c : In-Done g) → IsDoneWorkOf g.L.Language.lang (sessi
 done_work g c =
     let k = c.self.invariant in
     let has = sym (c.make_step_room.ensures.jobs c.number_of-who.result) ∙ sym c.take_out.ensures.value ∙ c.in-Some.is in
-    ended_work g.L.Language.lang c.self.inside.service (state_kept k) k c.number_of-who.result c.in-Some.job has c.in-Done.done c.in-Done.ensures c.job_law.ensures
+    ended_work g.L.Language.lang c.self.inside.service (state_kept k) k c.number_of-who.result c.in-Some.job has c.in-Done.done c.in-Done.ensures.ran c.job_law.ensures
 
 -- the entries of the message and of its step are added
 added : (g : Over) (c : After-take_in g) → IsStepAdded c.self.inside.outbox c.take_in.new.outbox c.args.message
@@ -96,7 +96,7 @@ invariant_of-self-in-Done-1 g c =
     let k = c.self.invariant in
     let here = goal.at.invariant_of-self-in-Done-1 g c in
     step_finished g.L.Language.lang c.self.inside.service (state_kept k) k c.args.message
-    c.number_of-who.result (finishes g here.After-take_out) c.in-Some.job (worked g here.In-Some) c.in-Done.done c.in-Done.ensures
+    c.number_of-who.result (finishes g here.After-take_out) c.in-Some.job (worked g here.In-Some) c.in-Done.done c.in-Done.ensures.ran
     c.job_law.ensures c.take_in.result c.take_in.new.outbox (added g here.After-take_in) c.step_laws.ensures
     (going_on g.L.Language.lang _ _ _ _ c.self.view_is k.listed c.requires.going) _ c.take_in.ensures.finished _
     (omega (arith, held_one g here.In-Some)) (λ w. looked c.make_step_room.new.jobs w) (λ w. looked c.take_out.new.table w) c.make_step_room.ensures.jobs c.take_out.ensures.others
@@ -106,7 +106,7 @@ returns-in-Done-clause-taken g c =
     let k = c.self.invariant in
     let here = goal.at.returns-in-Done-clause-taken g c in
     step_finish_answered g.L.Language.lang c.self.inside.service (state_kept k) k c.args.message
-    c.number_of-who.result (finishes g here.After-take_out) c.in-Some.job (worked g here.In-Some) c.in-Done.done c.in-Done.ensures
+    c.number_of-who.result (finishes g here.After-take_out) c.in-Some.job (worked g here.In-Some) c.in-Done.done c.in-Done.ensures.ran
     c.job_law.ensures c.take_in.result c.take_in.new.outbox (added g here.After-take_in) _ c.self.view_is
 
 pub returns-in-Done-clause-legal : goal.returns-in-Done-clause-legal
@@ -121,7 +121,7 @@ put-requires-clause-room g c = omega (arith, c.in_ok-make_step_room.ensures.spar
 
 pub invariant_of-self-in-Stopped : goal.invariant_of-self-in-Stopped
 invariant_of-self-in-Stopped g c =
-    let back = came_back g.L.Language.lang c.in-Some.job c.in-Stopped.job c.run.result _ _ c.run.ensures c.in-Stopped.is in
+    let back = came_back g.L.Language.lang c.in-Some.job c.in-Stopped.job c.run.result _ _ c.run.ensures.ran c.in-Stopped.is in
     let there = sym c.take_out.ensures.value ∙ c.in-Some.is ∙ ap (λ (j : Work _). Some j) (sym back) in
     still_kept g.L.Language.lang _ _ c.make_step_room.new.outbox _ _ _ _ _ c.self.invariant
     c.make_step_room.ensures.items c.make_step_room.ensures.waiting c.make_step_room.ensures.free _ refl

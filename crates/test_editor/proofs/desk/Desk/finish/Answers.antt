@@ -15,10 +15,10 @@ invariant_of-self-in-Stopped c = let_go counting _ _ _ _ c.self.invariant c.args
 
 pub finish-requires-clause-holds : goal.finish-requires-clause-holds
 finish-requires-clause-holds c = (c.self.invariant.holds c.args.who c.in-Some.job (sym c.in-Some.ensures.value)).part
-    ∙ ap (λ (d : Done ℕ). Some d.part) (sym c.in-Done.ensures)
+    ∙ ap (λ (d : Done ℕ). Some d.part) (sym c.in-Done.ensures.ran)
 
 pub finish-requires-clause-right : goal.finish-requires-clause-right
-finish-requires-clause-right c = subst (IsDoneOf counting (doc counting c.self.inside.core.past).homes) (sym c.in-Done.ensures)
+finish-requires-clause-right c = subst (IsDoneOf counting (doc counting c.self.inside.core.past).homes) (sym c.in-Done.ensures.ran)
     (c.job_law.ensures (doc counting c.self.inside.core.past).homes c.in-Some.job
     (c.self.invariant.holds c.args.who c.in-Some.job (sym c.in-Some.ensures.value)).right)
 
