@@ -6,9 +6,10 @@ use Rattle.std.specs.Option.{option_map_or}
 use Rattle.std.specs.List.{concat, list_all}
 use Rattle.std.proofs.lemmas.Bool.{and_parts, eqb-true, or_parts}
 use Rattle.std.proofs.lemmas.List.Folds.{concat-append}
-use Rattle.import_rounds.specs.Rounds.{has, is_known}
+use Rattle.text_words.specs.Members.{has}
+use Rattle.import_rounds.specs.Rounds.{is_known}
 use Rattle.import_rounds.specs.Looks.{aims_at}
-use Rattle.import_rounds.proofs.KnownHas.{cut_at, has_both, has_itself, has_tail}
+use Rattle.text_words.proofs.KnownMembers.{cut_at, has_both, has_itself, has_tail}
 use Rattle.doc_nodes.specs.declared.node.Node.{Node}
 use Rattle.doc_nodes.specs.Imports.{NodeList, aims, aims_of, is_bad, is_ordered, order, place_of, placed}
 use Rattle.exec_rules.specs.Kept.{BlobList}

@@ -5,8 +5,8 @@ use Rattle.std.specs.Prelude.{slice_get, find}
 use Rattle.std.specs.List.{AllByRecursion}
 use Rattle.std.specs.Option.{option_map, option_and_then}
 use Rattle.text_words.proofs.KnownLists.{position_found}
-use Rattle.import_rounds.specs.Rounds.{has}
-use Rattle.import_rounds.proofs.KnownHas.{has_itself, has_left, has_right}
+use Rattle.text_words.specs.Members.{has}
+use Rattle.text_words.proofs.KnownMembers.{has_itself, has_left, has_right}
 use Rattle.shared_map.specs.Pairs.{found, has_key}
 use Rattle.doc_nodes.specs.declared.node.Entry.{Entry}
 use Rattle.doc_nodes.specs.declared.node.Node.{Node}

@@ -4,8 +4,8 @@ use Rattle.std.proofs.lemmas.Bool.{eqb-true, false≢true, or_cases, or_from, or
 use Rattle.std.proofs.lemmas.List.{take-append-drop}
 use Rattle.std.specs.Prelude.{◌==◌}
 use Rattle.std.specs.List.{range_with_len}
-use Rattle.import_rounds.specs.Rounds.{has}
-use Rattle.import_rounds.proofs.KnownHas.{has_both, has_itself, has_left, has_right}
+use Rattle.text_words.specs.Members.{has}
+use Rattle.text_words.proofs.KnownMembers.{has_both, has_itself, has_left, has_right}
 use Rattle.core_rules.specs.Updates.{AllDiffer}
 use Rattle.buffer_laws.specs.Known.{AreBelow}
 

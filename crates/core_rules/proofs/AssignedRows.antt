@@ -5,7 +5,7 @@ use Rattle.std.proofs.lemmas.Bool.{eqb-true, eq-eqb, or_left, or_right, or_cases
 use Rattle.std.proofs.lemmas.Option.{slice_get_within}
 use Rattle.std.specs.Prelude.{◌==◌, slice_get, flat_map}
 use Rattle.std.specs.Option.{option_map_or}
-use Rattle.import_rounds.specs.Rounds.{has}
+use Rattle.text_words.specs.Members.{has}
 use Rattle.doc_nodes.specs.declared.node.Node.{Node}
 use Rattle.exec_rules.specs.declared.row.Row.{Row}
 use Rattle.exec_rules.specs.declared.row.Assigned.{Assigned}
@@ -16,7 +16,7 @@ use Rattle.exec_rules.proofs.KnownListed.{in_print}
 use Rattle.exec_rules.proofs.KnownThere.{get_there}
 use Rattle.core_rules.specs.Assigned.{assigns}
 use Rattle.core_rules.specs.FromScratch.{assigned_to}
-use Rattle.import_rounds.proofs.KnownHas.{has_both}
+use Rattle.text_words.proofs.KnownMembers.{has_both}
 
 -- the execution is one of the row's
 abbrev pub IsIn : Row → ℕ → Type 0

@@ -5,7 +5,7 @@ use Rattle.std.proofs.lemmas.Bool.{or_right, and_parts}
 use Rattle.std.specs.Prelude.{◌==◌}
 use Rattle.std.specs.Option.{option_map_or}
 use Rattle.std.specs.List.{list_any}
-use Rattle.import_rounds.specs.Rounds.{has}
+use Rattle.text_words.specs.Members.{has}
 use Rattle.exec_rules.specs.declared.home.Home.{Home}
 use Rattle.language.specs.Lang.{Lang}
 use Rattle.core_rules.specs.declared.event.Event.{Event}
@@ -17,7 +17,7 @@ use Rattle.core_rules.specs.Standing.{is_finished, is_open}
 use Rattle.core_rules.specs.Doc.{Doc, dropped, assignment_of, version_of, doc}
 use Rattle.core_rules.proofs.KnownNumbers.{numbered_within, length_grown}
 use Rattle.core_rules.proofs.Tables.{AtMost, at_most_more}
-use Rattle.import_rounds.proofs.KnownHas.{has_both}
+use Rattle.text_words.proofs.KnownMembers.{has_both}
 
 -- what has an unfinished part was made
 pub opened_within : {S : Type 0} (l : Lang S) (h : List Event) (homes : List Home) (e : ℕ) → is_open l h homes e ≡ true → e ≤ length homes

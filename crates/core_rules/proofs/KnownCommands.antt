@@ -5,7 +5,7 @@ use Rattle.std.proofs.lemmas.Bool.{eq-eqb, false≢true, or_parts}
 use Rattle.std.specs.Prelude.{◌==◌, slice_get}
 use Rattle.std.specs.List.{AllByRecursion}
 use Rattle.std.proofs.Math.Bool.{or-true}
-use Rattle.import_rounds.specs.Rounds.{has}
+use Rattle.text_words.specs.Members.{has}
 use Rattle.doc_nodes.specs.declared.node.Entry.{Entry}
 use Rattle.doc_nodes.specs.declared.node.Node.{Node}
 use Rattle.doc_nodes.specs.Imports.{NodeList}
@@ -14,7 +14,7 @@ use Rattle.core_rules.specs.Assigned.{command_ids}
 use Rattle.core_rules.specs.Doc.{Doc}
 use Rattle.core_rules.specs.Updates.{AllDiffer, source_in, Stood, IsOld, IsKnown, node_in}
 use Rattle.core_rules.proofs.Tables.{AtMost}
-use Rattle.import_rounds.proofs.KnownHas.{has_both}
+use Rattle.text_words.proofs.KnownMembers.{has_both}
 use Rattle.core_rules.proofs.SameCommands.{SameSources}
 
 -- the ids of commands

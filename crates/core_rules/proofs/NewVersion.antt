@@ -7,7 +7,7 @@ use Rattle.std.proofs.lemmas.Option.{slice_get_within}
 use Rattle.std.specs.Prelude.{slice_get}
 use Rattle.std.specs.List.{range_with_len, AllByRecursion}
 use Rattle.std.specs.Option.{option_map_or}
-use Rattle.import_rounds.specs.Rounds.{has}
+use Rattle.text_words.specs.Members.{has}
 use Rattle.doc_nodes.specs.declared.node.Node.{Node}
 use Rattle.doc_nodes.specs.Imports.{NodeList, order}
 use Rattle.doc_nodes.specs.Wanted.{wanted_at}
@@ -22,7 +22,7 @@ use Rattle.core_rules.specs.Doc.{Doc, update_of, assignment_of, version_of}
 use Rattle.core_rules.specs.FromScratch.{assigned_to, has_open}
 use Rattle.core_rules.specs.Updates.{FitsNode}
 use Rattle.core_rules.proofs.Facts.{Facts}
-use Rattle.import_rounds.proofs.KnownHas.{has_both, has_itself}
+use Rattle.text_words.proofs.KnownMembers.{has_both, has_itself}
 use Rattle.core_rules.proofs.ImportAliases.{Stands}
 use Rattle.core_rules.proofs.Sound.{IsSoundAt, IsSound, IsSoundTip}
 use Rattle.core_rules.proofs.KnownKeys.{key_rests, listed}

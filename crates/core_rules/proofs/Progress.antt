@@ -1,7 +1,7 @@
 -- What holds of the nodes that an update has done so far.
 use Rattle.std.proofs.Common.{◌≡◌, ℕ, suc, ◌≤◌, true, List, length, find, Some, None}
 use Rattle.std.specs.Prelude.{slice_get}
-use Rattle.import_rounds.specs.Rounds.{has}
+use Rattle.text_words.specs.Members.{has}
 use Rattle.doc_nodes.specs.declared.node.Node.{Node}
 use Rattle.doc_nodes.specs.Imports.{NodeList, is_bad}
 use Rattle.doc_nodes.specs.Wanted.{wanted_at}

@@ -4,7 +4,7 @@ use Rattle.std.proofs.lemmas.Bool.{eq-eqb, eqb-true, or_right}
 use Rattle.std.proofs.lemmas.Option.{slice_get_within}
 use Rattle.std.specs.Prelude.{◌==◌, slice_get}
 use Rattle.std.specs.Option.{option_map_or}
-use Rattle.import_rounds.specs.Rounds.{has}
+use Rattle.text_words.specs.Members.{has}
 use Rattle.doc_nodes.specs.declared.node.Node.{Node}
 use Rattle.doc_nodes.specs.Imports.{is_bad, order}
 use Rattle.doc_nodes.specs.Aliases.{aliases_at}
@@ -21,7 +21,7 @@ use Rattle.core_rules.proofs.Tables.{AreOlder}
 use Rattle.core_rules.proofs.HomedRows.{evals}
 use Rattle.core_rules.proofs.Facts.{NodeFacts}
 use Rattle.core_rules.proofs.KnownPlaces.{among_by}
-use Rattle.import_rounds.proofs.KnownHas.{has_both, has_itself}
+use Rattle.text_words.proofs.KnownMembers.{has_both, has_itself}
 use Rattle.core_rules.proofs.Sound.{IsSound}
 use Rattle.core_rules.proofs.KnownKeys.{AreInside, other_place}
 use Rattle.core_rules.proofs.SettingsBy.{behind}

@@ -3,7 +3,7 @@ use Rattle.std.proofs.Common.{◌≡◌, ◌⊎◌, inl, inr, ℕ, Bool, true, f
 use Rattle.std.proofs.lemmas.Bool.{false≢true, or_parts, and_parts}
 use Rattle.std.specs.Prelude.{◌==◌}
 use Rattle.std.specs.List.{list_any}
-use Rattle.import_rounds.specs.Rounds.{has}
+use Rattle.text_words.specs.Members.{has}
 use Rattle.exec_rules.specs.declared.version.Version.{Version}
 use Rattle.exec_rules.specs.Kept.{BlobList}
 use Rattle.doc_nodes.specs.Imports.{NodeList}
@@ -17,7 +17,7 @@ use Rattle.core_rules.specs.Standing.{Free, Held, Done, standing, is_done, is_fi
 use Rattle.core_rules.specs.Doc.{Doc, dropped, assignment_of, version_of, doc}
 use Rattle.core_rules.specs.Legal.{IsLegal}
 use Rattle.core_rules.specs.Ready.{is_wanted}
-use Rattle.import_rounds.proofs.KnownHas.{has_both}
+use Rattle.text_words.proofs.KnownMembers.{has_both}
 use Rattle.core_rules.proofs.Holders.{first_free, tells_all}
 use Rattle.core_rules.proofs.KnownParts.{part_is}
 use Rattle.core_rules.proofs.KnownStays.{parts_grown}

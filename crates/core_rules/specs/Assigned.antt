@@ -1,7 +1,7 @@
 -- What a version assigns.
 use Rattle.std.specs.Prelude.{ℕ, ◌==◌, Bool, ◌&&◌, List, map, zip, flat_map}
 use Rattle.std.specs.List.{list_any}
-use Rattle.import_rounds.specs.Rounds.{has}
+use Rattle.text_words.specs.Members.{has}
 use Rattle.doc_nodes.specs.declared.node.Entry.{Entry}
 use Rattle.doc_nodes.specs.Imports.{NodeList}
 use Rattle.doc_versions.specs.declared.versions.Live.{Live}

@@ -1,7 +1,7 @@
 -- Which parts can be worked on, and which of them is taken (this project's own).
 use Rattle.std.specs.Prelude.{◌≡◌, ℕ, Bool, true, false, not, ◌&&◌, if◌then◌else◌, List, [], ◌∷◌, length, filter, Option, Some, None}
 use Rattle.std.specs.List.{list_any, list_all, flat_map, range_with_len}
-use Rattle.import_rounds.specs.Rounds.{has}
+use Rattle.text_words.specs.Members.{has}
 use Rattle.pide_base.specs.declared.part.Part.{Part}
 use Rattle.pide_base.specs.declared.part.PartKind.{PartKind}
 use Rattle.pide_base.specs.declared.part.PartKind.TheVariants as kind

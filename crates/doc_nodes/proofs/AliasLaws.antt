@@ -5,9 +5,10 @@ use Rattle.std.specs.Option.{option_map_or}
 use Rattle.std.specs.List.{list_all, flat_map}
 use Rattle.std.proofs.lemmas.Bool.{false≢true}
 use Rattle.std.proofs.lemmas.Bool.Decides.{nat_tests}
-use Rattle.import_rounds.specs.Rounds.{has, is_known}
+use Rattle.text_words.specs.Members.{has}
+use Rattle.import_rounds.specs.Rounds.{is_known}
 use Rattle.import_rounds.specs.Looks.{aims_at}
-use Rattle.import_rounds.proofs.KnownHas.{has_both, cut_at, has_middle}
+use Rattle.text_words.proofs.KnownMembers.{has_both, cut_at, has_middle}
 use Rattle.doc_nodes.specs.declared.inherited.NodeAliases.{NodeAliases}
 use Rattle.doc_nodes.specs.Imports.{NodeList, aims, is_ordered, order}
 use Rattle.doc_nodes.specs.Aliases.{no_aliases, folded, known, pairs_from, own_at, inherited, aliases_by, in_turn, aliases_at}

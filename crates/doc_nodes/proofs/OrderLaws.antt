@@ -5,9 +5,10 @@ use Rattle.std.specs.List.{list_all}
 use Rattle.std.proofs.lemmas.Bool.{false≢true}
 use Rattle.std.proofs.lemmas.List.{length-map}
 use Rattle.std.proofs.lemmas.Option.{slice_get_within}
-use Rattle.import_rounds.specs.Rounds.{has, is_known}
+use Rattle.text_words.specs.Members.{has}
+use Rattle.import_rounds.specs.Rounds.{is_known}
 use Rattle.import_rounds.specs.Looks.{aims_at}
-use Rattle.import_rounds.proofs.KnownHas.{has_both, has_middle}
+use Rattle.text_words.proofs.KnownMembers.{has_both, has_middle}
 use Rattle.import_rounds.proofs.KnownFiltered.{has_passes, once_in, filtered_within, filtered_has}
 use Rattle.import_rounds.proofs.KnownRounds.{cut, is_order}
 use Rattle.import_rounds.proofs.KnownOrdered.{all_ordered, ordered_known}

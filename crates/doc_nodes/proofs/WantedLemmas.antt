@@ -4,7 +4,7 @@ use Rattle.std.proofs.lemmas.List.{length-map}
 use Rattle.doc_nodes.specs.declared.node.Node.{Node}
 use Rattle.std.proofs.Math.Seq.{drop-cons}
 use Rattle.std.proofs.lemmas.List.Folds.{list_any-append, list_any_at}
-use Rattle.import_rounds.specs.Rounds.{has}
+use Rattle.text_words.specs.Members.{has}
 use Rattle.import_rounds.specs.Looks.{marked, aims_at}
 use Rattle.import_rounds.proofs.KnownFiltered.{filtered_within}
 use Rattle.import_rounds.proofs.KnownRounds.{is_order}

@@ -1,7 +1,7 @@
 -- What is kept of the nodes that are done, by their places (this project's own).
 use Rattle.std.specs.Prelude.{◌≡◌, ℕ, ◌==◌, List, [], ◌∷◌, ◌++◌, length, find, slice_get, slice_index_or, false, Option, None, option_and_then}
 use Rattle.std.specs.Option.{option_map}
-use Rattle.import_rounds.specs.Rounds.{has}
+use Rattle.text_words.specs.Members.{has}
 use Rattle.doc_nodes.specs.Imports.{NodeList}
 use Rattle.language.specs.Lang.{Lang}
 use Rattle.core_rules.specs.Scratch.{Run, Runs}

@@ -5,7 +5,8 @@ use Rattle.std.specs.Option.{option_map, option_map_or}
 use Rattle.std.specs.List.{flat_map, range_with_len, position_or_len}
 use Rattle.std.proofs.lemmas.List.{length-map}
 use Rattle.std.proofs.lemmas.Option.{slice_get-map}
-use Rattle.import_rounds.specs.Rounds.{has, in_rounds}
+use Rattle.text_words.specs.Members.{has}
+use Rattle.import_rounds.specs.Rounds.{in_rounds}
 use Rattle.import_rounds.specs.Looks.{aims_at}
 use Rattle.doc_nodes.specs.declared.node.Node.{Node}
 use Rattle.doc_nodes.specs.declared.inherited.NodeAliases.{NodeAliases}

@@ -3,7 +3,7 @@ use Rattle.std.proofs.Common.{◌≡◌, ℕ, zero, suc, ◌≤◌, true, false,
 use Rattle.std.proofs.lemmas.Bool.{eq-eqb}
 use Rattle.std.specs.Prelude.{slice_get, is_some, not, ◌&&◌}
 use Rattle.shared_map.specs.Pairs.{found}
-use Rattle.import_rounds.specs.Rounds.{has}
+use Rattle.text_words.specs.Members.{has}
 use Rattle.doc_nodes.specs.declared.node.Entry.{Entry}
 use Rattle.doc_nodes.specs.declared.node.Node.{Node}
 use Rattle.doc_nodes.specs.Names.{in_order}

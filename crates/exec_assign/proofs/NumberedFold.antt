@@ -7,7 +7,7 @@ use Rattle.std.specs.Prelude.{slice_get, slice_index_or, ◌||◌}
 use Rattle.std.specs.List.{flat_map}
 use Rattle.std.specs.Option.{option_map_or}
 use Rattle.std.proofs.lemmas.Bool.{or_parts, or_right}
-use Rattle.import_rounds.specs.Rounds.{has}
+use Rattle.text_words.specs.Members.{has}
 use Rattle.doc_nodes.specs.declared.node.Node.{Node}
 use Rattle.doc_nodes.specs.Imports.{order}
 use Rattle.exec_rules.specs.declared.row.Assigned.{Assigned}

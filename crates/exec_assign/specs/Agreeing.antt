@@ -1,6 +1,6 @@
 -- What is cancelled, as far as a version goes (this project's own).
 use Rattle.std.specs.Prelude.{◌≡◌, ℕ, true, List, flat_map}
-use Rattle.import_rounds.specs.Rounds.{has}
+use Rattle.text_words.specs.Members.{has}
 use Rattle.exec_rules.specs.declared.version.Version.{Version}
 use Rattle.exec_rules.specs.Listed.{executions}
 

@@ -1,6 +1,6 @@
 //! What is cancelled.
 ghost use Rattle.std.specs.Prelude.{◌≡◌};
-ghost use Rattle.import_rounds.specs.Rounds.{has};
+ghost use Rattle.text_words.specs.Members.{has};
 
 use pide_base::ExecId;
 

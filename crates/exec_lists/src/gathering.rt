@@ -1,7 +1,7 @@
 //! The executions that rows have, gathered.
 ghost use Rattle.std.specs.Prelude.{◌≡◌, ◌++◌, ℕ, flat_map, OnOk};
 ghost use Rattle.std.specs.List.Sorted.{IsStrictlyIncreasing};
-ghost use Rattle.import_rounds.specs.Rounds.{has};
+ghost use Rattle.text_words.specs.Members.{has};
 ghost use Rattle.exec_rules.specs.Listed.{executions};
 
 use exec_rules::Row;

@@ -1,7 +1,7 @@
 //! Executions with an unfinished part.
 ghost use Rattle.std.specs.Prelude.{◌≡◌, ℕ, filter, flat_map, IfOk};
 ghost use Rattle.std.specs.List.Sorted.{IsStrictlyIncreasing};
-ghost use Rattle.import_rounds.specs.Rounds.{has};
+ghost use Rattle.text_words.specs.Members.{has};
 ghost use Rattle.exec_table.specs.Rows.{execution_of};
 ghost use Rattle.exec_rules.specs.Listed.{executions};
 ghost use Rattle.exec_lists.specs.Parts.{is_unfinished};

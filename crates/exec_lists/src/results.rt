@@ -1,7 +1,7 @@
 //! What came of a node.
 ghost use Rattle.std.specs.Prelude.{◌≡◌, ℕ, filter, flat_map, map, IfOk};
 ghost use Rattle.std.specs.List.Sorted.{IsStrictlyIncreasing};
-ghost use Rattle.import_rounds.specs.Rounds.{has};
+ghost use Rattle.text_words.specs.Members.{has};
 ghost use Rattle.exec_table.specs.Rows.{execution_of};
 ghost use Rattle.exec_rules.specs.Assigning.{entries_at};
 ghost use Rattle.exec_rules.specs.Listed.{executions};

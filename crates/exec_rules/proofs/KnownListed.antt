@@ -3,7 +3,7 @@ use Rattle.std.proofs.Common.{◌≡◌, ◌⊎◌, inl, inr, ℕ, true, false, 
 use Rattle.std.proofs.lemmas.Bool.{eqb-true, or_cases}
 use Rattle.std.specs.Prelude.{◌==◌}
 use Rattle.exec_rules.specs.Listed.{print_list}
-use Rattle.import_rounds.specs.Rounds.{has}
+use Rattle.text_words.specs.Members.{has}
 
 -- it lists just the one that it has
 pub in_print : (o : Option ℕ) (e : ℕ) → has (print_list o) e ≡ true → o ≡ Some e

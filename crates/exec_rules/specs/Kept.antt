@@ -1,7 +1,7 @@
 -- How many commands keep their evaluations (this project's own).
 use Rattle.std.specs.Prelude.{◌≡◌, ℕ, suc, ◌==◌, Bool, true, false, not, ◌&&◌, if◌then◌else◌, List, ◌∷◌, slice_get, Option, Some, None}
 use Rattle.shared_map.specs.Pairs.{found}
-use Rattle.import_rounds.specs.Rounds.{has}
+use Rattle.text_words.specs.Members.{has}
 use Rattle.doc_nodes.specs.declared.node.Entry.{Entry}
 use Rattle.doc_nodes.specs.Names.{in_order, equal}
 use Rattle.exec_rules.specs.declared.row.Row.{Row}

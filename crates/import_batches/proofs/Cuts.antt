@@ -3,9 +3,10 @@ use Rattle.std.proofs.Common.{◌≡◌, ℕ, zero, suc, ◌+◌, ◌<◌, ◌�
 use mathlib.Core.Bool.{false≢true}
 use Rattle.std.specs.List.{list_all}
 use Rattle.std.proofs.lemmas.Bool.{cases_lt}
-use Rattle.import_rounds.specs.Rounds.{has, is_known}
+use Rattle.text_words.specs.Members.{has}
+use Rattle.import_rounds.specs.Rounds.{is_known}
 use Rattle.import_rounds.specs.Looks.{met_by, AreMarks}
-use Rattle.import_rounds.proofs.KnownHas.{has_at}
+use Rattle.text_words.proofs.KnownMembers.{has_at}
 
 -- marked imports are ordered ones
 met_is_known : (marks : List Bool) (ordered : List ℕ) → AreMarks marks ordered → (aim : Option ℕ) → met_by marks aim ≡ is_known ordered aim

@@ -3,7 +3,8 @@ use Rattle.std.proofs.Common.{◌≡◌, ℕ, zero, suc, Bool, true, false, not,
 use mathlib.Core.Bool.{false≢true}
 use Rattle.std.specs.List.{concat, list_all}
 use Rattle.std.proofs.lemmas.List.Folds.{concat-append}
-use Rattle.import_rounds.specs.Rounds.{has, is_known, round, after_rounds, in_rounds}
+use Rattle.text_words.specs.Members.{has}
+use Rattle.import_rounds.specs.Rounds.{is_known, round, after_rounds, in_rounds}
 use Rattle.import_rounds.specs.Looks.{aims_at}
 use Rattle.import_rounds.proofs.KnownRounds.{cut}
 use Rattle.import_rounds.proofs.KnownFiltered.{has_passes}

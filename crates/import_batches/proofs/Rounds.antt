@@ -3,11 +3,12 @@ use Rattle.std.proofs.Common.{◌≡◌, ℕ, zero, suc, ◌<◌, Bool, true, fa
 use mathlib.Core.Bool.{false≢true}
 use Rattle.std.specs.List.{list_all}
 use Rattle.std.proofs.lemmas.List.{append_cancel_left}
-use Rattle.import_rounds.specs.Rounds.{has, is_known, is_next, round, after_rounds, in_rounds}
+use Rattle.text_words.specs.Members.{has}
+use Rattle.import_rounds.specs.Rounds.{is_known, is_next, round, after_rounds, in_rounds}
 use Rattle.import_rounds.specs.Looks.{aims_at}
 use Rattle.import_rounds.proofs.KnownRounds.{is_order, left_of, passes}
 use Rattle.import_rounds.proofs.KnownOrdered.{all_ordered}
-use Rattle.import_rounds.proofs.KnownHas.{has_both, has_itself, has_middle}
+use Rattle.text_words.proofs.KnownMembers.{has_both, has_itself, has_middle}
 use Rattle.import_rounds.proofs.KnownFiltered.{filtered_has, filtered_within}
 
 second_of : (a b : Bool) → (not a && b) ≡ true → b ≡ true

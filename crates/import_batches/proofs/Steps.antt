@@ -4,9 +4,10 @@ use mathlib.Core.Bool.{false≢true}
 use lib.Seq.{take_at, drop_at}
 use Rattle.std.specs.List.{list_all}
 use Rattle.std.proofs.lemmas.List.{length-map}
-use Rattle.import_rounds.specs.Rounds.{has, is_known, round, in_rounds}
+use Rattle.text_words.specs.Members.{has}
+use Rattle.import_rounds.specs.Rounds.{is_known, round, in_rounds}
 use Rattle.import_rounds.specs.Looks.{aims_at, met_by, AreMarks}
-use Rattle.import_rounds.proofs.KnownHas.{has_itself, has_middle}
+use Rattle.text_words.proofs.KnownMembers.{has_itself, has_middle}
 use Rattle.import_rounds.proofs.KnownFiltered.{filtered_within}
 use Rattle.doc_nodes.specs.Graph.{Graph}
 use Rattle.doc_nodes.specs.Graphs.{IsGraphOf}

@@ -1,7 +1,7 @@
 //! Which nodes fit into the next round.
 ghost use Rattle.std.specs.Prelude.{◌≡◌, ℕ, ◌<◌, ◌≤◌, ◌||◌, true, false, length, slice_index_or, vec_len};
 ghost use Rattle.std.specs.List.{list_all};
-ghost use Rattle.import_rounds.specs.Rounds.{has};
+ghost use Rattle.text_words.specs.Members.{has};
 ghost use Rattle.import_rounds.specs.Looks.{aims_at, marked, met_by};
 ghost use Rattle.import_batches.specs.Batches.{begins_by};
 

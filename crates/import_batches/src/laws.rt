@@ -2,7 +2,8 @@
 
 ghost use Rattle.std.specs.Prelude.{◌≡◌, ℕ, true, List, ◌∷◌, ◌++◌};
 ghost use Rattle.std.specs.List.{concat, list_all};
-ghost use Rattle.import_rounds.specs.Rounds.{has, is_known};
+ghost use Rattle.text_words.specs.Members.{has};
+ghost use Rattle.import_rounds.specs.Rounds.{is_known};
 ghost use Rattle.import_rounds.specs.Looks.{aims_at};
 ghost use Rattle.doc_nodes.specs.Imports.{NodeList, aims, is_ordered, order};
 ghost use Rattle.import_batches.specs.Batches.{AreBatches};

@@ -3,8 +3,8 @@ use Rattle.std.proofs.Common.{◌≡◌, ℕ, zero, suc, ◌+◌, ◌<◌, ◌�
 use mathlib.Core.Bool.{false≢true}
 use Rattle.std.specs.List.{range_with_len}
 use Rattle.std.proofs.lemmas.Bool.Decides.{nat_tests}
-use Rattle.import_rounds.specs.Rounds.{has}
-use Rattle.import_rounds.proofs.KnownHas.{has_middle}
+use Rattle.text_words.specs.Members.{has}
+use Rattle.text_words.proofs.KnownMembers.{has_middle}
 
 -- a place that passes stands in the filter
 pub has_filter : (p : ℕ → Bool) (n a y : ℕ) → a ≤ y → y < a + n → p y ≡ true → has (filter p (range_with_len a n)) y ≡ true

@@ -4,11 +4,12 @@ use mathlib.Core.Bool.{false≢true}
 use Rattle.std.specs.List.{list_all, range_with_len}
 use Rattle.std.proofs.lemmas.List.FromFn.{length-range_with_len}
 use Rattle.std.proofs.lemmas.Bool.Decides.{nat_tests}
-use Rattle.import_rounds.specs.Rounds.{has, is_known, is_next, round, after_rounds, in_rounds}
+use Rattle.text_words.specs.Members.{has}
+use Rattle.import_rounds.specs.Rounds.{is_known, is_next, round, after_rounds, in_rounds}
 use Rattle.import_rounds.specs.Looks.{aims_at}
 use Rattle.import_rounds.proofs.Counts.{count, count_lt, count_short, count_one}
 use Rattle.import_rounds.proofs.KnownRounds.{is_order, all_more, known_more, left_of, passes}
-use Rattle.import_rounds.proofs.KnownHas.{has_both, cut_at, has_itself}
+use Rattle.text_words.proofs.KnownMembers.{has_both, cut_at, has_itself}
 use Rattle.import_rounds.proofs.KnownFiltered.{has_filter, has_filter_within}
 
 module _ (rows : List (List (Option ℕ))) where

@@ -5,8 +5,8 @@ use Rattle.std.specs.List.{AllPairs, filter, range_with_len}
 use Rattle.std.specs.List.Sorted.{IsStrictlyIncreasing}
 use Rattle.std.proofs.lemmas.Bool.Decides.{nat_tests}
 use Rattle.std.proofs.lemmas.List.Kept.{AllPairs-from_increasing}
-use Rattle.import_rounds.specs.Rounds.{has}
-use Rattle.import_rounds.proofs.KnownHas.{has_itself, has_tail}
+use Rattle.text_words.specs.Members.{has}
+use Rattle.text_words.proofs.KnownMembers.{has_itself, has_tail}
 
 -- each number is at least a, and above the one before it
 abbrev pub RisesFrom : ℕ → List ℕ → Type 0

@@ -3,9 +3,10 @@ use Rattle.std.proofs.Common.{◌≡◌, ◌⊎◌, inl, inr, ℕ, zero, suc, �
 use mathlib.Core.Bool.{false≢true}
 use Rattle.std.specs.List.{list_all}
 use Rattle.std.proofs.lemmas.Bool.{or_cases}
-use Rattle.import_rounds.specs.Rounds.{has, is_known, is_next, round, after_rounds, in_rounds}
+use Rattle.text_words.specs.Members.{has}
+use Rattle.import_rounds.specs.Rounds.{is_known, is_next, round, after_rounds, in_rounds}
 use Rattle.import_rounds.specs.Looks.{aims_at}
-use Rattle.import_rounds.proofs.KnownHas.{has_both, has_middle}
+use Rattle.text_words.proofs.KnownMembers.{has_both, has_middle}
 use Rattle.import_rounds.proofs.KnownFiltered.{has_filter_within, has_passes, once_in}
 
 -- a list that ends in two ways is cut in the first or in the second part

@@ -1,5 +1,4 @@
 mod Counts
-pub mod KnownHas
 pub mod KnownRising
 pub mod KnownFiltered
 mod Steps

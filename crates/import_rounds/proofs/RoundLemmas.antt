@@ -4,9 +4,10 @@ use mathlib.Core.Bool.{false≢true}
 use Rattle.std.specs.List.{list_all}
 use Rattle.std.specs.List.Sorted.{IsStrictlyIncreasing}
 use Rattle.std.proofs.lemmas.Bool.{or_parts}
-use Rattle.import_rounds.specs.Rounds.{has, is_known, is_next, round, after_rounds}
+use Rattle.text_words.specs.Members.{has}
+use Rattle.import_rounds.specs.Rounds.{is_known, is_next, round, after_rounds}
 use Rattle.import_rounds.specs.Looks.{marked, met_by, aims_at, IsDue, AreMarks}
-use Rattle.import_rounds.proofs.KnownHas.{has_both}
+use Rattle.text_words.proofs.KnownMembers.{has_both}
 use Rattle.import_rounds.proofs.KnownRising.{exactly}
 use Rattle.import_rounds.proofs.KnownFiltered.{has_filter, has_filter_within}
 

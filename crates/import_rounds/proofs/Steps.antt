@@ -5,9 +5,9 @@ use Rattle.std.proofs.lemmas.Bool.Decides.{nat_tests}
 use Rattle.std.proofs.lemmas.List.{get_or_default}
 use Rattle.std.proofs.lemmas.List.Folds.{list_any_more}
 use Rattle.std.proofs.Math.Bool.{or_assoc, or-true, or-false}
-use Rattle.import_rounds.specs.Rounds.{has}
+use Rattle.text_words.specs.Members.{has}
 use Rattle.import_rounds.specs.Looks.{marked}
-use Rattle.import_rounds.proofs.KnownHas.{has_contained}
+use Rattle.text_words.proofs.KnownMembers.{has_contained}
 
 marked_set : (m : List Bool) (q p : ℕ) → q < length m → marked (set m q true) p ≡ (marked m p || eqb p q)
 marked_set m q p lt = go (eqb p q) refl

@@ -1,6 +1,6 @@
 -- The importers of each node, as lists of places.
 use Rattle.std.specs.Prelude.{◌≡◌, ℕ, ◌<◌, true, false, List, [], length, slice_index_or, Option, Some, None}
-use Rattle.import_rounds.specs.Rounds.{has}
+use Rattle.text_words.specs.Members.{has}
 use Rattle.import_rounds.specs.Looks.{aims_at}
 
 -- the importers of the node at a place

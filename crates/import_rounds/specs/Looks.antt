@@ -1,7 +1,7 @@
 -- What a search for the next round keeps: marks of the ordered nodes, and how many of each node's
 -- first imports were seen to be ordered (this project's own).
 use Rattle.std.specs.Prelude.{◌≡◌, ℕ, ◌<◌, Bool, true, false, List, [], length, slice_index_or, Option, Some, None}
-use Rattle.import_rounds.specs.Rounds.{has}
+use Rattle.text_words.specs.Members.{has}
 
 -- the place is marked
 abbrev pub marked : List Bool → ℕ → Bool

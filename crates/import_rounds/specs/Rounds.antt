@@ -1,11 +1,8 @@
 -- The order of nodes by rounds. A node is a place in a list, and has the places of its imports; an
 -- import that is no node has none.
-use Rattle.std.specs.Prelude.{ℕ, zero, suc, Bool, false, not, ◌&&◌, ◌==◌, List, [], ◌++◌, length, filter, slice_index_or, Option, Some, None}
-use Rattle.std.specs.List.{list_any, list_all, range_with_len}
-
--- the place is among these
-abbrev pub has : List ℕ → ℕ → Bool
-has places p = list_any (λ q. p == q) places
+use Rattle.std.specs.Prelude.{ℕ, zero, suc, Bool, false, not, ◌&&◌, List, [], ◌++◌, length, filter, slice_index_or, Option, Some, None}
+use Rattle.std.specs.List.{list_all, range_with_len}
+use Rattle.text_words.specs.Members.{has}
 
 -- an import is known: it is a node, and that is ordered
 abbrev pub is_known : List ℕ → Option ℕ → Bool

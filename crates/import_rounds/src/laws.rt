@@ -2,7 +2,8 @@
 
 ghost use Rattle.std.specs.Prelude.{◌≡◌, ℕ, ◌<◌, true, false, List, ◌∷◌, ◌++◌, length, Option};
 ghost use Rattle.std.specs.List.{list_all};
-ghost use Rattle.import_rounds.specs.Rounds.{has, is_known, in_rounds};
+ghost use Rattle.text_words.specs.Members.{has};
+ghost use Rattle.import_rounds.specs.Rounds.{is_known, in_rounds};
 ghost use Rattle.import_rounds.specs.Looks.{aims_at};
 
 /// A node is ordered exactly where each of its imports is a node that is ordered. It is ordered

@@ -1,7 +1,8 @@
 //! The rounds.
 ghost use Rattle.std.specs.Prelude.{◌≡◌, ℕ, ◌<◌, ◌≤◌, ◌||◌, List, [], ◌++◌, true, length, IfOk, OnOk};
 ghost use Rattle.std.specs.List.Sorted.{IsStrictlyIncreasing};
-ghost use Rattle.import_rounds.specs.Rounds.{has, round, in_rounds};
+ghost use Rattle.text_words.specs.Members.{has};
+ghost use Rattle.import_rounds.specs.Rounds.{round, in_rounds};
 ghost use Rattle.import_rounds.specs.Looks.{marked, AreMarks, Scanned, OfferedAll};
 ghost use Rattle.import_rounds.specs.Importers.{AreImporters};
 

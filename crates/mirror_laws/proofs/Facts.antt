@@ -1,7 +1,7 @@
 -- What is known of histories, documents and updates.
 use Rattle.std.proofs.Common.{◌≡◌, ◌↔◌, ℕ, ◌<◌, ◌≤◌, true, false, List, length, Some}
 use Rattle.std.specs.Prelude.{slice_get}
-use Rattle.import_rounds.specs.Rounds.{has}
+use Rattle.text_words.specs.Members.{has}
 use Rattle.pide_base.specs.declared.part.Part.{Part}
 use Rattle.doc_nodes.specs.Imports.{NodeList}
 use Rattle.doc_versions.specs.declared.versions.Live.{Live}

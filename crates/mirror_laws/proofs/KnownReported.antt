@@ -1,7 +1,7 @@
 -- What finished parts reported, for crates above.
 use Rattle.std.proofs.Common.{◌≡◌, ℕ, true, List, Some}
 use Rattle.std.specs.List.{AllByRecursion}
-use Rattle.import_rounds.specs.Rounds.{has}
+use Rattle.text_words.specs.Members.{has}
 use Rattle.pide_base.specs.declared.part.Part.{Part}
 use Rattle.report_markup.specs.declared.report.Report.{Report}
 use Rattle.doc_nodes.specs.declared.node.Node.{Node}

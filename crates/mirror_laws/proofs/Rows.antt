@@ -3,8 +3,8 @@ use Rattle.std.proofs.Common.{◌≡◌, ℕ, zero, suc, true, false, cond, List
 use Rattle.std.proofs.lemmas.Bool.{eq-eqb, false≢true, or_parts, ne_eqb}
 use Rattle.std.specs.Prelude.{find, slice_get, ◌==◌}
 use Rattle.std.specs.Option.{option_map_or}
-use Rattle.import_rounds.specs.Rounds.{has}
-use Rattle.import_rounds.proofs.KnownHas.{has_itself, has_tail}
+use Rattle.text_words.specs.Members.{has}
+use Rattle.text_words.proofs.KnownMembers.{has_itself, has_tail}
 use Rattle.doc_nodes.specs.declared.node.Entry.{Entry}
 use Rattle.exec_rules.specs.declared.row.Row.{Row}
 use Rattle.exec_rules.specs.Listed.{Told, executions, told}

@@ -3,12 +3,12 @@ use Rattle.std.proofs.Common.{◌≡◌, ℕ, Bool, true, false, cond, ◌||◌,
 use Rattle.std.proofs.lemmas.Bool.{eqb-true}
 use Rattle.std.specs.Prelude.{◌==◌}
 use Rattle.std.proofs.Math.Bool.{or-false}
-use Rattle.import_rounds.specs.Rounds.{has}
+use Rattle.text_words.specs.Members.{has}
 use Rattle.exec_table.specs.declared.execution.Execution.{Execution}
 use Rattle.exec_table.specs.Progress.{is_idle}
 use Rattle.exec_table.specs.Finish.{after_cancelling}
 use Rattle.prover_core.proofs.CancelTold.{turned}
-use Rattle.import_rounds.proofs.KnownHas.{has_both}
+use Rattle.text_words.proofs.KnownMembers.{has_both}
 
 -- what is there at a number, once it is changed at these
 abbrev pub changed_in : {A : Type 0} → (ℕ → A → A) → List ℕ → (ℕ → A) → ℕ → A

@@ -2,12 +2,11 @@
 use Rattle.std.proofs.Common.{◌≡◌, ◌≢◌, ℕ, Bool, true, false, cond, not, ◌&&◌, ◌||◌, List, [], ◌∷◌, Option, Some, refl, ap, sym, subst, ◌∙◌}
 use Rattle.std.proofs.lemmas.Bool.{eqb-true, eq-eqb, false≢true}
 use Rattle.std.specs.Prelude.{◌==◌}
-use Rattle.import_rounds.specs.Rounds.{has}
+use Rattle.text_words.specs.Members.{has}
 use Rattle.std.specs.Option.{option_map, option_map_or}
 use Rattle.pide_base.specs.declared.part.Part.{Part}
 use Rattle.pide_base.specs.declared.part.PartKind.TheVariants as kind
 use Rattle.task_queue.specs.declared.task.Standing.{Standing as Task}
-use Rattle.task_queue.specs.Tasks.{has as has_input}
 use Rattle.task_queue.specs.Changes.{without}
 use Rattle.language.specs.Lang.{Lang}
 use Rattle.core_rules.specs.declared.event.Event.{Event}
@@ -65,7 +64,7 @@ module _ {S : Type 0} {l : Lang S} {h : List Event} {t : Tables S} {who : ℕ} {
     -- an evaluation: nobody waits for it any more, and where its command forks, the fork comes
     pub tasks_behind : (tasks : ℕ → Option Task) → tasks p.exec ≡ task_behind (kind_behind p.kind (forks l (d finish).homes p.exec))
         → ((e : ℕ) → e ≢ p.exec → tasks e ≡ option_map (without p.exec) (t.tasks e))
-        → ((e : ℕ) → e ≢ p.exec → option_map_or (λ (s : Task). has_input s.inputs p.exec) (tasks e) false ≡ false)
+        → ((e : ℕ) → e ≢ p.exec → option_map_or (λ (s : Task). has s.inputs p.exec) (tasks e) false ≡ false)
         → (e : ℕ) → HasTask l (more finish) (d finish) e (tasks e)
     tasks_behind tasks at others free e = go (p.exec == e) refl
       where
@@ -81,4 +80,4 @@ module _ {S : Type 0} {l : Lang S} {h : List Event} {t : Tables S} {who : ℕ} {
             let was = others e differ in
             task_apart finish e (tasks e) is (subst (AreTasks (standing (more finish)) (d finish).tip (d finish).homes e (present_kind l h (d finish) e)) (sym was)
             (still_behind (standing h) (standing (more finish)) (d finish).tip (d finish).homes e (stands_apart finish e is) p.exec done_behind (present_kind l h (d finish) e) (t.tasks e)
-            (finish.kept.tasks e) (ap (λ o. option_map_or (λ (s : Task). has_input s.inputs p.exec) o false) (sym was) ∙ free e differ)))
+            (finish.kept.tasks e) (ap (λ o. option_map_or (λ (s : Task). has s.inputs p.exec) o false) (sym was) ∙ free e differ)))

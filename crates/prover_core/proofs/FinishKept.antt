@@ -8,7 +8,7 @@ use Rattle.exec_table.specs.declared.execution.Execution.{Execution}
 use Rattle.exec_table.specs.declared.execution.Done.{Done as Brought}
 use Rattle.exec_table.specs.Finish.{finished_in}
 use Rattle.task_queue.specs.declared.task.Standing.{Standing as Task}
-use Rattle.task_queue.specs.Tasks.{has as has_input}
+use Rattle.text_words.specs.Members.{has}
 use Rattle.task_queue.specs.Changes.{without}
 use Rattle.language.specs.Lang.{Lang}
 use Rattle.core_rules.specs.declared.event.Event.{Event}
@@ -53,7 +53,7 @@ module _ {S : Type 0} (l : Lang S) (h : List Event) (t : Tables S) (k : IsKept l
       → ((w : ℕ) → holders w ≡ cond (who == w) None (t.holders w))
       → tasks p.exec ≡ task_behind (kind_behind p.kind f)
       → (p.kind ≡ kind.Eval → (e : ℕ) → e ≢ p.exec → tasks e ≡ option_map (without p.exec) (t.tasks e))
-      → (p.kind ≡ kind.Eval → (e : ℕ) → e ≢ p.exec → option_map_or (λ (s : Task). has_input s.inputs p.exec) (tasks e) false ≡ false)
+      → (p.kind ≡ kind.Eval → (e : ℕ) → e ≢ p.exec → option_map_or (λ (s : Task). has s.inputs p.exec) (tasks e) false ≡ false)
       → (same_kind p.kind kind.Eval ≡ false → (e : ℕ) → e ≢ p.exec → tasks e ≡ t.tasks e) → holding ≤ room → count ≤ t.count
       → IsKept l (Finished who p ∷ h) (record t { rows = rows; holders = holders; holding = holding; tasks = tasks; room = room; count = count })
   finish_kept rows holders holding tasks room count updates out at waiters free others fits fewer =

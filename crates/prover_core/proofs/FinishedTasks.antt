@@ -7,7 +7,7 @@ use Rattle.pide_base.specs.declared.part.Part.{Part}
 use Rattle.pide_base.specs.declared.part.PartKind.{PartKind}
 use Rattle.pide_base.specs.declared.part.PartKind.TheVariants as kind
 use Rattle.task_queue.specs.declared.task.Standing.{Standing as Task}
-use Rattle.task_queue.specs.Tasks.{has as has_input}
+use Rattle.text_words.specs.Members.{has}
 use Rattle.task_queue.specs.Changes.{without}
 use Rattle.language.specs.Lang.{Lang}
 use Rattle.core_rules.specs.declared.event.Event.{Event}
@@ -55,7 +55,7 @@ module _ {S : Type 0} {l : Lang S} {h : List Event} {t : Tables S} {who : ℕ} {
   -- so for each kind of part
   pub tasks_then : (tasks : ℕ → Option Task) → tasks p.exec ≡ task_behind (kind_behind p.kind (forks l (d finish).homes p.exec))
       → (p.kind ≡ kind.Eval → (e : ℕ) → e ≢ p.exec → tasks e ≡ option_map (without p.exec) (t.tasks e))
-      → (p.kind ≡ kind.Eval → (e : ℕ) → e ≢ p.exec → option_map_or (λ (s : Task). has_input s.inputs p.exec) (tasks e) false ≡ false)
+      → (p.kind ≡ kind.Eval → (e : ℕ) → e ≢ p.exec → option_map_or (λ (s : Task). has s.inputs p.exec) (tasks e) false ≡ false)
       → (same_kind p.kind kind.Eval ≡ false → (e : ℕ) → e ≢ p.exec → tasks e ≡ t.tasks e)
       → (e : ℕ) → HasTask l (more finish) (d finish) e (tasks e)
   tasks_then tasks at waiters free others = go p.kind refl

@@ -6,7 +6,7 @@ use Rattle.std.specs.Prelude.{◌==◌, flat_map}
 use Rattle.std.specs.Option.{MatchOption, option_map, option_map_or}
 use Rattle.task_queue.specs.declared.task.Standing.{Standing}
 use Rattle.task_queue.specs.declared.task.Task.{Task}
-use Rattle.task_queue.specs.Tasks.{has}
+use Rattle.text_words.specs.Members.{has}
 use Rattle.task_queue.specs.Changes.{waiting}
 use Rattle.exec_table.specs.declared.execution.Execution.{Execution}
 use Rattle.update_plans.specs.declared.known.Known.{Known}

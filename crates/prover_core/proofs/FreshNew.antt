@@ -2,13 +2,12 @@
 use Rattle.std.proofs.Common.{◌≡◌, ℕ, suc, ◌<◌, Bool, true, false, cond, List, length, Option, Some, None, refl, ap, sym, ◌∙◌, arith}
 use Rattle.std.specs.Option.{option_map, option_map_or}
 use Rattle.std.proofs.lemmas.Option.{same_Some}
-use Rattle.import_rounds.specs.Rounds.{has}
-use Rattle.import_rounds.proofs.KnownHas.{each_has}
+use Rattle.text_words.specs.Members.{has}
+use Rattle.text_words.proofs.KnownMembers.{each_has}
 use Rattle.doc_nodes.specs.Imports.{NodeList}
 use Rattle.exec_table.specs.declared.execution.Execution.{Execution}
 use Rattle.exec_table.specs.Finish.{after_cancelling}
 use Rattle.task_queue.specs.declared.task.Standing.{Standing as Task}
-use Rattle.task_queue.specs.Tasks.{has as has_input}
 use Rattle.exec_rules.specs.declared.home.Home.{Home}
 use Rattle.exec_rules.specs.Kept.{BlobList}
 use Rattle.language.specs.Lang.{Lang}
@@ -45,8 +44,8 @@ module _ {S : Type 0} {l : Lang S} {h : List Event} {t : Tables S} {id : ℕ} {n
   none_task true o is = refl
   none_task false o is = is
 
-  none_waits : (e : ℕ) (b : Bool) (o : Option Task) → option_map_or (λ (s : Task). has_input s.inputs e) o false ≡ false
-      → option_map_or (λ (s : Task). has_input s.inputs e) (cond b None o) false ≡ false
+  none_waits : (e : ℕ) (b : Bool) (o : Option Task) → option_map_or (λ (s : Task). has s.inputs e) o false ≡ false
+      → option_map_or (λ (s : Task). has s.inputs e) (cond b None o) false ≡ false
   none_waits e true o is = refl
   none_waits e false o is = is
 
@@ -64,6 +63,6 @@ module _ {S : Type 0} {l : Lang S} {h : List Event} {t : Tables S} {id : ℕ} {n
     no_rows = λ e le. rows e ∙ none_by (has dropped e) (t.rows e) (no_row u e (omega (arith, le)));
     no_homes = λ e le. none_known (known e) (homes e ∙ no_home u e (omega (arith, le)));
     no_tasks = λ e le. tasks e ∙ none_task (has dropped e) (t.tasks e) (no_task u e (omega (arith, le)));
-    waiters = λ e f le. ap (λ o. option_map_or (λ (s : Task). has_input s.inputs e) o false) (tasks f)
+    waiters = λ e f le. ap (λ o. option_map_or (λ (s : Task). has s.inputs e) o false) (tasks f)
         ∙ none_waits e (has dropped f) (t.tasks f) (nobody_waits u e f (omega (arith, le)));
   }

@@ -1,7 +1,7 @@
 -- The new executions of a plan, by their numbers.
 use Rattle.std.proofs.Common.{◌≡◌, ◌⊎◌, inl, inr, ℕ, suc, ◌+◌, ◌<◌, ◌≤◌, true, cond, not, List, [], ◌∷◌, length, map, Some, None, refl, ap, sym, subst, ◌∙◌, arith}
 use Rattle.std.proofs.lemmas.Bool.{eq-eqb, ne_eqb, cases_lt, and_parts}
-use Rattle.import_rounds.specs.Rounds.{has}
+use Rattle.text_words.specs.Members.{has}
 use Rattle.task_queue.specs.declared.task.Task.{Task}
 use Rattle.exec_rules.specs.declared.home.Home.{Home}
 use Rattle.core_rules.specs.declared.event.Event.{Event}

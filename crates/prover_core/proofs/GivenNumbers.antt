@@ -4,7 +4,7 @@ use mathlib.Core.Bool.{or_assoc}
 use Rattle.std.proofs.lemmas.Bool.{eq-eqb, or_left, or_right, or_cases, cases_lt}
 use Rattle.std.specs.Prelude.{◌==◌, slice_get, slice_index_or, flat_map, nat_lt}
 use Rattle.std.specs.Option.{option_map_or}
-use Rattle.import_rounds.specs.Rounds.{has}
+use Rattle.text_words.specs.Members.{has}
 use Rattle.doc_nodes.specs.declared.node.Entry.{Entry}
 use Rattle.doc_nodes.specs.declared.node.Node.{Node}
 use Rattle.exec_rules.specs.declared.row.Row.{Row}
@@ -18,7 +18,7 @@ use Rattle.exec_rules.specs.Kept.{BlobList}
 use Rattle.exec_rules.specs.Assigning.{Update, head_at}
 use Rattle.exec_rules.specs.Listed.{executions, print_list}
 use Rattle.exec_assign.specs.Numbered.{if_new, new_evaluations, new_print, new_prints, new_of, new_at, with_numbers}
-use Rattle.import_rounds.proofs.KnownHas.{has_both}
+use Rattle.text_words.proofs.KnownMembers.{has_both}
 
 -- the numbers of homes
 abbrev pub numbers : List (ℕ × Home) → List ℕ

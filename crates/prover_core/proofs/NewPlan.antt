@@ -1,6 +1,6 @@
 -- A plan of an update, and what holds of the version that it makes.
 use Rattle.std.proofs.Common.{◌≡◌, ℕ, suc, true, false, not, ◌&&◌, List, ◌∷◌, length, ap, sym, subst, ◌∙◌, arith}
-use Rattle.import_rounds.specs.Rounds.{has}
+use Rattle.text_words.specs.Members.{has}
 use Rattle.exec_rules.specs.declared.version.Version.{Version}
 use Rattle.exec_rules.specs.Assigning.{Assignment}
 use Rattle.language.specs.Lang.{Lang}

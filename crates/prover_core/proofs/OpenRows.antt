@@ -2,7 +2,7 @@
 use Rattle.std.proofs.Common.{◌≡◌, ℕ, Bool, true, false, cond, not, ◌||◌, List, [], ◌∷◌, map, Some, None, refl, ap, sym, ◌∙◌}
 use Rattle.std.specs.List.{list_any}
 use Rattle.std.specs.Option.{option_map, option_map_or}
-use Rattle.import_rounds.specs.Rounds.{has}
+use Rattle.text_words.specs.Members.{has}
 use Rattle.pide_base.specs.declared.part.PartKind.{PartKind}
 use Rattle.exec_table.specs.Progress.{is_done}
 use Rattle.exec_rules.specs.declared.home.Home.{Home}

@@ -1,9 +1,8 @@
 -- The new executions of a planned update, by their numbers, and their first tasks.
 use Rattle.std.proofs.Common.{◌≡◌, ℕ, suc, ◌<◌, ◌≤◌, false, not, ◌&&◌, List, [], ◌∷◌, length, Some, None, refl, ap, ◌∙◌, arith, sym}
 use Rattle.std.specs.Option.{option_map_or}
-use Rattle.import_rounds.specs.Rounds.{has}
+use Rattle.text_words.specs.Members.{has}
 use Rattle.doc_nodes.specs.Imports.{NodeList}
-use Rattle.task_queue.specs.Tasks.{has as has_input}
 use Rattle.task_queue.specs.Changes.{waiting}
 use Rattle.exec_rules.specs.declared.home.Home.{Home}
 use Rattle.exec_rules.specs.Kept.{BlobList}
@@ -77,7 +76,7 @@ module _ {S : Type 0} {l : Lang S} {h : List Event} {t : Tables S} {id : ℕ} {n
   seen_task e x past at one = record {
     same_kind = ranked_same (is_visible (new u) e) (waiting one.one.task) ∙ one.task.same_kind;
     urgent = ranked_urgent (is_visible (new u) e) false (first_kind x.input) (waiting one.one.task) one.task.same_kind one.task.urgent;
-    waits = λ f. ap (λ es. has_input es f) (ranked_inputs (is_visible (new u) e) (waiting one.one.task))
+    waits = λ f. ap (λ es. has es f) (ranked_inputs (is_visible (new u) e) (waiting one.one.task))
         ∙ one.task.waits f ∙ ap (λ ws. has ws f && not (is_finished h (evaluation f))) (sym (waits_new e x at));
     held = ranked_held (is_visible (new u) e) (waiting one.one.task)
         ∙ sym (ap is_held (u.laws.unmade (part e (first_kind x.input)) past));

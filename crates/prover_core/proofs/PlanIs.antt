@@ -1,7 +1,7 @@
 -- What is worked out by the tables of a core is a plan of its document.
 use Rattle.std.proofs.Common.{◌≡◌, ℕ, suc, ◌<◌, ◌≤◌, Bool, true, false, not, ◌&&◌, List, length, map, reverse, refl, ap, sym, subst, ◌∙◌, arith}
 use Rattle.std.specs.List.{AllByRecursion}
-use Rattle.import_rounds.specs.Rounds.{has}
+use Rattle.text_words.specs.Members.{has}
 use Rattle.pide_base.specs.Ids.{id_end}
 use Rattle.doc_nodes.specs.Imports.{NodeList}
 use Rattle.exec_table.specs.Rows.{Row as TableRow}

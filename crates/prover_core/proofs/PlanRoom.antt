@@ -3,7 +3,7 @@ use Rattle.std.proofs.Common.{◌≡◌, ℕ, ◌+◌, ◌-◌, ◌<◌, ◌≤�
 use Rattle.std.proofs.lemmas.List.{take_more, length-append, reverse-append, length-reverse, length-map}
 use Rattle.std.proofs.lemmas.List.Concat.{flat_map-append}
 use Rattle.std.specs.Prelude.{flat_map, min}
-use Rattle.import_rounds.specs.Rounds.{has}
+use Rattle.text_words.specs.Members.{has}
 use Rattle.doc_versions.specs.Live.{History, tip_of}
 use Rattle.exec_table.specs.declared.execution.Execution.{Execution}
 use Rattle.task_queue.specs.declared.task.Standing.{Standing}

@@ -1,7 +1,7 @@
 -- The tables of executions that a planned update leaves are those of the document with the new version.
 use Rattle.std.proofs.Common.{◌≡◌, ℕ, cond, List, Option, Some, refl, ap, ◌∙◌}
 use Rattle.std.specs.Option.{option_map_or}
-use Rattle.import_rounds.specs.Rounds.{has}
+use Rattle.text_words.specs.Members.{has}
 use Rattle.doc_nodes.specs.Imports.{NodeList}
 use Rattle.exec_table.specs.declared.execution.Execution.{Execution}
 use Rattle.exec_table.specs.Finish.{after_cancelling}

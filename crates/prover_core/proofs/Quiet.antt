@@ -1,7 +1,7 @@
 -- What stays where the same parts are finished.
 use Rattle.std.proofs.Common.{◌≡◌, ℕ, cond, not, ◌&&◌, List, Option, None, ap, sym, subst}
 use Rattle.std.specs.Option.{option_and_then}
-use Rattle.import_rounds.specs.Rounds.{has}
+use Rattle.text_words.specs.Members.{has}
 use Rattle.pide_base.specs.declared.part.PartKind.{PartKind}
 use Rattle.exec_rules.specs.declared.home.Home.{Home}
 use Rattle.language.specs.Lang.{Lang}

@@ -2,12 +2,12 @@
 use Rattle.std.proofs.Common.{◌≡◌, ℕ, Bool, true, false, cond, not, ◌&&◌, List, length, Option, Some, None, refl, ap, sym, subst, ◌∙◌}
 use Rattle.std.specs.Prelude.{◌==◌}
 use Rattle.std.proofs.lemmas.Bool.{and_parts, and_from, not-true}
-use Rattle.import_rounds.specs.Rounds.{has}
+use Rattle.text_words.specs.Members.{has}
 use Rattle.pide_base.specs.declared.part.Part.{Part}
 use Rattle.pide_base.specs.declared.part.PartKind.{PartKind}
 use Rattle.pide_base.specs.declared.part.PartKind.TheVariants as kind
 use Rattle.task_queue.specs.declared.task.Standing.{Standing as Task}
-use Rattle.task_queue.specs.Tasks.{has as has_input, is_ready as is_ready_task}
+use Rattle.task_queue.specs.Tasks.{is_ready as is_ready_task}
 use Rattle.task_queue.specs.Ready.{IsReadyPart}
 use Rattle.language.specs.Lang.{Lang}
 use Rattle.core_rules.specs.declared.event.Event.{Event}
@@ -101,7 +101,7 @@ module _ {S : Type 0} (l : Lang S) (h : List Event) (d : Doc) (all : ℕ → Opt
         let next = open_is_next l h d p.exec p.kind a.0 free.1 (behind p.kind p.exec c.1) in
         let present = wanted_present p.exec p.kind b.0 next in
         let found = task_of p.exec p.kind present in
-        let none : (f : ℕ) → has_input found.0.inputs f ≡ false = λ f. found.2.waits f
+        let none : (f : ℕ) → has found.0.inputs f ≡ false = λ f. found.2.waits f
         ∙ all_done (λ x. is_finished h (evaluation x)) (waits_for d.homes p) c.1 f in (
           present,
           (

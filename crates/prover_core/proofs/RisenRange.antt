@@ -3,9 +3,9 @@ use Rattle.std.proofs.Common.{◌≡◌, ℕ, ◌<◌, ◌≤◌, Bool, true, Li
 use Rattle.std.specs.List.{filter, range_with_len}
 use Rattle.std.specs.List.Sorted.{IsStrictlyIncreasing}
 use Rattle.std.proofs.lemmas.List.Kept.{AllPairs-from_increasing}
-use Rattle.import_rounds.specs.Rounds.{has}
+use Rattle.text_words.specs.Members.{has}
 use Rattle.import_rounds.proofs.KnownRising.{rises_from_pairs, exactly_from}
-use Rattle.import_rounds.proofs.KnownHas.{has_itself}
+use Rattle.text_words.proofs.KnownMembers.{has_itself}
 
 -- rising numbers, by one equation a number
 pub risen_range : (p : ℕ → Bool) (n : ℕ) (xs : List ℕ) → IsStrictlyIncreasing xs → ((e : ℕ) → has xs e ≡ p e)

@@ -2,12 +2,11 @@
 use Rattle.std.proofs.Common.{◌≡◌, ℕ, ◌≤◌, Bool, true, false, cond, not, ◌&&◌, List, [], length, Option, Some, None, refl, ap, sym, ◌∙◌}
 use Rattle.std.proofs.lemmas.Bool.{false≢true}
 use Rattle.std.specs.Option.{option_map, option_map_or, option_and_then}
-use Rattle.import_rounds.specs.Rounds.{has}
+use Rattle.text_words.specs.Members.{has}
 use Rattle.pide_base.specs.declared.part.PartKind.{PartKind}
 use Rattle.pide_base.specs.declared.part.PartKind.TheVariants as kind
 use Rattle.doc_nodes.specs.Imports.{NodeList}
 use Rattle.task_queue.specs.declared.task.Standing.{Standing as Task}
-use Rattle.task_queue.specs.Tasks.{has as has_input}
 use Rattle.exec_rules.specs.declared.home.Home.{Home}
 use Rattle.exec_rules.specs.Kept.{BlobList}
 use Rattle.language.specs.Lang.{Lang}
@@ -56,7 +55,7 @@ module _ {S : Type 0} {l : Lang S} {h : List Event} {t : Tables S} {id : ℕ} {n
   ranked_task e x s le task = record {
     same_kind = ranked_same (is_visible (new u) e) s ∙ task.same_kind;
     urgent = ranked_urgent (is_visible (new u) e) (is_visible (d u).tip e) x s task.same_kind task.urgent;
-    waits = λ f. ap (λ es. has_input es f) (ranked_inputs (is_visible (new u) e) s) ∙ task.waits f
+    waits = λ f. ap (λ es. has es f) (ranked_inputs (is_visible (new u) e) s) ∙ task.waits f
         ∙ ap (λ ws. has ws f && not (is_done (standing h (evaluation f)))) (sym (waits_old e x le));
     held = ranked_held (is_visible (new u) e) s ∙ task.held;
   }

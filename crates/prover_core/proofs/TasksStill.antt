@@ -3,11 +3,10 @@ use Rattle.std.proofs.Common.{◌≡◌, ℕ, Bool, true, false, cond, not, ◌&
 use Rattle.std.proofs.lemmas.Bool.{eqb-true, eq-eqb}
 use Rattle.std.specs.Prelude.{◌==◌}
 use Rattle.std.specs.Option.{option_map, option_map_or}
-use Rattle.import_rounds.specs.Rounds.{has}
+use Rattle.text_words.specs.Members.{has}
 use Rattle.pide_base.specs.declared.part.Part.{Part}
 use Rattle.pide_base.specs.declared.part.PartKind.{PartKind}
 use Rattle.task_queue.specs.declared.task.Standing.{Standing as Task}
-use Rattle.task_queue.specs.Tasks.{has as has_input}
 use Rattle.task_queue.specs.Changes.{removed, without}
 use Rattle.exec_rules.specs.declared.home.Home.{Home}
 use Rattle.exec_rules.specs.declared.version.Version.{Version}
@@ -38,7 +37,7 @@ module _ (old new : Part → Standing) (tip : Version) (homes : List Home) (e : 
     held = are.held ∙ ap is_held (sym (stands k));
   }
 
-  removed_others : (x f : ℕ) → (x == f) ≡ false → (es : List ℕ) → has_input (removed x es) f ≡ has_input es f
+  removed_others : (x f : ℕ) → (x == f) ≡ false → (es : List ℕ) → has (removed x es) f ≡ has es f
   removed_others x f apart [] = refl
   removed_others x f apart (y ∷ es) = go (x == y) refl (removed_others x f apart es)
     where
@@ -46,28 +45,28 @@ module _ (old new : Part → Standing) (tip : Version) (homes : List Home) (e : 
       others false is same = refl
       others true is same = sym apart ∙ eq-eqb x f (same ∙ sym (eqb-true f y is))
 
-      go : (b : Bool) → (x == y) ≡ b → has_input (removed x es) f ≡ has_input es f
-          → has_input (cond b es (y ∷ removed x es)) f ≡ has_input (y ∷ es) f
-      go true same rest = ap (λ c. c || has_input es f) (others (f == y) refl (eqb-true x y same))
+      go : (b : Bool) → (x == y) ≡ b → has (removed x es) f ≡ has es f
+          → has (cond b es (y ∷ removed x es)) f ≡ has (y ∷ es) f
+      go true same rest = ap (λ c. c || has es f) (others (f == y) refl (eqb-true x y same))
       go false same rest = ap (λ c. (f == y) || c) rest
 
   -- where the evaluation of x is finished as well, for which nobody waits any more
   module _ (x : ℕ) (done : (f : ℕ) → is_done (new (evaluation f)) ≡ cond (x == f) true (is_done (old (evaluation f)))) where
-    waits_no_more : (t : Task) (ws : List ℕ) → has_input (without x t).inputs x ≡ false
-        → ((f : ℕ) → has_input t.inputs f ≡ (has ws f && not (is_done (old (evaluation f)))))
-        → (f : ℕ) → has_input (without x t).inputs f ≡ (has ws f && not (is_done (new (evaluation f))))
+    waits_no_more : (t : Task) (ws : List ℕ) → has (without x t).inputs x ≡ false
+        → ((f : ℕ) → has t.inputs f ≡ (has ws f && not (is_done (old (evaluation f)))))
+        → (f : ℕ) → has (without x t).inputs f ≡ (has ws f && not (is_done (new (evaluation f))))
     waits_no_more t ws free waits f = go (x == f) refl ∙ ap (λ b. has ws f && not b) (sym (done f))
       where
         nothing : (b : Bool) → false ≡ (b && false)
         nothing true = refl
         nothing false = refl
 
-        go : (b : Bool) → (x == f) ≡ b → has_input (without x t).inputs f ≡ (has ws f && not (cond b true (is_done (old (evaluation f)))))
-        go true same = ap (has_input (without x t).inputs) (sym (eqb-true x f same)) ∙ free ∙ nothing (has ws f)
+        go : (b : Bool) → (x == f) ≡ b → has (without x t).inputs f ≡ (has ws f && not (cond b true (is_done (old (evaluation f)))))
+        go true same = ap (has (without x t).inputs) (sym (eqb-true x f same)) ∙ free ∙ nothing (has ws f)
         go false same = removed_others x f same t.inputs ∙ waits f
 
     pub still_behind : (k : Option PartKind) (o : Option Task) → AreTasks old tip homes e k o
-        → option_map_or (λ (t : Task). has_input t.inputs x) (option_map (without x) o) false ≡ false
+        → option_map_or (λ (t : Task). has t.inputs x) (option_map (without x) o) false ≡ false
         → AreTasks new tip homes e k (option_map (without x) o)
     still_behind None None are free = are
     still_behind None (Some t) are free = absurd (are)

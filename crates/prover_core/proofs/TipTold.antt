@@ -1,7 +1,7 @@
 -- Of what the tip assigns, the table of executions tells what is cancelled.
 use Rattle.std.proofs.Common.{◌≡◌, ℕ, false, cond, List, Option, Some, None, ap, sym, ◌∙◌}
 use Rattle.std.specs.Option.{option_map, option_map_or}
-use Rattle.import_rounds.specs.Rounds.{has}
+use Rattle.text_words.specs.Members.{has}
 use Rattle.exec_table.specs.declared.execution.Execution.{Execution}
 use Rattle.exec_table.specs.Rows.{Row as TableRow, execution_of}
 use Rattle.exec_rules.specs.declared.home.Home.{Home}

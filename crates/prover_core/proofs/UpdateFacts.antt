@@ -1,6 +1,6 @@
 -- An update of a document whose tables are kept.
 use Rattle.std.proofs.Common.{◌≡◌, ℕ, suc, true, not, ◌&&◌, List, ◌∷◌, length, Option}
-use Rattle.import_rounds.specs.Rounds.{has}
+use Rattle.text_words.specs.Members.{has}
 use Rattle.doc_nodes.specs.Imports.{NodeList}
 use Rattle.doc_versions.specs.Live.{History}
 use Rattle.exec_table.specs.declared.execution.Execution.{Execution}

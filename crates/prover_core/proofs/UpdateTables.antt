@@ -3,11 +3,10 @@ use Rattle.std.proofs.Common.{◌≡◌, ℕ, ◌<◌, ◌≤◌, Bool, true, fa
 use Rattle.std.proofs.lemmas.Bool.{false≢true, ne_eqb}
 use Rattle.std.specs.List.{AllByRecursion}
 use Rattle.std.specs.Option.{option_map_or}
-use Rattle.import_rounds.specs.Rounds.{has}
+use Rattle.text_words.specs.Members.{has}
 use Rattle.pide_base.specs.declared.part.PartKind.{PartKind}
 use Rattle.pide_base.specs.declared.part.PartKind.TheVariants as kind
 use Rattle.task_queue.specs.declared.task.Standing.{Standing as Task}
-use Rattle.task_queue.specs.Tasks.{has as has_input}
 use Rattle.exec_rules.specs.declared.home.Home.{Home}
 use Rattle.language.specs.Lang.{Lang}
 use Rattle.core_rules.specs.declared.event.Event.{Event}
@@ -61,7 +60,7 @@ module _ {S : Type 0} {l : Lang S} {h : List Event} {t : Tables S} {id : ℕ} {n
       go (Some s) is are = absurd (are)
 
   -- no task waits for it
-  pub nobody_waits : (e f : ℕ) → length (d u).homes < e → option_map_or (λ (s : Task). has_input s.inputs e) (t.tasks f) false ≡ false
+  pub nobody_waits : (e f : ℕ) → length (d u).homes < e → option_map_or (λ (s : Task). has s.inputs e) (t.tasks f) false ≡ false
   nobody_waits e f past = go (t.tasks f) refl (u.kept.tasks f)
     where
       present : (x : PartKind) → present_kind l h (d u) f ≡ Some x → assigns (d u).tip f ≡ true
@@ -91,13 +90,13 @@ module _ {S : Type 0} {l : Lang S} {h : List Event} {t : Tables S} {id : ℕ} {n
           (λ so. (let le = old is in omega (arith, le, past, so.older)))
 
       by_kind : (o : Option PartKind) → present_kind l h (d u) f ≡ o → (s : Task) → AreTasks (standing h) (d u).tip (d u).homes f o (Some s)
-          → has_input s.inputs e ≡ false
+          → has s.inputs e ≡ false
       by_kind None is s are = absurd (are)
       by_kind (Some x) is s are =
           are.waits e ∙ ap (λ b. b && not (is_done (standing h (evaluation e)))) (waits x (present x is))
 
       go : (o : Option Task) → t.tasks f ≡ o → AreTasks (standing h) (d u).tip (d u).homes f (present_kind l h (d u) f) (t.tasks f)
-          → option_map_or (λ (s : Task). has_input s.inputs e) o false ≡ false
+          → option_map_or (λ (s : Task). has s.inputs e) o false ≡ false
       go None is are = refl
       go (Some s) is are = by_kind (present_kind l h (d u) f) refl s
           (subst (λ o. AreTasks (standing h) (d u).tip (d u).homes f (present_kind l h (d u) f) o) is are)

@@ -3,7 +3,7 @@ use Rattle.std.proofs.Common.{◌≡◌, ℕ, ◌<◌, ◌≤◌, Bool, true, fa
 use mathlib.Core.Bool.{or_assoc}
 use Rattle.std.proofs.lemmas.Bool.{false≢true}
 use Rattle.std.proofs.Math.Bool.{or-false}
-use Rattle.import_rounds.specs.Rounds.{has}
+use Rattle.text_words.specs.Members.{has}
 use Rattle.doc_nodes.specs.Imports.{NodeList}
 use Rattle.doc_versions.specs.declared.versions.Live.{Live}
 use Rattle.exec_rules.specs.declared.version.Version.{Version}
@@ -17,7 +17,7 @@ use Rattle.core_rules.specs.Standing.{standing, is_done, is_open}
 use Rattle.core_rules.specs.Doc.{assignment_of}
 use Rattle.pide_base.specs.declared.part.PartKind.TheVariants as kind
 use Rattle.prover_core.specs.Progress.{Completed, part, completed_in}
-use Rattle.import_rounds.proofs.KnownHas.{has_both, has_passing}
+use Rattle.text_words.proofs.KnownMembers.{has_both, has_passing}
 use Rattle.core_rules.proofs.KnownStays.{number_grown, setting_grown}
 use Rattle.prover_core.specs.Kept.{Tables}
 use Rattle.prover_core.proofs.UpdateFacts.{Updating, d, more, now, new}

@@ -17,7 +17,7 @@ use Rattle.language.specs.Lang.{Lang}
 use Rattle.core_rules.specs.declared.event.Event.{Event}
 use Rattle.core_rules.specs.Numbered.{numbered, next_number}
 use Rattle.core_rules.specs.Assigned.{assigns, is_assigned}
-use Rattle.import_rounds.specs.Rounds.{has}
+use Rattle.text_words.specs.Members.{has}
 use Rattle.core_rules.specs.Settings.{setting}
 use Rattle.core_rules.specs.Doc.{assignment_of}
 use Rattle.core_rules.specs.Legal.{IsLegal}

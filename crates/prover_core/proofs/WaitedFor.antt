@@ -3,8 +3,7 @@ use Rattle.std.proofs.Common.{◌≡◌, ℕ, Bool, true, false, not, ◌&&◌, 
 use Rattle.std.proofs.lemmas.Bool.{false≢true, eqb-true, eq-eqb, or_left, and_parts, and_from}
 use Rattle.std.specs.Prelude.{◌==◌}
 use Rattle.std.specs.List.{list_all}
-use Rattle.import_rounds.specs.Rounds.{has}
-use Rattle.task_queue.specs.Tasks.{has as has_input}
+use Rattle.text_words.specs.Members.{has}
 use Rattle.core_rules.specs.Standing.{Standing, Free, Held, Done, is_done, is_free}
 use Rattle.prover_core.specs.Tasks.{is_held}
 
@@ -50,10 +49,10 @@ all_done done (e ∷ es) all f = go (f == e) refl (and_parts (done e) (list_all 
     go true x parts rest = no_left (has es f) (done f) (ap done (eqb-true f e x) ∙ parts.0)
     go false x parts rest = rest parts.1
 
-pub no_inputs : (es : List ℕ) → ((f : ℕ) → has_input es f ≡ false) → (length es == 0) ≡ true
+pub no_inputs : (es : List ℕ) → ((f : ℕ) → has es f ≡ false) → (length es == 0) ≡ true
 no_inputs [] none = refl
-no_inputs (e ∷ es) none = absurd (false≢true (sym (none e) ∙ or_left (e == e) (has_input es e) (eq-eqb e e refl)))
+no_inputs (e ∷ es) none = absurd (false≢true (sym (none e) ∙ or_left (e == e) (has es e) (eq-eqb e e refl)))
 
-pub nothing_waits : (es : List ℕ) → (length es == 0) ≡ true → (f : ℕ) → has_input es f ≡ false
+pub nothing_waits : (es : List ℕ) → (length es == 0) ≡ true → (f : ℕ) → has es f ≡ false
 nothing_waits [] none f = refl
 nothing_waits (e ∷ es) none f = let same = eqb-true (length (e ∷ es)) 0 none in absurd (omega (arith, same))

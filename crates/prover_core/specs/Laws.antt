@@ -1,6 +1,6 @@
 -- What laws say of an update (this project's own).
 use Rattle.std.specs.Prelude.{◌≡◌, ℕ, ◌+◌, ◌<◌, ◌≤◌, true, false, List, ◌∷◌, length, Some, slice_get}
-use Rattle.import_rounds.specs.Rounds.{has}
+use Rattle.text_words.specs.Members.{has}
 use Rattle.pide_base.specs.declared.part.Part.{Part}
 use Rattle.doc_nodes.specs.Imports.{NodeList}
 use Rattle.exec_rules.specs.declared.row.Row.{Row}

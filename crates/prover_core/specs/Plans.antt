@@ -1,14 +1,13 @@
 -- What an update that is planned will do (this project's own).
 use Rattle.std.specs.Prelude.{◌≡◌, ℕ, suc, ◌<◌, ◌≤◌, Bool, false, not, ◌&&◌, List, [], ◌∷◌, map, length, flat_map, ⊤}
 use Rattle.std.specs.List.{AllByRecursion}
-use Rattle.import_rounds.specs.Rounds.{has}
+use Rattle.text_words.specs.Members.{has}
 use Rattle.pide_base.specs.declared.part.PartKind.{PartKind}
 use Rattle.pide_base.specs.declared.part.PartKind.TheVariants as kind
 use Rattle.exec_table.specs.declared.execution.Execution.{Execution}
 use Rattle.exec_table.specs.declared.execution.Progress.TheVariants as progress
 use Rattle.task_queue.specs.declared.task.Task.{Task}
 use Rattle.task_queue.specs.declared.task.Standing.{Standing}
-use Rattle.task_queue.specs.Tasks.{has as has_input}
 use Rattle.doc_nodes.specs.Imports.{NodeList}
 use Rattle.exec_rules.specs.declared.home.Home.{Home}
 use Rattle.exec_rules.specs.declared.home.Input.{Input}
@@ -72,7 +71,7 @@ pub record IsTaskFor (h : List Event) (e : ℕ) (home : Home) (task : Task) : Ty
   pub exec : task.part.exec ≡ e
   pub same_kind : task.part.kind ≡ first_kind home.input
   pub urgent : task.priority ≡ priority_by (first_kind home.input) false
-  pub waits : (f : ℕ) → has_input task.inputs f
+  pub waits : (f : ℕ) → has task.inputs f
       ≡ (has (sources_of home.input) f && not (is_finished h (evaluation f)))
 
 -- the tasks are those of executions with these homes, which have the next numbers from this on

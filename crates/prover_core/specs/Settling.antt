@@ -1,6 +1,6 @@
 -- What is said of how far a version is (this project's own).
 use Rattle.std.specs.Prelude.{◌≡◌, ℕ, ◌==◌, nat_lt, Bool, true, false, not, ◌&&◌, ◌||◌, is_some, List, length, Some, None}
-use Rattle.import_rounds.specs.Rounds.{has}
+use Rattle.text_words.specs.Members.{has}
 use Rattle.pide_base.specs.declared.part.Part.{Part}
 use Rattle.doc_versions.specs.Live.{version_of}
 use Rattle.task_queue.specs.Ready.{Standings}

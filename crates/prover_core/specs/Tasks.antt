@@ -1,12 +1,11 @@
 -- The tasks of the tip (this project's own).
 use Rattle.std.specs.Prelude.{◌≡◌, ℕ, Bool, true, false, not, ◌&&◌, if◌then◌else◌, List, [], Option, Some, None, ⊤}
-use Rattle.import_rounds.specs.Rounds.{has}
+use Rattle.text_words.specs.Members.{has}
 use Rattle.pide_base.specs.declared.part.Part.{Part}
 use Rattle.pide_base.specs.declared.part.PartKind.{PartKind}
 use Rattle.pide_base.specs.declared.part.PartKind.TheVariants as kind
 use Rattle.task_queue.specs.declared.priority.Priority.TheVariants as priority
 use Rattle.task_queue.specs.declared.task.Standing.{Standing as Task}
-use Rattle.task_queue.specs.Tasks.{has as has_input}
 use Rattle.exec_rules.specs.declared.home.Home.{Home}
 use Rattle.exec_rules.specs.declared.version.Version.{Version}
 use Rattle.language.specs.Lang.{Lang}
@@ -42,7 +41,7 @@ pub record IsTaskOf (stands : Part → Standing) (tip : Version) (homes : List H
     (k : PartKind) (t : Task) : Type 0 where
   pub same_kind : t.kind ≡ k
   pub urgent : t.priority ≡ priority_of tip (part e k)
-  pub waits : (f : ℕ) → has_input t.inputs f
+  pub waits : (f : ℕ) → has t.inputs f
       ≡ (has (waits_for homes (part e k)) f && not (is_done (stands (evaluation f))))
   pub held : t.held ≡ is_held (stands (part e k))
 

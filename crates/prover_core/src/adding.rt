@@ -3,7 +3,8 @@ ghost use Rattle.std.specs.Prelude.{◌≡◌, ◌==◌, ◌+◌, ◌<◌, ◌�
 ghost use Rattle.std.specs.Option.{option_map, option_map_or};
 ghost use Rattle.std.specs.HashMap.{hash_map_len, spare};
 ghost use Rattle.exec_table.specs.Rows.{execution_of};
-ghost use Rattle.task_queue.specs.Tasks.{standing, has};
+ghost use Rattle.text_words.specs.Members.{has};
+ghost use Rattle.task_queue.specs.Tasks.{standing};
 ghost use Rattle.task_queue.specs.Changes.{waiting, nobody_waits};
 ghost use Rattle.task_queue.specs.Ready.{with_standing};
 ghost use Rattle.prover_core.specs.Looked.{looked};

@@ -3,7 +3,7 @@ ghost use Rattle.std.specs.Prelude.{Bool, ◌≡◌, ◌==◌, ◌+◌, ◌<◌,
 ghost use Rattle.std.specs.Option.{option_map, option_map_or};
 ghost use Rattle.std.specs.List.{AllByRecursion};
 ghost use Rattle.std.specs.HashMap.{hash_map_len, spare};
-ghost use Rattle.import_rounds.specs.Rounds.{has};
+ghost use Rattle.text_words.specs.Members.{has};
 ghost use Rattle.exec_table.specs.Rows.{execution_of};
 ghost use Rattle.exec_table.specs.Finish.{after_cancelling};
 ghost use Rattle.task_queue.specs.Tasks.{standing};

@@ -2,7 +2,8 @@
 ghost use Rattle.std.specs.Prelude.{◌≡◌, ◌≢◌, ◌+◌, ◌<◌, ◌≤◌, ℕ, false, length, is_some};
 ghost use Rattle.std.specs.Option.{option_map, option_map_or};
 ghost use Rattle.pide_base.specs.declared.part.PartKind.TheVariants as kinds;
-ghost use Rattle.task_queue.specs.Tasks.{standing, has};
+ghost use Rattle.text_words.specs.Members.{has};
+ghost use Rattle.task_queue.specs.Tasks.{standing};
 ghost use Rattle.task_queue.specs.Changes.{without, IsHeld};
 ghost use Rattle.core_rules.specs.Parts.{same_kind};
 ghost use Rattle.prover_core.specs.Brought.{brought, forks_told};

@@ -1,6 +1,6 @@
 //! Executions that no live version assigns any more.
 ghost use Rattle.std.specs.Prelude.{◌≡◌, ◌==◌, ℕ, None, if◌then◌else◌};
-ghost use Rattle.import_rounds.specs.Rounds.{has};
+ghost use Rattle.text_words.specs.Members.{has};
 ghost use Rattle.prover_core.specs.Looked.{looked};
 
 use crate::table::Table;

@@ -1,6 +1,6 @@
 //! How far versions are.
 ghost use Rattle.std.specs.Prelude.{◌≡◌, ◌<◌, ◌≤◌, ℕ, true, false, not, ◌&&◌, ◌||◌, List, length, slice_index_or, is_some, Some, AllPairs, IfSome, IfNone, IfOk, OnErr};
-ghost use Rattle.import_rounds.specs.Rounds.{has};
+ghost use Rattle.text_words.specs.Members.{has};
 ghost use Rattle.pide_base.specs.Ids.{IsId};
 ghost use Rattle.pide_base.specs.declared.part.Part.{Part};
 ghost use Rattle.task_queue.specs.Tasks.{standing};

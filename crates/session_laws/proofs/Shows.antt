@@ -15,7 +15,7 @@ use Rattle.message_values.specs.declared.refusal.Refusal.{Refusal}
 use Rattle.buffer_rules.specs.Trying.{◌>>=◌}
 use Rattle.reply_writing.specs.declared.told.Told.{Told}
 use Rattle.reply_writing.specs.declared.told.Told.TheVariants as tells
-use Rattle.import_rounds.specs.Rounds.{has}
+use Rattle.text_words.specs.Members.{has}
 use Rattle.exec_rules.specs.declared.row.Row.{Row}
 use Rattle.exec_rules.specs.Assigning.{rows_in}
 use Rattle.exec_rules.specs.Listed.{executions}

@@ -2,7 +2,8 @@
 use Rattle.std.proofs.Common.{◌≡◌, ◌+◌, ℕ, zero, suc, Bool, false, not, cond, List, [], ◌∷◌, ◌++◌, length, map, filter, find, slice_get, nat_lt, Option, Some, None, option_map, refl, sym, ap, ap₂, ◌∙◌, if◌then◌else◌}
 use Rattle.std.specs.List.{cons_option, flat_map, filter_map, position_or_len, range_with_len}
 use Rattle.std.specs.Option.{option_and_then, option_map_or}
-use Rattle.import_rounds.specs.Rounds.{has, in_rounds, is_known}
+use Rattle.text_words.specs.Members.{has}
+use Rattle.import_rounds.specs.Rounds.{in_rounds, is_known}
 use Rattle.import_rounds.specs.Looks.{aims_at}
 use Rattle.doc_nodes.specs.declared.inherited.NodeAliases.{NodeAliases}
 use Rattle.doc_nodes.specs.declared.node.Entry.{Entry}

@@ -1,7 +1,7 @@
 -- What an update keeps of the executions of the version before it (Wenzel, ITP 2014; the rules of
 -- what is kept are this project's own).
 use Rattle.std.specs.Prelude.{◌≡◌, ℕ, ◌<◌, ◌≤◌, true, List, slice_get, length, option_map, is_some, ⊤, Option, Some, None}
-use Rattle.import_rounds.specs.Rounds.{has}
+use Rattle.text_words.specs.Members.{has}
 use Rattle.doc_nodes.specs.declared.node.Node.{Node}
 use Rattle.doc_nodes.specs.Wanted.{wanted_at}
 use Rattle.exec_rules.specs.declared.row.Row.{Row}

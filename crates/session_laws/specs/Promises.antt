@@ -2,7 +2,7 @@
 -- project's own).
 use Rattle.std.specs.Prelude.{◌≡◌, ℕ, ◌≤◌, Bool, true, false, is_some, List, [], ◌∷◌, length, slice_get, ⊤, Some, Result, Ok}
 use Rattle.std.specs.List.{flat_map, list_all}
-use Rattle.import_rounds.specs.Rounds.{has}
+use Rattle.text_words.specs.Members.{has}
 use Rattle.text_edits.specs.declared.edit.Edit.{Edit}
 use Rattle.report_markup.specs.Sorting.{in_order}
 use Rattle.snapshots.specs.Converted.{left_by}

@@ -5,9 +5,9 @@ use Rattle.std.proofs.lemmas.Bool.Decides.{nat_tests}
 use Rattle.std.proofs.lemmas.List.Kept.{AllPairs-from_increasing}
 use Rattle.std.specs.List.{filter, range_with_len}
 use Rattle.std.specs.List.Sorted.{IsStrictlyIncreasing}
-use Rattle.import_rounds.specs.Rounds.{has}
+use Rattle.text_words.specs.Members.{has}
 use Rattle.import_rounds.proofs.KnownRising.{RisesFrom, rises_from_pairs, has_above}
-use Rattle.import_rounds.proofs.KnownHas.{has_itself}
+use Rattle.text_words.proofs.KnownMembers.{has_itself}
 use Rattle.reply_writing.specs.Forms.{IsRising}
 
 pub rising : (a : ℕ) (xs : List ℕ) → RisesFrom a xs → IsRising xs

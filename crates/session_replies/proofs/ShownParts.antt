@@ -3,7 +3,7 @@ use Rattle.std.proofs.Common.{◌≡◌, ℕ, cond, ◌&&◌, List, [], ◌∷�
 use Rattle.std.specs.Prelude.{slice_get, flat_map, is_some}
 use Rattle.std.specs.Option.{option_map_or}
 use Rattle.std.specs.List.{AllByRecursion}
-use Rattle.import_rounds.specs.Rounds.{has}
+use Rattle.text_words.specs.Members.{has}
 use Rattle.text_edits.specs.declared.edit.Edit.{Edit}
 use Rattle.report_markup.specs.declared.report.Report.{Report}
 use Rattle.report_markup.specs.Ranges.{moved}

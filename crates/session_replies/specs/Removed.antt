@@ -1,6 +1,6 @@
 -- What is told of versions that are removed.
 use Rattle.std.specs.Prelude.{◌≡◌, ℕ, List}
-use Rattle.import_rounds.specs.Rounds.{has}
+use Rattle.text_words.specs.Members.{has}
 use Rattle.reply_writing.specs.Forms.{IsRising}
 
 -- the same ids, rising, each once

@@ -4,7 +4,8 @@ use Rattle.std.specs.Prelude.{⊤}
 use Rattle.std.specs.List.{flat_map, position_or_len, range_with_len}
 use Rattle.std.specs.Option.{option_map_or}
 use Rattle.import_rounds.specs.Looks.{aims_at}
-use Rattle.import_rounds.specs.Rounds.{has, in_rounds}
+use Rattle.text_words.specs.Members.{has}
+use Rattle.import_rounds.specs.Rounds.{in_rounds}
 use Rattle.doc_headers.specs.declared.parts.Header.{Header}
 use Rattle.doc_headers.specs.declared.parts.KeywordPair.{KeywordPair}
 use Rattle.doc_nodes.specs.declared.inherited.NodeAliases.{NodeAliases}

@@ -4,8 +4,8 @@ use Rattle.std.specs.Option.{option_map_or}
 use Rattle.std.proofs.lemmas.Bool.{false≢true}
 use Rattle.std.proofs.lemmas.Option.{same_Some, slice_get_within}
 use Rattle.std.proofs.lemmas.List.{length-map}
-use Rattle.import_rounds.specs.Rounds.{has}
-use Rattle.import_rounds.proofs.KnownHas.{cut_at, has_middle}
+use Rattle.text_words.specs.Members.{has}
+use Rattle.text_words.proofs.KnownMembers.{cut_at, has_middle}
 use Rattle.text_edits.specs.Edits.{Applies}
 use Rattle.nj_suggest.specs.Edits.{edit}
 use Rattle.doc_headers.specs.Reading.{header_in}

@@ -7,7 +7,8 @@ use Rattle.task_queue.specs.declared.queue.TaskQueue.TheInside.{Inside}
 use Rattle.task_queue.specs.declared.task.Standing.{Standing}
 use Rattle.task_queue.specs.declared.waiters.Waiters.{Waiters}
 use Rattle.task_queue.specs.Deque.{capacity_of}
-use Rattle.task_queue.specs.Tasks.{standing, has, is_ready}
+use Rattle.text_words.specs.Members.{has}
+use Rattle.task_queue.specs.Tasks.{standing, is_ready}
 use Rattle.task_queue.specs.Waiters.{Waits, HasAll}
 use Rattle.task_queue.specs.Ready.{AreReady, with_standing}
 use Rattle.task_queue.specs.Changes.{taken, nobody_waits}

@@ -7,7 +7,8 @@ use Rattle.pide_base.specs.declared.part.Part.{Part}
 use Rattle.pide_base.specs.declared.part.PartKind.{PartKind}
 use Rattle.task_queue.specs.declared.priority.Priority.TheVariants as priority
 use Rattle.task_queue.specs.declared.task.Standing.{Standing}
-use Rattle.task_queue.specs.Tasks.{has, is_ready}
+use Rattle.text_words.specs.Members.{has}
+use Rattle.task_queue.specs.Tasks.{is_ready}
 use Rattle.task_queue.specs.Ready.{Standings, AreReady, IsPlaceFor, with_standing, priority_of, comes_first}
 use Rattle.task_queue.specs.Changes.{without, kind_if_ready, released}
 use Rattle.task_queue.proofs.KeptAlike.{ready_alike}

@@ -4,7 +4,7 @@ use Rattle.std.specs.Ordering.{nat_cmp}
 use Rattle.std.specs.BTreeMap.{is_at}
 use Rattle.std.specs.List.{list_any}
 use Rattle.std.specs.Set.{remove_key}
-use Rattle.task_queue.specs.Tasks.{has}
+use Rattle.text_words.specs.Members.{has}
 use Rattle.task_queue.specs.Changes.{removed}
 
 -- two numbers compare equal just where they are equal

@@ -5,7 +5,8 @@ use Rattle.std.proofs.lemmas.Bool.{cases_eq}
 use Rattle.task_queue.specs.declared.queue.TaskQueue.TheInside.{Inside}
 use Rattle.task_queue.specs.declared.task.Standing.{Standing}
 use Rattle.task_queue.specs.Deque.{capacity_of}
-use Rattle.task_queue.specs.Tasks.{standing, has}
+use Rattle.text_words.specs.Members.{has}
+use Rattle.task_queue.specs.Tasks.{standing}
 use Rattle.task_queue.specs.Waiters.{Waits, HasAll, room_of}
 use Rattle.task_queue.specs.Ready.{AreReady, with_standing}
 use Rattle.task_queue.specs.Changes.{without}

@@ -5,7 +5,8 @@ use Rattle.pide_base.specs.declared.part.PartKind.{PartKind}
 use Rattle.task_queue.specs.declared.priority.Priority.{Priority}
 use Rattle.task_queue.specs.declared.task.Standing.{Standing}
 use Rattle.task_queue.specs.declared.task.Task.{Task}
-use Rattle.task_queue.specs.Tasks.{Queue, standing, has, is_ready}
+use Rattle.text_words.specs.Members.{has}
+use Rattle.task_queue.specs.Tasks.{Queue, standing, is_ready}
 
 -- how a task stands that was put in
 abbrev pub waiting : Task → Standing

@@ -5,7 +5,8 @@ use Rattle.std.specs.Map.{lookup}
 use Rattle.task_queue.specs.declared.queue.TaskQueue.TheInside.{Inside}
 use Rattle.task_queue.specs.declared.task.Standing.{Standing}
 use Rattle.task_queue.specs.Deque.{capacity_of}
-use Rattle.task_queue.specs.Tasks.{Queue, standing, has}
+use Rattle.text_words.specs.Members.{has}
+use Rattle.task_queue.specs.Tasks.{Queue, standing}
 use Rattle.task_queue.specs.Waiters.{Waits, HasAll, room_of}
 use Rattle.task_queue.specs.Ready.{Standings, AreReady}
 

@@ -1,6 +1,5 @@
 -- The tasks of a queue, by execution (this project's own).
 use Rattle.std.specs.Prelude.{ℕ, ◌==◌, Bool, not, ◌&&◌, List, length, Option}
-use Rattle.std.specs.List.{list_any}
 use Rattle.std.specs.Map.{lookup}
 use Rattle.pide_base.specs.declared.part.Part.{Part}
 use Rattle.task_queue.specs.declared.task.Standing.{Standing}
@@ -16,10 +15,6 @@ pub record Queue : Type 0 where
 -- how the present part of an execution stands: none where the queue has none
 abbrev pub standing : Queue → ℕ → Option Standing
 standing queue e = lookup (λ x. e == x) queue.tasks
-
--- the execution is among these
-abbrev pub has : List ℕ → ℕ → Bool
-has execs e = list_any (λ x. e == x) execs
 
 -- nobody has taken the part, and all that it waited for is done
 abbrev pub is_ready : Standing → Bool

@@ -1,7 +1,7 @@
 //! The executions that a task waits for.
 ghost use Rattle.std.specs.Prelude.{◌≡◌, ◌+◌, ◌==◌, ◌≤◌, ℕ, true, false, [], IfOk, OnOk, if◌then◌else◌, length};
 ghost use Rattle.std.specs.List.{list_any};
-ghost use Rattle.task_queue.specs.Tasks.{has};
+ghost use Rattle.text_words.specs.Members.{has};
 ghost use Rattle.task_queue.specs.Changes.{removed};
 ghost use Rattle.task_queue.specs.Waiters.{Waits, HasAll, room_of};
 

@@ -1,7 +1,8 @@
 //! The queue.
 ghost use Rattle.std.specs.Prelude.{◌≡◌, ◌≢◌, ◌+◌, ◌-◌, ◌<◌, nat_lt, ◌≤◌, ◌==◌, ◌↔◌, ℕ, true, false, [], Some, None, length, take, drop, ◌∷◌, ◌++◌, is_some, IfSome, IfNone, IfOk, IsSome, OnOk, OnErr, IsTrue, if◌then◌else◌, AllPairs};
 ghost use Rattle.std.specs.Option.{option_map, option_copied};
-ghost use Rattle.task_queue.specs.Tasks.{standing, has, is_ready};
+ghost use Rattle.text_words.specs.Members.{has};
+ghost use Rattle.task_queue.specs.Tasks.{standing, is_ready};
 ghost use Rattle.task_queue.specs.Ready.{AreReady, IsNext, IsReadyPart, IsPlaceFor, priority_of, comes_first, with_standing};
 ghost use Rattle.task_queue.specs.Order.{goes_before};
 ghost use Rattle.task_queue.specs.Deque.{capacity_of};

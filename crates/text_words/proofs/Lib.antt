@@ -2,3 +2,4 @@ pub mod KnownIdentifiers
 pub mod KnownFronts
 pub mod KnownPieces
 pub mod KnownLists
+pub mod KnownMembers

@@ -1,7 +1,8 @@
 //! The words that texts of every kind are told with: identifiers, blanks, the longest front with a
-//! form, the text between two places, and pieces that tile a text. A text is a list of numbers
-//! here, which are bytes or scalars. Identifiers and blanks are those of Isabelle's outer syntax in
-//! ASCII, the rest is this project's own. It must not know documents, tokens or the language.
+//! form, the text between two places, and pieces that tile a text; and what lists of numbers have.
+//! A text is such a list here, of bytes or scalars. Identifiers and blanks are those of Isabelle's
+//! outer syntax in ASCII, the rest is this project's own. It must not know documents, tokens or the
+//! language.
 #![tactic(auto)]
 
 mod blank;

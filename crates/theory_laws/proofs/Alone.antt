@@ -5,7 +5,8 @@ use Rattle.std.specs.Prelude.{◌==◌, ◌||◌, not, cond, find, map}
 use Rattle.std.specs.List.{AllByRecursion, list_all}
 use Rattle.std.specs.Cmp.{first_so}
 use Rattle.nj_formula.specs.Statement.{Statement}
-use Rattle.import_rounds.specs.Rounds.{has, is_known, in_rounds}
+use Rattle.text_words.specs.Members.{has}
+use Rattle.import_rounds.specs.Rounds.{is_known, in_rounds}
 use Rattle.import_rounds.specs.Looks.{aims_at}
 use Rattle.doc_nodes.specs.declared.node.Node.{Node}
 use Rattle.doc_nodes.specs.Imports.{NodeList, place_of, aims, ordered, is_bad, order}

@@ -5,8 +5,9 @@ use Rattle.std.proofs.Common.{◌≡◌, ◌↔◌, ◌⊎◌, ℕ, ◌<◌, ◌
 use Rattle.std.specs.Option.{option_map_or}
 use Rattle.std.proofs.lemmas.Bool.{eq-eqb}
 use Rattle.std.proofs.lemmas.Option.{none-some, same_Some}
-use Rattle.import_rounds.specs.Rounds.{has, is_known}
-use Rattle.import_rounds.proofs.KnownHas.{has_middle}
+use Rattle.text_words.specs.Members.{has}
+use Rattle.import_rounds.specs.Rounds.{is_known}
+use Rattle.text_words.proofs.KnownMembers.{has_middle}
 use Rattle.nj_formula.specs.declared.formula.Formula.{Formula}
 use Rattle.shared_map.specs.Pairs.{IsSorted}
 use Rattle.theory_ctx.specs.declared.fact_name.FactName.{FactName}

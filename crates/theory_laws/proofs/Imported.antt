@@ -3,7 +3,8 @@ use Rattle.std.proofs.Common.{◌≡◌, ℕ, ◌==◌, Bool, true, false, List,
 use Rattle.std.specs.Option.{option_and_then}
 use Rattle.std.proofs.lemmas.Bool.{false≢true}
 use Rattle.std.proofs.lemmas.Option.{none-some}
-use Rattle.import_rounds.specs.Rounds.{has, is_known}
+use Rattle.text_words.specs.Members.{has}
+use Rattle.import_rounds.specs.Rounds.{is_known}
 use Rattle.theory_ctx.specs.Facts.{Fact}
 use Rattle.theory_ctx.specs.Merged.{merged}
 use Rattle.doc_nodes.specs.Imports.{NodeList, place_of, is_bad}

@@ -5,8 +5,9 @@ use Rattle.std.specs.List.{AllByRecursion, list_all}
 use Rattle.std.specs.Option.{option_map_or}
 use Rattle.std.proofs.lemmas.Bool.{eq-eqb, eqb-true, or_cases, false≢true}
 use Rattle.std.proofs.lemmas.Option.{none-some, same_Some}
-use Rattle.import_rounds.specs.Rounds.{has, is_known}
-use Rattle.import_rounds.proofs.KnownHas.{has_both, has_left}
+use Rattle.text_words.specs.Members.{has}
+use Rattle.import_rounds.specs.Rounds.{is_known}
+use Rattle.text_words.proofs.KnownMembers.{has_both, has_left}
 use Rattle.nj_formula.specs.declared.formula.Formula.{Formula}
 use Rattle.theory_ctx.specs.declared.fact_name.FactName.{FactName}
 use Rattle.doc_nodes.specs.declared.node.Node.{Node}

@@ -3,7 +3,7 @@ use Rattle.std.proofs.Common.{◌≡◌, inl, inr, ℕ, Bool, true, false, not, 
 use Rattle.std.proofs.lemmas.Bool.{false≢true, false_from_ne_true, not_from_false}
 use Rattle.std.specs.Prelude.{◌&&◌, slice_get, flat_map}
 use Rattle.std.specs.Option.{option_map, option_and_then}
-use Rattle.import_rounds.specs.Rounds.{has}
+use Rattle.text_words.specs.Members.{has}
 use Rattle.doc_nodes.specs.declared.node.Node.{Node}
 use Rattle.exec_rules.specs.declared.row.Row.{Row}
 use Rattle.exec_rules.specs.declared.version.Version.{Version}

@@ -3,7 +3,7 @@ use Rattle.std.proofs.Common.{◌≡◌, ◌⊎◌, inl, inr, ℕ, zero, suc, Bo
 use Rattle.std.proofs.lemmas.Bool.{eqb-true, eq-eqb, or_left, or_right, or_cases}
 use Rattle.std.specs.Prelude.{◌==◌, slice_get, flat_map}
 use Rattle.std.specs.List.{list_any, AllByRecursion}
-use Rattle.import_rounds.specs.Rounds.{has}
+use Rattle.text_words.specs.Members.{has}
 
 -- it stands in the list
 abbrev pub In : {X : Type 0} → X → List X → Type 0

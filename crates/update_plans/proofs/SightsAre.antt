@@ -4,7 +4,7 @@ use Rattle.std.proofs.lemmas.Bool.{eqb-true, false≢true}
 use Rattle.std.specs.Prelude.{◌==◌, slice_get, flat_map}
 use Rattle.std.specs.Option.{option_map_or}
 use Rattle.std.specs.Cmp.Derive.{one_truth}
-use Rattle.import_rounds.specs.Rounds.{has}
+use Rattle.text_words.specs.Members.{has}
 use Rattle.shared_map.specs.Pairs.{IsSorted}
 use Rattle.doc_nodes.specs.declared.node.Entry.{Entry}
 use Rattle.doc_nodes.specs.Names.{in_order}

@@ -6,7 +6,7 @@ use Rattle.pide_base.specs.declared.part.PartKind.TheVariants as kind
 use Rattle.exec_table.specs.Rows.{Row, execution_of}
 use Rattle.exec_table.specs.Progress.{result_of}
 use Rattle.task_queue.specs.declared.task.Task.{Task}
-use Rattle.task_queue.specs.Tasks.{has}
+use Rattle.text_words.specs.Members.{has}
 use Rattle.exec_rules.specs.declared.home.Home.{Home}
 use Rattle.exec_rules.specs.declared.home.Input.{Input}
 use Rattle.exec_rules.specs.declared.home.Input.TheVariants as input

@@ -1,7 +1,7 @@
 -- Two versions beside each other: one, and one that an update made of it (this project's own).
 use Rattle.std.specs.Prelude.{◌≡◌, ℕ, Bool, true, false, List, slice_get, Option, Some}
 use Rattle.std.specs.Option.{option_map, option_map_or, option_and_then}
-use Rattle.import_rounds.specs.Rounds.{has}
+use Rattle.text_words.specs.Members.{has}
 use Rattle.import_rounds.specs.Looks.{marked}
 use Rattle.doc_nodes.specs.Imports.{NodeList, place_of}
 use Rattle.exec_rules.specs.declared.row.Row.{Row}

@@ -1,6 +1,6 @@
 -- Rows beside the rows at their places now (this project's own).
 use Rattle.std.specs.Prelude.{ℕ, not, List, [], ◌∷◌, ◌++◌, filter, drop, slice_get, Option}
-use Rattle.import_rounds.specs.Rounds.{has}
+use Rattle.text_words.specs.Members.{has}
 use Rattle.exec_rules.specs.declared.row.Row.{Row}
 use Rattle.exec_rules.specs.Listed.{executions}
 use Rattle.exec_assign.specs.Told.{told_row}

@@ -1,6 +1,6 @@
 //! Executions that a new version has no more.
 ghost use Rattle.std.specs.Prelude.{◌≡◌, ◌&&◌, ◌++◌, ◌∷◌, [], ℕ, not, if◌then◌else◌, IfOk, OnOk, List, slice_get, Some};
-ghost use Rattle.import_rounds.specs.Rounds.{has};
+ghost use Rattle.text_words.specs.Members.{has};
 ghost use Rattle.doc_nodes.specs.declared.node.Node.{Node};
 ghost use Rattle.exec_rules.specs.Assigning.{rows_in};
 ghost use Rattle.exec_assign.specs.Told.{told_row};

@@ -1,7 +1,7 @@
 //! The version that an update makes, and the steps to it.
 ghost use Rattle.std.specs.Prelude.{◌≡◌, ◌&&◌, ◌+◌, ◌≤◌, ℕ, false, not, length, map, reverse, IfOk};
 ghost use Rattle.std.specs.List.{AllByRecursion};
-ghost use Rattle.import_rounds.specs.Rounds.{has};
+ghost use Rattle.text_words.specs.Members.{has};
 ghost use Rattle.pide_base.specs.Ids.{id_end};
 ghost use Rattle.core_rules.specs.Assigned.{assigns, is_visible};
 ghost use Rattle.update_plans.specs.Beside.{Follows};

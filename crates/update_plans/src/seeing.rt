@@ -1,7 +1,7 @@
 //! Evaluations that may be seen otherwise than before.
 ghost use Rattle.std.specs.Prelude.{◌≡◌, ◌++◌, ◌∷◌, [], ℕ, true, false, if◌then◌else◌, IfOk, OnOk, List, map, flat_map, slice_get, Some};
 ghost use Rattle.std.specs.List.{AllByRecursion};
-ghost use Rattle.import_rounds.specs.Rounds.{has};
+ghost use Rattle.text_words.specs.Members.{has};
 ghost use Rattle.doc_nodes.specs.declared.node.Node.{Node};
 ghost use Rattle.exec_rules.specs.Assigning.{rows_in};
 ghost use Rattle.core_rules.specs.Assigned.{is_visible};

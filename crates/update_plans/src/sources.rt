@@ -1,6 +1,6 @@
 //! What a new execution waits for.
 ghost use Rattle.std.specs.Prelude.{◌≡◌, ◌&&◌, ◌∷◌, [], ℕ, not, IfOk, OnOk, filter_map};
-ghost use Rattle.task_queue.specs.Tasks.{has};
+ghost use Rattle.text_words.specs.Members.{has};
 ghost use Rattle.core_rules.specs.Parts.{made_by, lasts_of, sources_of};
 ghost use Rattle.update_plans.specs.Begun.{is_evaluated, AddsUnfinished};
 

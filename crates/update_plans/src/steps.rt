@@ -1,7 +1,7 @@
 //! All that an update will do.
 ghost use Rattle.std.specs.Prelude.{◌≡◌, ◌&&◌, ◌+◌, ◌<◌, ◌≤◌, ℕ, true, false, not, length, map, reverse, Err, IfOk};
 ghost use Rattle.std.specs.List.{AllByRecursion};
-ghost use Rattle.import_rounds.specs.Rounds.{has};
+ghost use Rattle.text_words.specs.Members.{has};
 ghost use Rattle.pide_base.specs.Ids.{id_end};
 ghost use Rattle.exec_rules.specs.Assigning.{assignment};
 ghost use Rattle.exec_rules.specs.Listed.{listed};

@@ -2,8 +2,8 @@
 use Rattle.std.proofs.Common.{◌≡◌, ℕ, ◌<◌, ◌≤◌, Bool, true, false, cond, not, ◌||◌, List, [], ◌∷◌, ◌++◌, refl, ap, sym, subst, ◌∙◌, arith}
 use Rattle.std.proofs.lemmas.Bool.{false≢true}
 use Rattle.std.proofs.Math.Bool.{or_assoc}
-use Rattle.import_rounds.specs.Rounds.{has}
-use Rattle.import_rounds.proofs.KnownHas.{has_both}
+use Rattle.text_words.specs.Members.{has}
+use Rattle.text_words.proofs.KnownMembers.{has_both}
 use Rattle.doc_versions.specs.declared.versions.Live.{Live}
 use Rattle.exec_rules.specs.declared.version.Version.{Version}
 use Rattle.version_losses.specs.declared.losses.Loss.{Loss}

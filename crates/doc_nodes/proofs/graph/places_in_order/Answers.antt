@@ -1,5 +1,5 @@
 use Rattle.std.proofs.Common.{◌≡◌, true, subst, ◌∙◌, arith}
-use Rattle.import_rounds.specs.Rounds.{has}
+use Rattle.text_words.specs.Members.{has}
 use Rattle.import_rounds.proofs.KnownRounds.{is_order}
 use Rattle.doc_nodes.proofs.graph.places_in_order.Goals as goal
 

@@ -2,10 +2,10 @@
 use Rattle.std.proofs.Common.{rules, ◌≡◌, ◌<◌, ℕ, List, [], length, get_or, All, IsPermutation, None, refl, sym, ap, subst, ◌∙◌, arith}
 use Rattle.std.specs.Prelude.{slice_get}
 use Rattle.std.specs.List.{concat, filter_map}
-use Rattle.import_rounds.specs.Rounds.{has}
+use Rattle.text_words.specs.Members.{has}
 use Rattle.std.proofs.lemmas.List.{get_or_default}
 use Rattle.std.proofs.lemmas.List.Sorted.{IsPermutation-refl}
-use Rattle.import_rounds.proofs.KnownHas.{has_at}
+use Rattle.text_words.proofs.KnownMembers.{has_at}
 use Rattle.doc_nodes.specs.Imports.{order}
 use Rattle.import_batches.specs.Batches.{AreBatches}
 use Rattle.batch_check.specs.Cutting.{cut_all}

@@ -1,9 +1,10 @@
 -- What fits is the next round; what is left at the end are the nodes that are not ordered.
 use Rattle.std.proofs.Common.{◌≡◌, ◌||◌, true, false, [], ◌∷◌, ◌++◌, refl, sym, ap, subst, ◌∙◌, append_assoc, append-nil, rules, arith}
 use Rattle.std.proofs.lemmas.List.{length-map}
-use Rattle.import_rounds.specs.Rounds.{has, round}
+use Rattle.text_words.specs.Members.{has}
+use Rattle.import_rounds.specs.Rounds.{round}
 use Rattle.import_rounds.specs.Looks.{AreMarks}
-use Rattle.import_rounds.proofs.KnownHas.{has_both}
+use Rattle.text_words.proofs.KnownMembers.{has_both}
 use Rattle.doc_nodes.specs.Imports.{aims, aims_of}
 use Rattle.import_batches.specs.Batches.{AreRounds, begins_by}
 use Rattle.import_batches.proofs.Rounds.{within}

@@ -1,6 +1,6 @@
 -- One place more is marked.
 use Rattle.std.proofs.Common.{◌≡◌, ◌<◌, length, vec_len, arith, rules}
-use Rattle.import_rounds.proofs.KnownHas.{has_at}
+use Rattle.text_words.proofs.KnownMembers.{has_at}
 use Rattle.import_batches.proofs.Marks.{marked_more}
 use Rattle.import_batches.proofs.fitting.with_marks.Goals as goal
 

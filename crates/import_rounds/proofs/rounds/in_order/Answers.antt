@@ -2,7 +2,7 @@ use Rattle.std.proofs.Common.{eqb, sym, ◌∙◌}
 use Rattle.std.proofs.lemmas.List.Filters.{dedup_is}
 use Rattle.std.proofs.lemmas.List.Sorted.{list_any-IsPermutation}
 use Rattle.std.proofs.lemmas.Map.Keys.{IsStrictlyIncreasing-dedup}
-use Rattle.import_rounds.proofs.KnownHas.{has_dedup}
+use Rattle.text_words.proofs.KnownMembers.{has_dedup}
 use Rattle.import_rounds.proofs.rounds.in_order.Goals as goal
 
 pub returns-clause-same : goal.returns-clause-same

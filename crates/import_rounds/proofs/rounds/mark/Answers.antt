@@ -1,5 +1,5 @@
 use Rattle.std.proofs.Common.{◌<◌, get_or, length, arith}
-use Rattle.import_rounds.proofs.KnownHas.{has_at}
+use Rattle.text_words.proofs.KnownMembers.{has_at}
 use Rattle.import_rounds.proofs.Steps.{marked_more}
 use Rattle.import_rounds.proofs.rounds.mark.Goals as goal
 

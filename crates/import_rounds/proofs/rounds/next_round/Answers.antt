@@ -2,9 +2,9 @@ use Rattle.std.proofs.Common.{◌<◌, ◌≡◌, get_or, length, true, [], sym,
 use Rattle.std.proofs.lemmas.Bool.{cases_lt}
 use Rattle.std.proofs.lemmas.List.{get_or_default}
 use Rattle.import_rounds.specs.Looks.{IsDue}
-use Rattle.import_rounds.specs.Rounds.{has}
+use Rattle.text_words.specs.Members.{has}
 use Rattle.import_rounds.specs.Importers.{list_at}
-use Rattle.import_rounds.proofs.KnownHas.{has_at, has_contained}
+use Rattle.text_words.proofs.KnownMembers.{has_at, has_contained}
 use Rattle.import_rounds.proofs.Steps.{sound_all}
 use Rattle.import_rounds.proofs.RoundLemmas.{round_is, due_imports}
 use Rattle.import_rounds.proofs.rounds.next_round.Goals as goal

@@ -1,5 +1,5 @@
 use Rattle.std.proofs.Common.{◌≡◌, ℕ, ◌<◌, true, slice_index_or}
-use Rattle.import_rounds.specs.Rounds.{has}
+use Rattle.text_words.specs.Members.{has}
 use Rattle.import_rounds.specs.Looks.{Scanned, IsDue}
 use Rattle.import_rounds.specs.Importers.{list_at}
 use Rattle.import_rounds.proofs.rounds.next_round.Given as goal

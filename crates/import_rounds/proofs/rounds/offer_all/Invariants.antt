@@ -1,5 +1,5 @@
 use Rattle.std.proofs.Common.{◌≡◌, ℕ, ◌<◌, true, false, slice_index_or}
-use Rattle.import_rounds.specs.Rounds.{has}
+use Rattle.text_words.specs.Members.{has}
 use Rattle.import_rounds.specs.Looks.{Scanned, IsDue}
 use Rattle.import_rounds.proofs.rounds.offer_all.Given as goal
 

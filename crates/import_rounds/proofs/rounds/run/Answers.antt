@@ -1,5 +1,6 @@
 use Rattle.std.proofs.Common.{◌≡◌, ◌+◌, ◌-◌, ◌||◌, ◌++◌, suc, true, length, sym, ap, ◌∙◌, subst, arith}
-use Rattle.import_rounds.specs.Rounds.{has, round, after_rounds}
+use Rattle.text_words.specs.Members.{has}
+use Rattle.import_rounds.specs.Rounds.{round, after_rounds}
 use Rattle.import_rounds.specs.Looks.{marked, AreMarks}
 use Rattle.import_rounds.proofs.RoundLemmas.{round_within, after_step, marks_more}
 use Rattle.import_rounds.proofs.rounds.run.Goals as goal

@@ -1,7 +1,7 @@
 use Rattle.std.proofs.Common.{◌≡◌, ◌∷◌, ℕ, List, None, cond, false, ap, sym, subst, ◌∙◌, refl}
 use Rattle.std.specs.Prelude.{◌==◌}
 use Rattle.std.specs.List.{list_any}
-use Rattle.import_rounds.specs.Rounds.{has}
+use Rattle.text_words.specs.Members.{has}
 use Rattle.doc_versions.specs.Removal.{left}
 use Rattle.exec_table.specs.Rows.{execution_of}
 use Rattle.core_rules.specs.Standing.{has_ended}

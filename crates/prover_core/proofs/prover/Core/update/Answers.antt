@@ -6,7 +6,7 @@ use Rattle.std.specs.HashMap.{hash_map_len, spare}
 use Rattle.task_queue.specs.declared.task.Task.{Task}
 use Rattle.std.specs.Option.{option_map}
 use Rattle.std.specs.List.{AllByRecursion}
-use Rattle.import_rounds.specs.Rounds.{has}
+use Rattle.text_words.specs.Members.{has}
 use Rattle.task_queue.specs.Tasks.{standing}
 use Rattle.doc_versions.specs.Live.{version_of}
 use Rattle.core_rules.specs.declared.event.Event.{Event}

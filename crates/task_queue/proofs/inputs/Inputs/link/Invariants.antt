@@ -1,5 +1,5 @@
 use Rattle.std.proofs.Common.{◌≡◌, ◌⊎◌, ◌+◌, ◌≤◌, ℕ, true, length}
-use Rattle.task_queue.specs.Tasks.{has}
+use Rattle.text_words.specs.Members.{has}
 use Rattle.task_queue.specs.Waiters.{Waits, HasAll, room_of}
 use Rattle.task_queue.proofs.inputs.Inputs.link.Given as goal
 

@@ -1,7 +1,8 @@
 use Rattle.std.proofs.Common.{arith, ◌≡◌, ◌∙◌, ℕ, Some, None, false, option_map, ap, sym, subst, refl}
 use Rattle.std.specs.Option.{option_map_or}
 use Rattle.task_queue.specs.declared.queue.TaskQueue.TheInside.{Inside}
-use Rattle.task_queue.specs.Tasks.{Queue, standing, has}
+use Rattle.text_words.specs.Members.{has}
+use Rattle.task_queue.specs.Tasks.{Queue, standing}
 use Rattle.task_queue.specs.Changes.{without, IsHeld}
 use Rattle.task_queue.specs.Kept.{seen, looked}
 use Rattle.task_queue.proofs.Changed.{here}

@@ -2,7 +2,8 @@ use Rattle.std.proofs.Common.{rules, ◌≡◌, ℕ, List, map, is_some, ap, sym
 use Rattle.std.specs.HashMap.{keys}
 use Rattle.std.specs.Map.Iter.{deref}
 use Rattle.std.proofs.lemmas.Map.Iter.{iter_end}
-use Rattle.task_queue.specs.Tasks.{Queue, standing, has}
+use Rattle.text_words.specs.Members.{has}
+use Rattle.task_queue.specs.Tasks.{Queue, standing}
 use Rattle.task_queue.proofs.queue.TaskQueue.executions.Goals as goal
 
 pub returns : goal.returns

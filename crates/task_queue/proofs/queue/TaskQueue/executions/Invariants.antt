@@ -1,7 +1,7 @@
 use Rattle.std.proofs.Common.{◌≡◌, ℕ, map}
 use Rattle.std.specs.Map.Iter.{deref}
 use Rattle.pide_base.specs.Ids.{IsId}
-use Rattle.task_queue.specs.Tasks.{has}
+use Rattle.text_words.specs.Members.{has}
 use Rattle.task_queue.proofs.queue.TaskQueue.executions.Given as goal
 
 abbrev pub invariant-loop-number : goal.invariant-loop-number

@@ -7,7 +7,8 @@ use Rattle.std.proofs.lemmas.List.Elements.{All-map}
 use Rattle.std.proofs.lemmas.Map.Entries.{All-lookup}
 use Rattle.std.proofs.lemmas.Map.Iter.{hash_map_turn, iter_end}
 use Rattle.task_queue.specs.declared.task.Standing.{Standing}
-use Rattle.task_queue.specs.Tasks.{Queue, standing, has}
+use Rattle.text_words.specs.Members.{has}
+use Rattle.task_queue.specs.Tasks.{Queue, standing}
 use Rattle.task_queue.proofs.queue.TaskQueue.is_awaited.Goals as goal
 
 pub returns-then-has : goal.returns-then-has

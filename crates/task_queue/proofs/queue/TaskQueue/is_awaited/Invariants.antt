@@ -1,6 +1,6 @@
 use Rattle.std.proofs.Common.{◌≡◌, false}
 use Rattle.std.specs.List.{All}
-use Rattle.task_queue.specs.Tasks.{has}
+use Rattle.text_words.specs.Members.{has}
 use Rattle.task_queue.proofs.queue.TaskQueue.is_awaited.Given as goal
 
 abbrev pub invariant-loop-standing : goal.invariant-loop-standing

@@ -1,6 +1,6 @@
 use Rattle.std.proofs.Common.{rules, ◌≡◌, true, ap, sym, ◌∙◌}
 use Rattle.std.specs.Prelude.{◌==◌}
-use Rattle.import_rounds.specs.Rounds.{has}
+use Rattle.text_words.specs.Members.{has}
 use Rattle.version_losses.proofs.LostBehind.{lost_behind, behind_first, behind_none, behind_is, told_so}
 use Rattle.version_losses.proofs.losses.Losses.lost_since.Goals as goal
 
