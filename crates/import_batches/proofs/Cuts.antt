@@ -7,12 +7,9 @@ use Rattle.text_words.specs.Members.{has}
 use Rattle.import_rounds.specs.Rounds.{is_known}
 use Rattle.import_rounds.specs.Looks.{met_by, AreMarks}
 use Rattle.text_words.proofs.KnownMembers.{has_at}
+use Rattle.import_rounds.proofs.KnownSteps.{met_is_known}
 
--- marked imports are ordered ones
-met_is_known : (marks : List Bool) (ordered : List ℕ) → AreMarks marks ordered → (aim : Option ℕ) → met_by marks aim ≡ is_known ordered aim
-met_is_known marks ordered are None = refl
-met_is_known marks ordered are (Some p) = are p
-
+-- so lists of marked imports are lists of ordered ones
 pub all_met : (marks : List Bool) (ordered : List ℕ) → AreMarks marks ordered → (aims : List (Option ℕ))
     → list_all (met_by marks) aims ≡ list_all (is_known ordered) aims
 all_met marks ordered are [] = refl

@@ -7,10 +7,11 @@ use Rattle.text_words.specs.Members.{has}
 use Rattle.import_rounds.specs.Rounds.{is_known, round, after_rounds, in_rounds}
 use Rattle.import_rounds.specs.Looks.{aims_at}
 use Rattle.import_rounds.proofs.KnownRounds.{cut}
+use Rattle.import_rounds.proofs.KnownOrdered.{stuck}
 use Rattle.import_rounds.proofs.KnownFiltered.{has_passes}
 use Rattle.doc_nodes.specs.Imports.{NodeList, aims, is_ordered, order, others}
 use Rattle.import_batches.specs.Batches.{AreBatches, AreRounds}
-use Rattle.import_batches.proofs.Rounds.{fit, no_more, stuck}
+use Rattle.import_batches.proofs.Rounds.{fit, no_more}
 
 module _ (rows : List (List (Option ℕ))) where
   joined_from : (rounds : List (List ℕ)) (n : ℕ) (ordered : List ℕ) → AreRounds rows ordered rounds

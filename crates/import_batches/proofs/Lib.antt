@@ -1,5 +1,4 @@
 mod Rounds
 mod Cuts
 mod Joined
-mod Marks
 mod Steps

@@ -6,26 +6,16 @@ use Rattle.std.proofs.lemmas.List.{append_cancel_left}
 use Rattle.text_words.specs.Members.{has}
 use Rattle.import_rounds.specs.Rounds.{is_known, is_next, round, after_rounds, in_rounds}
 use Rattle.import_rounds.specs.Looks.{aims_at}
-use Rattle.import_rounds.proofs.KnownRounds.{is_order, left_of, passes}
-use Rattle.import_rounds.proofs.KnownOrdered.{all_ordered}
+use Rattle.import_rounds.proofs.KnownRounds.{is_order, left_of, passes, right_of}
+use Rattle.import_rounds.proofs.KnownOrdered.{all_ordered, stuck}
 use Rattle.text_words.proofs.KnownMembers.{has_both, has_itself, has_middle}
 use Rattle.import_rounds.proofs.KnownFiltered.{filtered_has, filtered_within}
-
-second_of : (a b : Bool) → (not a && b) ≡ true → b ≡ true
-second_of true b h = absurd (false≢true h)
-second_of false b h = h
 
 -- a list isn't longer than itself
 no_longer : (xs ys : List ℕ) (p : ℕ) → xs ≡ xs ++ p ∷ ys → ⊥
 no_longer xs ys p e = let l = ap length e in let m = length-append xs (p ∷ ys) in omega arith
 
 module _ (rows : List (List (Option ℕ))) where
-  pub stuck : (n : ℕ) (ordered : List ℕ) → round rows ordered ≡ [] → after_rounds rows n ordered ≡ ordered
-  stuck zero ordered none = refl
-  stuck (suc n) ordered none =
-      let same : ordered ++ round rows ordered ≡ ordered = ap (λ xs. ordered ++ xs) none ∙ append-nil ordered in
-      ap (after_rounds rows n) same ∙ stuck n ordered none
-
   begins_with : (n : ℕ) (ordered : List ℕ) → (more : List ℕ) × (after_rounds rows n ordered ≡ ordered ++ more)
   begins_with zero ordered = ([], sym (append-nil ordered))
   begins_with (suc n) ordered =
@@ -52,7 +42,7 @@ module _ (rows : List (List (Option ℕ))) where
     where
       by_round : (n : ℕ) (now : List ℕ) → round rows front ≡ now → after_rounds rows (suc n) front ≡ in_rounds rows
           → (later : List ℕ) × IsNext front (p ∷ left) later
-      by_round n [] e after = absurd (no_longer front left p (sym (stuck (suc n) front e) ∙ after ∙ sym s.whole))
+      by_round n [] e after = absurd (no_longer front left p (sym (stuck rows (suc n) front e) ∙ after ∙ sym s.whole))
       by_round n (y ∷ ys) e after =
           let r = begins_with n (front ++ round rows front) in
           let all = s.whole ∙ sym after ∙ r.1 ∙ append_assoc front (round rows front) r.0 in
@@ -71,7 +61,7 @@ module _ (rows : List (List (Option ℕ))) where
 
   -- all imports of a round's nodes are ordered
   pub fit : (front : List ℕ) (q : ℕ) → has (round rows front) q ≡ true → list_all (is_known front) (aims_at rows q) ≡ true
-  fit front q h = second_of (has front q) (list_all (is_known front) (aims_at rows q)) (passes rows front q h)
+  fit front q h = right_of (has front q) (list_all (is_known front) (aims_at rows q)) (passes rows front q h)
 
   -- those of another node, neither ordered nor of the round, are not
   pub unfit : (front : List ℕ) (q : ℕ) → q < length rows → has (front ++ round rows front) q ≡ false

@@ -20,7 +20,7 @@ module _ (rows : List (List (Option ℕ))) where
   places = range_with_len 0 (length rows)
 
   -- where a round is empty, all later ones are
-  stuck : (n : ℕ) (ordered : List ℕ) → round rows ordered ≡ [] → after_rounds rows n ordered ≡ ordered
+  pub stuck : (n : ℕ) (ordered : List ℕ) → round rows ordered ≡ [] → after_rounds rows n ordered ≡ ordered
   stuck zero ordered none = refl
   stuck (suc n) ordered none =
       let same : ordered ++ round rows ordered ≡ ordered = ap (λ xs. ordered ++ xs) none ∙ append-nil ordered in

@@ -46,7 +46,7 @@ pub left_of : (a b : Bool) → (not a && b) ≡ true → a ≡ false
 left_of true b h = absurd (false≢true h)
 left_of false b h = refl
 
-right_of : (a b : Bool) → (not a && b) ≡ true → b ≡ true
+pub right_of : (a b : Bool) → (not a && b) ≡ true → b ≡ true
 right_of true b h = absurd (false≢true h)
 right_of false b h = h
 

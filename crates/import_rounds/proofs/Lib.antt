@@ -1,7 +1,7 @@
 mod Counts
 pub mod KnownRising
 pub mod KnownFiltered
-mod Steps
+pub mod KnownSteps
 mod RoundLemmas
 pub mod KnownRounds
 pub mod KnownOrdered

@@ -8,6 +8,7 @@ use Rattle.text_words.specs.Members.{has}
 use Rattle.import_rounds.specs.Rounds.{is_known, is_next, round, after_rounds}
 use Rattle.import_rounds.specs.Looks.{marked, met_by, aims_at, IsDue, AreMarks}
 use Rattle.text_words.proofs.KnownMembers.{has_both}
+use Rattle.import_rounds.proofs.KnownSteps.{met_is_known}
 use Rattle.import_rounds.proofs.KnownRising.{exactly}
 use Rattle.import_rounds.proofs.KnownFiltered.{has_filter, has_filter_within}
 
@@ -38,10 +39,6 @@ one_fails f (x ∷ xs) d all = go (f x) refl all (one_fails f xs d)
         → (q : ℕ) × (q < length (x ∷ xs)) × (f (get_or (x ∷ xs) q d) ≡ false)
     go true e h rest = let r = rest h in (suc r.0, omega (arith, r.1), r.2)
     go false e h rest = (0, omega arith, e)
-
-met_is_known : (marks : List Bool) (ordered : List ℕ) → AreMarks marks ordered → (aim : Option ℕ) → met_by marks aim ≡ is_known ordered aim
-met_is_known marks ordered are None = refl
-met_is_known marks ordered are (Some p) = are p
 
 module _ (rows : List (List (Option ℕ))) (marks : List Bool) (ordered : List ℕ) (are : AreMarks marks ordered) where
   due_is_next : (p : ℕ) → IsDue rows marks p → is_next rows ordered p ≡ true

@@ -1,7 +1,7 @@
 -- One place more is marked.
 use Rattle.std.proofs.Common.{◌≡◌, ◌<◌, length, vec_len, arith, rules}
 use Rattle.text_words.proofs.KnownMembers.{has_at}
-use Rattle.import_batches.proofs.Marks.{marked_more}
+use Rattle.import_rounds.proofs.KnownSteps.{marked_more}
 use Rattle.import_batches.proofs.fitting.with_marks.Goals as goal
 
 pub index_mut-requires : goal.index_mut-requires

@@ -1,6 +1,6 @@
 use Rattle.std.proofs.Common.{sym, ◌∙◌, [], arith}
 use Rattle.import_rounds.specs.Looks.{IsDue}
-use Rattle.import_rounds.proofs.Steps.{added_next, sound_all}
+use Rattle.import_rounds.proofs.KnownSteps.{added_next, sound_all}
 use Rattle.import_rounds.proofs.RoundLemmas.{round_is}
 use Rattle.import_rounds.proofs.rounds.first_round.Goals as goal
 

@@ -1,6 +1,6 @@
 use Rattle.std.proofs.Common.{◌<◌, get_or, length, arith}
 use Rattle.text_words.proofs.KnownMembers.{has_at}
-use Rattle.import_rounds.proofs.Steps.{marked_more}
+use Rattle.import_rounds.proofs.KnownSteps.{marked_more}
 use Rattle.import_rounds.proofs.rounds.mark.Goals as goal
 
 pub bounds-marks-place : goal.bounds-marks-place

@@ -5,7 +5,7 @@ use Rattle.import_rounds.specs.Looks.{IsDue}
 use Rattle.text_words.specs.Members.{has}
 use Rattle.import_rounds.specs.Importers.{list_at}
 use Rattle.text_words.proofs.KnownMembers.{has_at, has_contained}
-use Rattle.import_rounds.proofs.Steps.{sound_all}
+use Rattle.import_rounds.proofs.KnownSteps.{sound_all}
 use Rattle.import_rounds.proofs.RoundLemmas.{round_is, due_imports}
 use Rattle.import_rounds.proofs.rounds.next_round.Goals as goal
 

@@ -1,7 +1,7 @@
 use Rattle.std.proofs.Common.{◌<◌, length, arith}
 use Rattle.import_rounds.specs.Looks.{IsDue}
 use Rattle.text_words.proofs.KnownMembers.{has_at}
-use Rattle.import_rounds.proofs.Steps.{added_more, added_all, sound_more}
+use Rattle.import_rounds.proofs.KnownSteps.{added_more, added_all, sound_more}
 use Rattle.import_rounds.proofs.rounds.offer_all.Goals as goal
 
 pub offer-requires-clause-node : goal.offer-requires-clause-node

@@ -1,12 +1,13 @@
 -- Steps of the loops over places.
-use Rattle.std.proofs.Common.{◌≡◌, ℕ, ◌+◌, ◌<◌, eqb, Bool, true, false, ◌||◌, List, length, get_or, set, take, refl, sym, ap, subst, ◌∙◌, inl, inr, arith, get_or-set_same, get_or-set_other}
+use Rattle.std.proofs.Common.{◌≡◌, ℕ, ◌+◌, ◌<◌, eqb, Bool, true, false, ◌||◌, List, Option, Some, None, length, get_or, set, take, refl, sym, ap, subst, ◌∙◌, inl, inr, arith, get_or-set_same, get_or-set_other}
 use Rattle.std.proofs.lemmas.Bool.{cases_lt}
 use Rattle.std.proofs.lemmas.Bool.Decides.{nat_tests}
 use Rattle.std.proofs.lemmas.List.{get_or_default}
 use Rattle.std.proofs.lemmas.List.Folds.{list_any_more}
 use Rattle.std.proofs.Math.Bool.{or_assoc, or-true, or-false}
 use Rattle.text_words.specs.Members.{has}
-use Rattle.import_rounds.specs.Looks.{marked}
+use Rattle.import_rounds.specs.Rounds.{is_known}
+use Rattle.import_rounds.specs.Looks.{marked, met_by, AreMarks}
 use Rattle.text_words.proofs.KnownMembers.{has_contained}
 
 marked_set : (m : List Bool) (q p : ℕ) → q < length m → marked (set m q true) p ≡ (marked m p || eqb p q)
@@ -74,3 +75,8 @@ sound_all Q old new before now p h = go (has old p) refl
     go : (b : Bool) → has old p ≡ b → Q p
     go true e = before p e
     go false e = now p h e
+
+-- marked imports are ordered ones
+pub met_is_known : (marks : List Bool) (ordered : List ℕ) → AreMarks marks ordered → (aim : Option ℕ) → met_by marks aim ≡ is_known ordered aim
+met_is_known marks ordered are None = refl
+met_is_known marks ordered are (Some p) = are p
