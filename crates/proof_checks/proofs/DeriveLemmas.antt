@@ -21,10 +21,11 @@ use Rattle.proof_checks.specs.Fits.{FitsOne, Fits, fresh_one, fresh_two}
 use Rattle.proof_checks.specs.Scopes.{inside, remaining}
 use Rattle.proof_checks.specs.Statements.{is_free_among}
 use Rattle.proof_checks.proofs.ProvingLemmas.{fits_of}
-use Rattle.proof_checks.proofs.StandLemmas.{parted, fresh_found, one_found, two_found, cited_found}
+use Rattle.proof_checks.proofs.KnownFound.{parted, fresh_found}
+use Rattle.proof_checks.proofs.StandLemmas.{one_found, two_found, cited_found}
 use Rattle.proof_checks.proofs.KnownStatements.{same_is}
 use Rattle.proof_checks.proofs.NjLemmas.{one_nj, two_nj, three_nj}
-use Rattle.proof_checks.proofs.SameAnswers.{same_found}
+use Rattle.proof_checks.proofs.KnownFound.{same_found}
 
 -- no name is free where the rule asks for a fresh one
 one_fresh : (rule : Unary) (c : Statement) (s t : List Statement) → by_one rule c s ≡ Ok t → (x : List ℕ) → fresh_one rule ≡ Some x → is_free_among x (c ∷ s) ≡ false

@@ -23,7 +23,7 @@ use Rattle.proof_checks.specs.Fits.{Fits, FitsOne, FitsTwo, FitsThree}
 use Rattle.proof_checks.specs.Rows.{Planned, misfit, conj_i, disj_i1, disj_i2, imp_i, not_i, all_i, ex_i, not_e, all_e, ex_e, step_of}
 use Rattle.proof_checks.specs.Statements.{is_same}
 use Rattle.proof_checks.proofs.KnownStatements.{same_is}
-use Rattle.proof_checks.proofs.SameAnswers.{same_step}
+use Rattle.proof_checks.proofs.KnownFound.{same_step}
 
 -- what a formula of this outermost layer says
 abbrev says : Formula-F Formula → Statement

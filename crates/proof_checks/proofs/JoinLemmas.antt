@@ -11,7 +11,7 @@ use Rattle.proof_checks.specs.Answers.{Gives, Asked, NotStopped}
 use Rattle.proof_checks.specs.Checks.{Found, and_then, discharged}
 use Rattle.proof_checks.specs.Joined.{HandsOver}
 use Rattle.proof_checks.specs.Scopes.{remaining}
-use Rattle.proof_checks.proofs.ProvingLemmas.{then_ok, then_err}
+use Rattle.proof_checks.proofs.KnownFound.{then_ok, then_err}
 
 module _ (own : Option Local) (found : Found) (next : List Statement → Found) (c d : Statement) where
   halted : (h : Halt) → Gives (Err h) found c → Gives (Err h) (and_then (discharged own found) next) d

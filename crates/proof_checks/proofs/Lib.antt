@@ -1,4 +1,4 @@
-mod SameAnswers
+pub mod KnownFound
 pub mod KnownStatements
 mod SetLemmas
 mod SettleLemmas

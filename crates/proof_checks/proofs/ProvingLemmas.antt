@@ -1,5 +1,5 @@
 -- What a term comes to, as its parts are proved.
-use Rattle.std.proofs.Common.{◌≡◌, ◌-◌, ℕ, zero, suc, List, Result, Ok, Err, ◌∙◌, ap, subst, arith}
+use Rattle.std.proofs.Common.{◌≡◌, ◌-◌, ℕ, zero, suc, List, Result, Ok, Err, ◌∙◌, subst, arith}
 use Rattle.nj_formula.specs.declared.formula.Formula.{Formula}
 use Rattle.nj_formula.specs.Meaning.{meaning}
 use Rattle.nj_formula.specs.Statement.{Statement}
@@ -20,13 +20,7 @@ use Rattle.proof_checks.specs.Fits.{Fits, IsWithin}
 use Rattle.proof_checks.specs.Rows.{Planned}
 use Rattle.proof_checks.specs.Scopes.{inside, remaining}
 use Rattle.proof_checks.proofs.FitLemmas.{step_fits}
-use Rattle.proof_checks.proofs.SameAnswers.{same_step}
-
-pub then_ok : {A B : Type 0} {m : Result A TermFault} {a : A} (next : A → Result B TermFault) → m ≡ Ok a → and_then m next ≡ next a
-then_ok next e = ap (λ x. and_then x next) e
-
-pub then_err : {A B : Type 0} {m : Result A TermFault} {f : TermFault} (next : A → Result B TermFault) → m ≡ Err f → and_then m next ≡ Err f
-then_err next e = ap (λ x. and_then x next) e
+use Rattle.proof_checks.proofs.KnownFound.{same_step, then_ok, then_err}
 
 -- where a step is taken, its parts are checked in one rule less
 pub checked_is : (left : ℕ) (t : Term) (goal : Formula) (scope : Scoped) (step : Step) → step_within left (out-Term t) goal ≡ Ok step → IsWithin step left

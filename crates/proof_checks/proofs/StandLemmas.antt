@@ -23,21 +23,9 @@ use Rattle.proof_checks.specs.Statements.{is_same, is_free_among}
 use Rattle.proof_state.proofs.KnownSets.{in_either}
 use Rattle.proof_checks.proofs.KnownStatements.{lists_without}
 use Rattle.proof_checks.proofs.LookLemmas.{looked_stands}
-use Rattle.proof_checks.proofs.SameAnswers.{same_found}
+use Rattle.proof_checks.proofs.KnownFound.{same_found, parted, fresh_found}
 
--- what was found before what follows
-pub parted : {A B : Type 0} (m : Result A TermFault) (next : A → Result B TermFault) (b : B) → and_then m next ≡ Ok b → (a : A) × (m ≡ Ok a) × (next a ≡ Ok b)
-parted (Err f) next b e = cc
-parted (Ok a) next b e = (a, refl, e)
-
--- a proof that is found assumes what it is told to, where no name is free that must not be
-pub fresh_found : (x : List ℕ) (others s t : List Statement) → if_fresh x others s ≡ Ok t → (is_free_among x others ≡ false) × (s ≡ t)
-fresh_found x others s t e = by (is_free_among x others) refl
-  where
-    by : (b : Bool) → is_free_among x others ≡ b → (is_free_among x others ≡ false) × (s ≡ t)
-    by true is = let wrong : ◌≡◌ {A = Found} (Err (NotFresh x)) (Ok t) = sym (ap (λ b. cond b (Err (NotFresh x)) (Ok s)) is) ∙ e in cc
-    by false is = (is, same_found (sym (ap (λ b. cond b (Err (NotFresh x)) (Ok s)) is) ∙ e))
-
+-- a rule that is found assumes what its parts do
 pub one_found : (rule : Unary) (c : Statement) (s t : List Statement) → by_one rule c s ≡ Ok t → s ≡ t
 unfolding by_one
 one_found (AllI x) c s t e = (fresh_found x (c ∷ s) s t e).1

@@ -30,7 +30,8 @@ use Rattle.proof_laws.proofs.Forms.{conj_i_row, conj_e1_row, conj_e2_row, disj_i
 use Rattle.proof_laws.proofs.Forms.{disj_i2_row, disj_e_row, imp_i_row, imp_e_row, not_i_row}
 use Rattle.proof_laws.proofs.Forms.{not_e_row, false_e_row, all_i_row, all_e_row, ex_i_row}
 use Rattle.proof_laws.proofs.Forms.{ex_e_row}
-use Rattle.proof_laws.proofs.Steps.{then_ok, found_fresh, one_ok, two_ok, three_ok}
+use Rattle.proof_checks.proofs.KnownFound.{then_ok}
+use Rattle.proof_laws.proofs.Steps.{found_fresh, one_ok, two_ok, three_ok}
 
 -- a rule is checked by its parts, in which one fewer may be nested
 ruled : (n : ℕ) (t : Term) (goal : Formula) (scope : Scoped) (step : Step)

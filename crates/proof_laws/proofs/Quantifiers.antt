@@ -25,7 +25,8 @@ use Rattle.proof_checks.specs.Rows as Rows
 use Rattle.proof_checks.specs.Statements.{is_same, without}
 use Rattle.proof_checks.proofs.KnownStatements.{same_is, fresh_among}
 use Rattle.proof_laws.specs.Proofs.{TermProves, assuming, all_i, all_e, ex_i, ex_e}
-use Rattle.proof_laws.proofs.Steps.{same_found, chosen, fresh_found, one_back, two_back}
+use Rattle.proof_checks.proofs.KnownFound.{same_found, fresh_found}
+use Rattle.proof_laws.proofs.Steps.{chosen, one_back, two_back}
 use Rattle.proof_laws.proofs.Rules.{Sound, after, so}
 
 module _ (n : ℕ) (scope : Scoped) (sound : Sound n) where

@@ -15,7 +15,8 @@ use Rattle.proof_checks.specs.Parts.{part, under}
 use Rattle.proof_checks.specs.Rows as Rows
 use Rattle.proof_laws.specs.Proofs.{TermProves, assuming, conj_i, conj_e1, conj_e2, disj_i1}
 use Rattle.proof_laws.specs.Proofs.{disj_i2, disj_e, imp_i, imp_e, not_i, not_e, false_e}
-use Rattle.proof_laws.proofs.Steps.{same_found, one_back, two_back, three_back}
+use Rattle.proof_checks.proofs.KnownFound.{same_found}
+use Rattle.proof_laws.proofs.Steps.{one_back, two_back, three_back}
 
 -- what is found in a term with at most so many nested rules is a proof
 abbrev pub Sound : ℕ → Type 0

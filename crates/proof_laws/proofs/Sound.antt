@@ -18,7 +18,7 @@ use Rattle.proof_checks.specs.Rows.{step_of}
 use Rattle.proof_checks.specs.Statements.{is_same}
 use Rattle.proof_checks.proofs.KnownStatements.{same_is}
 use Rattle.proof_laws.specs.Proofs.{TermProves, cites}
-use Rattle.proof_laws.proofs.Steps.{same_found}
+use Rattle.proof_checks.proofs.KnownFound.{same_found}
 use Rattle.proof_laws.proofs.Rules.{Sound, after, conj_i_sound, conj_e1_sound, conj_e2_sound}
 use Rattle.proof_laws.proofs.Rules.{disj_i1_sound, disj_i2_sound, disj_e_sound, imp_i_sound}
 use Rattle.proof_laws.proofs.Rules.{imp_e_sound, not_i_sound, not_e_sound, false_e_sound}

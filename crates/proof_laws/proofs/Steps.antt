@@ -16,39 +16,18 @@ use Rattle.proof_checks.specs.Checks.{Found, and_then, if_fresh, by_one, by_two,
 use Rattle.proof_checks.specs.Checks.{of_part, of_step}
 use Rattle.proof_checks.specs.Scopes.{inside, remaining}
 use Rattle.proof_checks.specs.Statements.{is_free_among}
-
-pub same_found : {s t : List Statement} → ◌≡◌ {A = Found} (Ok s) (Ok t) → s ≡ t
-same_found e = cc
-
-pub then_ok : {A B : Type 0} {m : Result A TermFault} {a : A} (next : A → Result B TermFault)
-    → m ≡ Ok a → and_then m next ≡ next a
-then_ok next e = ap (λ x. and_then x next) e
+use Rattle.proof_checks.proofs.KnownFound.{parted, same_found, then_ok}
 
 -- what is listed one after the other, each by another name
 each_same : {a b c r s t : List Statement} → a ≡ r → b ≡ s → c ≡ t → a ++ b ++ c ≡ r ++ s ++ t
 each_same {a} {b} {c} {r} {s} {t} i j k = ap (λ x. x ++ b ++ c) i
     ∙ (ap (λ x. r ++ x ++ c) j ∙ ap (λ x. r ++ s ++ x) k)
 
--- what was found before what follows
-pub parted : {A B : Type 0} (m : Result A TermFault) (next : A → Result B TermFault) (b : B)
-    → and_then m next ≡ Ok b → (a : A) × (m ≡ Ok a) × (next a ≡ Ok b)
-parted (Err f) next b e = cc
-parted (Ok a) next b e = (a, refl, e)
-
 -- a condition that does not fail holds
 pub chosen : {A B : Type 0} (b : Bool) (a : A) (f : TermFault) (next : A → Result B TermFault)
     (r : B) → and_then (cond b (Ok a) (Err f)) next ≡ Ok r → IsTrue b × (next a ≡ Ok r)
 chosen true a f next r e = (refl, e)
 chosen false a f next r e = cc
-
-pub fresh_found : (x : List ℕ) (others s t : List Statement) → if_fresh x others s ≡ Ok t
-    → (is_free_among x others ≡ false) × (s ≡ t)
-fresh_found x others s t e = by (is_free_among x others) refl
-  where
-    by : (b : Bool) → is_free_among x others ≡ b → (is_free_among x others ≡ false) × (s ≡ t)
-    by true is = let wrong : ◌≡◌ {A = Found} (Err (NotFresh x)) (Ok t) = sym
-        (ap (λ b. cond b (Err (NotFresh x)) (Ok s)) is) ∙ e in cc
-    by false is = (is, same_found (sym (ap (λ b. cond b (Err (NotFresh x)) (Ok s)) is) ∙ e))
 
 pub found_fresh : (x : List ℕ) (others s : List Statement) → is_free_among x others ≡ false
     → if_fresh x others s ≡ Ok s
