@@ -13,7 +13,7 @@ use Rattle.node_check.specs.Nodes.{cut_under, sheet_of}
 use Rattle.node_check.specs.Walking.{LiesIn}
 use Rattle.node_check.proofs.KnownCut.{AreCounted, ranges_are}
 use Rattle.node_check.proofs.KnownRanges.{lie_within}
-use Rattle.node_starts.proofs.KnownHeads.{head, heads}
+use Rattle.doc_nodes.specs.Heads.{head, heads}
 use Rattle.batch_check.specs.Cutting.{AreUncut, cut_all, sheets_of}
 
 -- some of the nodes, from a place on, cut under the aliases of all

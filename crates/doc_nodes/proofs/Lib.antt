@@ -11,3 +11,4 @@ mod WantedLaws
 mod PrefixLaws
 mod TidyAliases
 mod AliasLaws
+pub mod KnownHeads

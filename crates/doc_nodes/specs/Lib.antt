@@ -10,3 +10,4 @@ pub mod Lent
 pub mod Known
 pub mod Reached
 pub mod HandedDown
+pub mod Heads

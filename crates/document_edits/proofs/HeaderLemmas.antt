@@ -16,7 +16,7 @@ use Rattle.doc_nodes.specs.Imports.{NodeList}
 use Rattle.doc_nodes.proofs.KnownNames.{name_is}
 use Rattle.sheet_edits.specs.OpenSheet.{OpenSheet}
 use Rattle.document_edits.specs.Standing.{OpenList, Drafted}
-use Rattle.document_edits.specs.Heads.{head, heads}
+use Rattle.doc_nodes.specs.Heads.{head, heads}
 use Rattle.document_edits.proofs.KeyLists.{found-over}
 use Rattle.document_edits.proofs.PairLists.{put_at}
 

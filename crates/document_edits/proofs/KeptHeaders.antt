@@ -13,7 +13,8 @@ use Rattle.buffer_rules.specs.declared.sheet.Sheet.{Sheet}
 use Rattle.buffer_rules.specs.Sheets.{SheetList, item_once}
 use Rattle.buffer_rules.specs.Nodes.{uncut}
 use Rattle.document_edits.specs.Standing.{OpenList, sheets_of, DraftedUnder, Drafted}
-use Rattle.document_edits.specs.Heads.{head, heads, headers_of, KeepHeaders}
+use Rattle.doc_nodes.specs.Heads.{head, heads}
+use Rattle.document_edits.specs.Heads.{headers_of, KeepHeaders}
 
 head_drafted : (tip : NodeList) (u : Option AliasList) (name : List ℕ) (sheet : Sheet) (node : Node) → DraftedUnder tip u name sheet node → head node ≡ head (uncut sheet)
 head_drafted tip None name sheet node is = ap head is

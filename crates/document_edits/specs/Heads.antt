@@ -1,18 +1,10 @@
--- What imports and aliases go by (this project's own).
-use Rattle.std.specs.Prelude.{◌≡◌, [], ◌∷◌, false, List, map, IfOk}
-use Rattle.doc_nodes.specs.declared.node.Node.{Node}
+-- Which items leave all headers as they are (this project's own).
+use Rattle.std.specs.Prelude.{◌≡◌, [], ◌∷◌, List, IfOk}
 use Rattle.doc_nodes.specs.Imports.{NodeList}
+use Rattle.doc_nodes.specs.Heads.{heads}
 use Rattle.message_values.specs.declared.item.Item.{Item}
 use Rattle.buffer_rules.specs.Sheets.{SheetList, item_once}
 use Rattle.buffer_rules.specs.Nodes.{uncut_all}
-
--- a node's header, and nothing else of it
-abbrev pub head : Node → Node
-head node = record node { text = []; entries = []; required = false }
-
--- the headers of all nodes
-abbrev pub heads : NodeList → NodeList
-heads nodes = map (λ pair. (pair.0, head pair.1)) nodes
 
 -- the headers of the nodes that are made of sheets
 abbrev pub headers_of : SheetList → NodeList

@@ -10,7 +10,8 @@ ghost use Rattle.buffer_rules.specs.Trying.{steps};
 ghost use Rattle.buffer_rules.specs.Sheets.{sheet_of, sheet_after, change_one, item_once};
 ghost use Rattle.sheet_edits.specs.Telling.{Tells};
 ghost use Rattle.document_edits.specs.Standing.{sheets_of, Drafted};
-ghost use Rattle.document_edits.specs.Heads.{heads, KeepHeaders};
+ghost use Rattle.doc_nodes.specs.Heads.{heads};
+ghost use Rattle.document_edits.specs.Heads.{KeepHeaders};
 
 use crate::headers::keeps_headers;
 use crate::named::with_named;

@@ -2,7 +2,7 @@
 ghost use Rattle.std.specs.Prelude.{◌≡◌, ◌↔◌, IsTrue};
 ghost use Rattle.shared_map.specs.Changes.{put};
 ghost use Rattle.doc_nodes.specs.Names.{in_order};
-ghost use Rattle.document_edits.specs.Heads.{head, heads};
+ghost use Rattle.doc_nodes.specs.Heads.{head, heads};
 
 use doc_headers::KeywordPair;
 use doc_nodes::{Node, Nodes};

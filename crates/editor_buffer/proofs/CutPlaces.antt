@@ -15,7 +15,7 @@ use Rattle.buffer_rules.specs.Nodes.{Numbered, uncut_all, nodes_from}
 use Rattle.sheet_edits.specs.OpenSheet.{OpenSheet}
 use Rattle.document_edits.specs.Standing.{OpenList, sheets_of, bare_all, Stands, AreInForce, Drafted, aliases_named}
 use Rattle.editor_buffer.proofs.Places.{each_along}
-use Rattle.document_edits.specs.Heads.{heads}
+use Rattle.doc_nodes.specs.Heads.{heads}
 use Rattle.editor_buffer.proofs.BareNodes.{same_named, heads_along}
 use Rattle.editor_buffer.proofs.FirstDraft.{bare_standing}
 use Rattle.document_edits.proofs.PairLists.{AllZip-length, put_at}

@@ -11,7 +11,7 @@ ghost use Rattle.buffer_rules.specs.Nodes.{before_in, uncut_all};
 ghost use Rattle.node_commands.specs.Commands.{commands_in, AskUnder};
 ghost use Rattle.sheet_edits.specs.OpenSheet.{OpenSheet};
 ghost use Rattle.document_edits.specs.Standing.{Stands, Drafted, DraftedUnder, sheets_of};
-ghost use Rattle.document_edits.specs.Heads.{heads};
+ghost use Rattle.doc_nodes.specs.Heads.{heads};
 ghost use Rattle.editor_buffer.specs.Cutting.{GivesRemade, IsPut, IsCutUpTo, IsCutWhole, PassesLast, whole};
 
 use crate::aliases::{is_cut_under, stays};

@@ -1,2 +1,2 @@
 mod Handing
-pub mod KnownHeads
+pub mod KnownBegins

@@ -1,5 +1,5 @@
 use Rattle.std.proofs.Common.{◌≡◌, ◌<◌, Some, length, refl, sym, ap, subst, ◌∙◌, arith}
-use Rattle.document_edits.specs.Heads.{heads}
+use Rattle.doc_nodes.specs.Heads.{heads}
 use Rattle.std.specs.List.{slice_get}
 use Rattle.std.proofs.lemmas.Option.{slice_get_read}
 use Rattle.shared_map.specs.Pairs.{IsSorted}

@@ -5,7 +5,8 @@ use Rattle.doc_nodes.specs.Imports.{NodeList}
 use Rattle.buffer_rules.specs.Trying.{steps}
 use Rattle.buffer_rules.specs.Sheets.{item_once}
 use Rattle.document_edits.specs.Standing.{sheets_of, Drafted}
-use Rattle.document_edits.specs.Heads.{heads, KeepHeaders}
+use Rattle.doc_nodes.specs.Heads.{heads}
+use Rattle.document_edits.specs.Heads.{KeepHeaders}
 use Rattle.document_edits.proofs.draft.Draft.with_items.Given as goal
 
 abbrev pub invariant-each : goal.invariant-each

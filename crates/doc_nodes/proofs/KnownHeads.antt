@@ -1,8 +1,8 @@
--- How nodes begin, and their order, go by their names and headers alone.
-use Rattle.std.proofs.Common.{◌≡◌, ℕ, ◌+◌, ltb, false, not, cond, if◌then◌else◌, List, [], ◌∷◌, ◌++◌, length, filter, find, filter_map, map, Option, Some, None, refl, sym, ap, ap₂, ◌∙◌}
-use Rattle.std.specs.Prelude.{slice_get, option_and_then}
+-- Imports, aliases and their order go by the headers of nodes alone.
+use Rattle.std.proofs.Common.{◌≡◌, ℕ, ◌+◌, ltb, not, cond, if◌then◌else◌, List, [], ◌∷◌, ◌++◌, length, filter, find, map, Option, Some, None, refl, sym, ap, ap₂, ◌∙◌}
+use Rattle.std.specs.Prelude.{slice_get}
 use Rattle.std.specs.Option.{option_map, option_map_or}
-use Rattle.std.specs.List.{cons_option, flat_map, range_with_len, position_or_len}
+use Rattle.std.specs.List.{flat_map, range_with_len, position_or_len}
 use Rattle.std.proofs.lemmas.List.{length-map}
 use Rattle.std.proofs.lemmas.Option.{slice_get-map}
 use Rattle.text_words.specs.Members.{has}
@@ -13,16 +13,7 @@ use Rattle.doc_nodes.specs.declared.inherited.NodeAliases.{NodeAliases}
 use Rattle.doc_nodes.specs.Names.{equal}
 use Rattle.doc_nodes.specs.Imports.{NodeList, aims, aims_of, is_bad, order, others, place_of}
 use Rattle.doc_nodes.specs.Aliases.{aliases_at, aliases_by, folded, in_turn, inherited, known, no_aliases, own_at, own_pairs, pairs_from}
-use Rattle.language.specs.Lang.{Lang}
-use Rattle.language.specs.declared.made.Imports.TheVariants.{Ordered}
-use Rattle.core_rules.specs.Scratch.{Runs, begins_at, final_at, import_run, imports_run}
-
--- a node's header, and nothing else of it
-abbrev pub head : Node → Node
-head node = record node { text = []; entries = []; required = false }
-
-abbrev pub heads : NodeList → NodeList
-heads nodes = map (λ pair. (pair.0, head pair.1)) nodes
+use Rattle.doc_nodes.specs.Heads.{head, heads}
 
 map_alike : {X Y : Type 0} (f g : X → Y) → ((x : X) → f x ≡ g x) → (xs : List X) → map f xs ≡ map g xs
 map_alike f g same [] = refl
@@ -33,7 +24,7 @@ len_head : (name : List ℕ) (nodes : NodeList) → position_or_len (λ (pair : 
 len_head name [] = refl
 len_head name (x ∷ nodes) = ap (λ k. cond (not (equal x.0 name)) (1 + k) 0) (len_head name nodes)
 
-place_head : (nodes : NodeList) (name : List ℕ) → place_of (heads nodes) name ≡ place_of nodes name
+pub place_head : (nodes : NodeList) (name : List ℕ) → place_of (heads nodes) name ≡ place_of nodes name
 place_head nodes name =
     ap (λ k. cond (ltb k (length (heads nodes))) (Some k) None) (len_head name nodes)
     ∙ ap (λ n. cond (ltb (position_or_len (λ (pair : List ℕ × Node). equal pair.0 name) nodes) n)
@@ -86,30 +77,11 @@ aliases_head p nodes =
     ∙ ap (λ done. known done p) (turn_head nodes (order nodes) [])
 
 -- the first bad import
-bad_head : (nodes : NodeList) (names : List (List ℕ)) → find (is_bad (heads nodes)) names ≡ find (is_bad nodes) names
+pub bad_head : (nodes : NodeList) (names : List (List ℕ)) → find (is_bad (heads nodes)) names ≡ find (is_bad nodes) names
 bad_head nodes [] = refl
 bad_head nodes (name ∷ names) =
     ap₂ (λ b rest. cond b (Some name) rest)
     (ap₂ (λ rows place. not (is_known (in_rounds rows) place)) (aims_head nodes) (place_head nodes name)) (bad_head nodes names)
-
-module _ {S : Type 0} (l : Lang S) (runs : Runs S) where
-  imports_head : (nodes : NodeList) (names : List (List ℕ)) → filter_map (import_run l (heads nodes) runs) names ≡ filter_map (import_run l nodes runs) names
-  imports_head nodes [] = refl
-  imports_head nodes (name ∷ names) =
-      ap₂ cons_option
-      (ap (λ place. option_map (λ state. record { name = name; state = state }) (option_and_then (final_at l runs) place)) (place_head nodes name))
-      (imports_head nodes names)
-
-  by_bad : (nodes : NodeList) (names : List (List ℕ)) (bad : Option (List ℕ)) → imports_run l (heads nodes) runs names bad ≡ imports_run l nodes runs names bad
-  by_bad nodes names None = ap Ordered (imports_head nodes names)
-  by_bad nodes names (Some name) = refl
-
-  pub begins_head : (p : ℕ) (pair : List ℕ × Node) (nodes : NodeList) → begins_at l (heads nodes) runs p pair ≡ begins_at l nodes runs p pair
-  begins_head p pair nodes =
-      ap₂ (l.start pair.0)
-      (ap (imports_run l (heads nodes) runs pair.1.imports) (bad_head nodes pair.1.imports)
-      ∙ by_bad nodes pair.1.imports (find (is_bad nodes) pair.1.imports))
-      (aliases_head p nodes)
 
 -- what goes by headers alone is the same of nodes with the same ones
 pub along : {X : Type 0} (f : NodeList → X) → ((nodes : NodeList) → f (heads nodes) ≡ f nodes) → (nodes more : NodeList) → heads nodes ≡ heads more → f nodes ≡ f more
