@@ -26,10 +26,6 @@ advanced old new piece stream taken e s a =
     let all : (taken ++ old.waiting) ++ a.made ≡ taken ++ new.waiting = append_assoc taken old.waiting a.made ∙ ap (λ x. taken ++ x) (sym a.waiting) in
     record { rest = a.rest; reached = rw all at (reached-then here named); kept = a.kept }
 
-pub on-ok : {T E : Type 0} (r : Result T E) (P Q : Type 0) → (P → Q) → OnOk r P → OnOk r Q
-on-ok (Ok x) P Q f p = f p
-on-ok (Err e) P Q f p = tt
-
 -- the piece is kept
 pub keeps-all : (old : Framing) (piece rest : List ℕ) → old.at < 2 ^ 64 → old.rest ++ piece ≡ rest → IsShort rest
     → Advances old piece (record { waiting = old.waiting; at = old.at; rest = rest; fault = None })

@@ -95,8 +95,3 @@ three_asked written one two three a b c first second third =
       asks = ap (λ r. r ∷ asked Serve second.chunks ∷ asked Serve third.chunks ∷ []) first.asks
           ∙ ap (λ r. Ok a ∷ r ∷ asked Serve third.chunks ∷ []) second.asks ∙ ap (λ r. Ok a ∷ Ok b ∷ r ∷ []) third.asks;
     }
-
--- what follows where a call succeeds
-pub on_ok : {T E : Type 0} (r : Result T E) (P Q : Type 0) → (P → Q) → OnOk r P → OnOk r Q
-on_ok (Ok value) P Q follows is = follows is
-on_ok (Err error) P Q follows is = is

@@ -72,10 +72,6 @@ pub ok_on : {A E : Type 0} (r : Result A E) (P Q : A → Type 0) → ((x : A) �
 ok_on (Ok x) P Q follows is = follows x is
 ok_on (Err e) P Q follows is = is
 
-pub on_ok : {A E : Type 0} (r : Result A E) (P Q : Type 0) → (P → Q) → OnOk r P → OnOk r Q
-on_ok (Ok x) P Q follows is = follows is
-on_ok (Err e) P Q follows is = is
-
 module _ {S : Type 0} (l : Lang S) where
   -- a run that is done has answered the messages of the source
   pub answered : (bytes : List ℕ) (left : Option (List ℕ)) (service : Service) (s : SessionState) (how : Status) → s.service ≡ service

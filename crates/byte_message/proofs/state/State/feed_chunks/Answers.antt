@@ -1,10 +1,11 @@
 -- The chunks' bytes are kept, or their message is whole.
 use Rattle.std.proofs.Common.{◌≡◌, ◌++◌, ◌-◌, arith, length, take, drop, ap, sym, ◌∙◌, inr, append_assoc, [], ◌∷◌}
 use Rattle.std.proofs.lemmas.List.{length-append, length-take-le, take-append-drop, take_rest}
+use Rattle.std.proofs.lemmas.Result.{on_ok_weaker}
 use Rattle.byte_message.specs.Parts.{rest_of, fault_of}
 use Rattle.byte_message.specs.State.{framing}
 use Rattle.byte_message.specs.Stream.{IsSpelling}
-use Rattle.byte_message.proofs.Advancing.{keeps-all, reads-on, on-ok, cut_there}
+use Rattle.byte_message.proofs.Advancing.{keeps-all, reads-on, cut_there}
 use Rattle.byte_message.proofs.Reaching.{reached-after}
 use Rattle.byte_message.proofs.Spelled.{spelled-by}
 use Rattle.byte_message.proofs.state.State.feed_chunks.Goals as goal
@@ -40,7 +41,7 @@ returns-clause-ok c =
     (ap rest_of c.in-Chunks.is) (take-append-drop missing piece) in
     let reading = c.in_ok-reading.reading in
     let told = rw (take_rest piece missing) at c.in_ok-reading.ensures in
-    on-ok c.join.result _ _
+    on_ok_weaker c.join.result
     (λ p. reads-on (framing c.args.self.now) (framing c.join.new.self) piece (chunks.line.items ++ body) (drop missing piece) told.0 message
     ((message ∷ []) ++ c.new.result.items) (message ∷ reading.made.items) c.saturating_add-at.result reading.at (rest_of reading.part) (fault_of reading.part)
     split one (omega arith) (ap (λ x. (message ∷ []) ++ x) c.new.ensures.items)

@@ -1,9 +1,10 @@
 -- What came of the line leads the decoder on.
 use Rattle.std.proofs.Common.{◌≡◌, ◌++◌, arith, take, drop, ap, sym, ◌∙◌, inl, inr, append_assoc, [], ◌∷◌}
 use Rattle.std.proofs.lemmas.List.{length-append, length-take-le, take-append-drop, take_rest}
+use Rattle.std.proofs.lemmas.Result.{on_ok_weaker}
 use Rattle.byte_message.specs.Parts.{rest_of, fault_of}
 use Rattle.byte_message.specs.State.{framing}
-use Rattle.byte_message.proofs.Advancing.{keeps-all, turns-bad, reads-on, on-ok}
+use Rattle.byte_message.proofs.Advancing.{keeps-all, turns-bad, reads-on}
 use Rattle.byte_message.proofs.state.State.take_begun.Goals as goal
 
 pub returns-in_ok-extend_from_slice-in-Line-clause-ok : goal.returns-in_ok-extend_from_slice-in-Line-clause-ok
@@ -37,7 +38,7 @@ returns-in_ok-reading-in-Whole-clause-ok c =
     = ap (λ x. rest ++ x) (sym (take-append-drop used piece)) ∙ sym (append_assoc rest (take used piece) (drop used piece)) in
     let reading = c.in_ok-reading-in-Whole.reading in
     let told = rw (take_rest piece used) at c.in_ok-reading-in-Whole.ensures in
-    on-ok c.join.result _ _
+    on_ok_weaker c.join.result
     (λ p. reads-on (framing c.args.self.now) (framing c.join.new.self) piece (rest ++ take used piece) (drop used piece) told.0 c.in-Whole.message
     c.push_back.new.self.items reading.made.items c.saturating_add-at.result reading.at (rest_of reading.part) (fault_of reading.part)
     split one.2 (omega arith) (c.in_ok-push_back-in-Whole.ensures.items ∙ ap (λ x. x ++ c.in-Whole.message ∷ []) c.new-made.ensures.items)
