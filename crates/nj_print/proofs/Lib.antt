@@ -26,3 +26,4 @@ mod GrowsLemmas
 pub mod KnownInstances
 pub mod KnownReadable
 pub mod KnownPrints
+pub mod KnownParts

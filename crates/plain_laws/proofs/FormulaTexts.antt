@@ -5,25 +5,20 @@ use Rattle.std.specs.List.{AllByRecursion}
 use Rattle.nj_formula.specs.declared.formula.Formula.{Formula, out-Formula}
 use Rattle.nj_formula.specs.declared.formula.Formula.TheOpen.{Formula-F}
 use Rattle.nj_formula.specs.declared.formula.Formula.TheVariants as F
-use Rattle.nj_formula.specs.declared.formula.Formula.TheVariants.{rolls-Not, rolls-And, rolls-Or}
-use Rattle.nj_formula.specs.declared.formula.Formula.TheVariants.{rolls-Implies, rolls-All}
+use Rattle.nj_formula.specs.declared.formula.Formula.TheVariants.{rolls-All}
 use Rattle.nj_formula.specs.Meaning.{meaning}
-use Rattle.nj_formula.proofs.KnownFormulas.{fold-False, is_rolled}
-use Rattle.nj_formula.proofs.KnownMeaning.{meaning-False}
+use Rattle.nj_formula.proofs.KnownFormulas.{is_rolled}
 use Rattle.nj_syntax.specs.declared.fault.FormulaFault.{FormulaFault}
-use Rattle.nj_syntax.specs.declared.operator.Operator.{Operator}
 use Rattle.nj_syntax.specs.declared.operator.Quantifier.{Quantifier}
 use Rattle.nj_syntax.specs.Answer.{formula_of}
 use Rattle.nj_syntax.specs.Answers.{Answers, IsFormula, SaysWhole}
-use Rattle.nj_syntax.specs.Deepest.{deepest}
 use Rattle.nj_syntax.specs.Grammar.{word}
 use Rattle.nj_syntax.proofs.KnownAnswers.{formula_answers, formula_tells}
 use Rattle.nj_print.specs.Prints.{Prints, quantifier}
 use Rattle.nj_print.specs.Readable.{IsReadable, IsReadAgain}
-use Rattle.nj_print.specs.Spellable.{formula_layer}
-use Rattle.nj_print.specs.Within.{is_within}
 use Rattle.nj_print.proofs.KnownPrints.{some_print, some_primed}
-use Rattle.nj_print.proofs.KnownReadable.{print_read_again, negated_readable, operands_readable}
+use Rattle.nj_print.proofs.KnownReadable.{print_read_again}
+use Rattle.nj_print.proofs.KnownParts.{and_readable, implies_readable, not_readable, false_readable}
 use Rattle.formula_texts.specs.Printed.{primed, formula_text}
 use Rattle.formula_texts.proofs.KnownPrimed.{primed_is}
 use Rattle.formula_texts.proofs.KnownTexts.{text_is}
@@ -83,33 +78,6 @@ subgoal_plain (AssumeShow a c) said =
     after (codes "assume ") refl
     (joined (formula_plain a said.0) (after (codes " show ") refl (formula_plain c said.1)))
 subgoal_plain (FixShow x p) said = fix_plain x p said
-
--- parts of readable formulas
-pub and_readable : (f a b : Formula) → out-Formula f ≡ Formula-F.And a b → IsReadable f
-    → IsReadable a × IsReadable b
-and_readable f a b out readable =
-    operands_readable Operator.And a b
-    (subst IsReadable (is_rolled f (Formula-F.And a b) out ∙ rolls-And a b) readable)
-
-pub or_readable : (f a b : Formula) → out-Formula f ≡ Formula-F.Or a b → IsReadable f
-    → IsReadable a × IsReadable b
-or_readable f a b out readable =
-    operands_readable Operator.Or a b
-    (subst IsReadable (is_rolled f (Formula-F.Or a b) out ∙ rolls-Or a b) readable)
-
-pub implies_readable : (f a b : Formula) → out-Formula f ≡ Formula-F.Implies a b → IsReadable f
-    → IsReadable a × IsReadable b
-implies_readable f a b out readable =
-    operands_readable Operator.Implies a b
-    (subst IsReadable (is_rolled f (Formula-F.Implies a b) out ∙ rolls-Implies a b) readable)
-
-pub not_readable : (f a : Formula) → out-Formula f ≡ Formula-F.Not a → IsReadable f → IsReadable a
-not_readable f a out readable =
-    negated_readable a (subst IsReadable (is_rolled f (Formula-F.Not a) out ∙ rolls-Not a) readable)
-
-pub false_readable : IsReadable F.False
-false_readable =
-    (ap (λ f. f 0) (fold-False formula_layer), ap (λ s. is_within deepest s 10 0) meaning-False)
 
 -- the subgoals of a readable goal
 pub introduced_said : (goal : Formula) (layer : Formula-F Formula) → out-Formula goal ≡ layer

@@ -14,8 +14,8 @@ use Rattle.suggest_rules.specs.Search.{if_so, citing, first_of, found_by, found_
 use Rattle.suggest_rules.specs.TermText.{by_text}
 use Rattle.plain_laws.proofs.EachPart.{each_front, each_passing}
 use Rattle.plain_laws.proofs.PlainTexts.{Plain, joined, after, decimal_plain, primes_plain}
-use Rattle.plain_laws.proofs.FormulaTexts.{and_readable, or_readable, implies_readable}
-use Rattle.plain_laws.proofs.FormulaTexts.{not_readable, false_readable}
+use Rattle.nj_print.proofs.KnownParts.{and_readable, or_readable, implies_readable}
+use Rattle.nj_print.proofs.KnownParts.{not_readable, false_readable}
 use Rattle.plain_laws.proofs.TermTexts.{text_conj, text_first, text_second, text_left, text_right}
 use Rattle.plain_laws.proofs.TermTexts.{text_cases, text_imp, text_follow, text_not, text_denied}
 use Rattle.plain_laws.proofs.TermTexts.{text_false}

@@ -19,7 +19,8 @@ use Rattle.suggest_rules.specs.Search as S
 use Rattle.suggest_rules.specs.Search.{if_so, says_same, is_false, citing, found_by, found_within}
 use Rattle.suggest_laws.specs.Citable.{IsCitable}
 use Rattle.nj_suggest.proofs.KnownFound.{either, so, mapped, paired, among, passing}
-use Rattle.suggest_laws.proofs.FreeRules.{rule_free, and_readable, or_readable, implies_readable, not_readable, false_readable}
+use Rattle.nj_print.proofs.KnownParts.{and_readable, or_readable, implies_readable, not_readable, false_readable}
+use Rattle.suggest_laws.proofs.FreeRules.{rule_free}
 use Rattle.suggest_laws.proofs.NewNames.{next_free_name}
 use Rattle.suggest_laws.proofs.RuleParts.{Parts, term_of}
 use Rattle.suggest_laws.proofs.Written.{AreWritten, IsPropositional, IsWritten, of_fact}
