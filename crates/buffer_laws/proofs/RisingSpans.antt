@@ -5,11 +5,10 @@ use Rattle.std.specs.List.{zip, AllByRecursion}
 use Rattle.pide_base.specs.declared.range.Range.{Range}
 use Rattle.outer_tokens.specs.Tokens.{AreTokensBetween}
 use Rattle.outer_tokens.specs.declared.token.Token.{Token}
-use Rattle.command_spans.specs.Spans.{IsSpan, AreSpansOf, AreSpans}
+use Rattle.command_spans.specs.Spans.{AreSpansOf, AreSpans}
 use Rattle.command_spans.specs.Cutting.{spans_in}
 use Rattle.command_spans.specs.declared.span.Span.{Span}
-use Rattle.command_spans.specs.declared.span.SpanKind.{SpanKind}
-use Rattle.command_spans.specs.declared.span.SpanKind.TheVariants.{Command, Malformed, Ignored}
+use Rattle.command_spans.proofs.KnownEnds.{ends, starts, some_tokens}
 use Rattle.doc_nodes.specs.Imports.{NodeList}
 use Rattle.doc_nodes.specs.Aliases.{aliases_at}
 use Rattle.doc_blobs.specs.Needs.{AliasList}
@@ -48,30 +47,16 @@ module _ (names : ℕ → List ℕ → Bool) (text : List ℕ) where
       let rest = tokens_behind t.range.stop to j ts last are.2 at in
       (omega (arith, are.0, longer, rest.0), rest.1)
 
-  ends : (from to : ℕ) (tokens : List Token) → AreTokensBetween names text from to tokens → from ≤ to
-  ends from to [] are = omega (arith, are)
-  ends from to (t ∷ ts) are = let longer = are.1.1 in omega (arith, are.0, longer, ends t.range.stop to ts are.2)
-
-  starts : (from to : ℕ) (tokens : List Token) (first : Token) → AreTokensBetween names text from to tokens
-      → slice_get tokens 0 ≡ Some first → first.range.start ≡ from
-  starts from to [] first are at = absurd (cc)
-  starts from to (t ∷ ts) first are at = let same : t ≡ first = cc in subst (λ (x : Token). x.range.start ≡ from) same are.0
-
-  some_tokens : (kind : SpanKind) (tokens : List Token) (n : ℕ) → IsSpan kind tokens n → 0 < n
-  some_tokens Command tokens n is = is.1.some
-  some_tokens Malformed tokens n is = is.2.some
-  some_tokens Ignored tokens n is = is.0
-
   spans_behind : (from to : ℕ) (tokens : List Token) (spans : List Span) → AreTokensBetween names text from to tokens
       → AreSpansOf tokens spans → AreBehind from to (map (λ s. s.range) (filter (λ s. is_command s.kind) spans))
   unfolding AreBehind
-  spans_behind from to tokens [] are cut = ends from to tokens are
+  spans_behind from to tokens [] are cut = ends names text from to tokens are
   spans_behind from to tokens (s ∷ ss) are (n, is, (first, last, at, end, start, stop), rest) =
       let some = some_tokens s.kind tokens n is in
       let whole : suc (n - 1) ≡ n = omega (arith, some) in
       let more = subst (λ m. (from ≤ last.range.stop) × AreTokensBetween names text last.range.stop to (drop m tokens)) whole
       (tokens_behind from to (n - 1) tokens last are end) in
-      let begins : s.range.start ≡ from = start ∙ starts from to tokens first are at in
+      let begins : s.range.start ≡ from = start ∙ starts names text from to tokens first are at in
       let within : from ≤ s.range.stop = omega (arith, more.0, stop) in
       let later = subst (λ place. AreBehind place to (map (λ s. s.range) (filter (λ s. is_command s.kind) ss))) (sym stop)
       (spans_behind last.range.stop to (drop n tokens) ss more.1 rest) in

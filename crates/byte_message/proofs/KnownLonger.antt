@@ -11,7 +11,7 @@ use Rattle.byte_message.specs.Stream.Ending.{Whole, Bad, Short}
 use Rattle.byte_message.specs.declared.line_fault.LineFault.{LineFault}
 use Rattle.byte_message.specs.declared.frame_fault.FrameFault.{FrameFault}
 use Rattle.byte_message.proofs.Headings.{after-line, faulty-more, heading-line, never_fit}
-use Rattle.byte_message.proofs.Reaching.{spelled-append}
+use Rattle.byte_message.proofs.KnownSpelled.{spelled-append}
 use Rattle.byte_message.proofs.Spelled.{spelled-by}
 use Rattle.byte_message.proofs.Newlines.{newline_at}
 

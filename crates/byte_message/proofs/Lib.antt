@@ -3,6 +3,7 @@ mod Headings
 mod Newlines
 mod Counting
 mod Cutting
+pub mod KnownSpelled
 mod Reaching
 mod Spelled
 mod Advancing

@@ -3,10 +3,7 @@ use Rattle.std.proofs.Common.{◌≡◌, ℕ, ◌+◌, ◌^◌, ◌<◌, ◌≤�
 use Rattle.std.proofs.lemmas.List.{length-append, append-nil, length-take-le, take-append-drop}
 use Rattle.byte_message.specs.Stream.{IsSpelling, AreSpelled, told}
 use Rattle.byte_message.specs.Kept.{Reached}
-
-pub spelled-append : (a b : List ℕ) (ms ns : List (List (List ℕ))) → AreSpelled a ms → AreSpelled b ns → AreSpelled (a ++ b) (ms ++ ns)
-spelled-append a b [] ns s t = subst (λ (x : List ℕ). AreSpelled (x ++ b) ns) (sym s) t
-spelled-append a b (m ∷ ms) ns (front, rest, e, one, s) t = (front, rest ++ b, ap (λ x. x ++ b) e ∙ append_assoc front rest b, one, spelled-append rest b ms ns s t)
+use Rattle.byte_message.proofs.KnownSpelled.{spelled-append}
 
 pub reached-same : (ms : List (List (List ℕ))) (at : ℕ) (bytes : List ℕ) → at < 2 ^ 64 → Reached ms at bytes ms at bytes
 reached-same ms at bytes h = record { front = []; more = []; whole = refl; spelled = refl; made = sym (append-nil ms); place = omega arith }

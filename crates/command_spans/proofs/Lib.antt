@@ -12,3 +12,4 @@ mod EdgeLemmas
 mod RelexLemmas
 mod RelexSteps
 mod KeptLaws
+pub mod KnownEnds

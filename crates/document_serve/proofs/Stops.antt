@@ -14,11 +14,6 @@ abbrev pub StopsAmong : {S : Type 0} → Lang S → Option (List ℕ) → Option
 StopsAmong l held held' old messages h new =
     HaltsAmong (λ (o : SessionState) first x rest (n : SessionState). StopsSo l x held held' o n first rest) old messages h new
 
--- what is passed on
-pub passed : {T : Type 0} (r : Result T Halt) (h : Halt) (P : Halt → Type 0) → IsErrAnd r (λ shown. shown ≡ h) → P h → IfErr r P
-passed (Ok x) h P is p = tt
-passed (Err shown) h P is p = subst P (sym is) p
-
 -- a count that rose where it halted had not fallen before
 pub counts_on : {T : Type 0} (r : Result T Halt) (before mid now : ℕ) → before ≤ mid → IfErr r (λ h. CountsSo h mid now) → IfErr r (λ h. CountsSo h before now)
 counts_on (Ok x) before mid now first then = tt

@@ -3,7 +3,7 @@ use Rattle.std.proofs.Common.{◌≡◌, ◌⊎◌, ℕ, true, false, List, [], 
 use Rattle.std.specs.Io.KnownBytes.{Appends}
 use Rattle.std.proofs.KnownBytes.{Appends-trans}
 use Rattle.pide_base.specs.Moves.{AppendsFront}
-use Rattle.pide_base.proofs.Known.{AppendsFront-after}
+use Rattle.pide_base.proofs.Known.{AppendsFront-after, front_more}
 use Rattle.language.specs.Lang.{Lang}
 use Rattle.reply_outbox.specs.declared.item.Item.TheVariants as item
 use Rattle.reply_outbox.specs.Items.{entries, is_lost}
@@ -32,9 +32,6 @@ pub record Goes {S : Type 0} (l : Lang S) (held held' : Option (List ℕ)) (old 
   pub same : IsSame l old new
   pub kept : is_lost new.items ≡ false
   pub writes : WritesOn l held held' old new
-
-front_longer : (a b : Option (List ℕ)) (xs ys : List ℕ) → AppendsFront a b xs → AppendsFront a b (xs ++ ys)
-front_longer a b xs ys f = (f.0, f.1 ++ ys, ap (λ zs. zs ++ ys) f.2 ∙ append_assoc f.0 f.1 ys, f.3)
 
 module _ {S : Type 0} (l : Lang S) (held now : Option (List ℕ)) (old s : SessionState) (goes : Goes l held now old s) where
   -- no more waits
@@ -101,4 +98,4 @@ module _ {S : Type 0} (l : Lang S) (held now : Option (List ℕ)) (old s : Sessi
           sent_front l s.service s.items (law s.service) (bytes ∷ next.waiting) waits
           ∙ sym (append_assoc (sent_in l s.service s.items) bytes (joined next.waiting)) in
           subst (AppendsFront first then) (sym (same_replies lost same lost_entries ∙ whole))
-          (front_longer first then (sent_in l s.service s.items ++ bytes) (joined next.waiting) front)
+          (front_more first then (sent_in l s.service s.items ++ bytes) (joined next.waiting) front)

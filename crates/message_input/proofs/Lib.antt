@@ -1,5 +1,5 @@
 mod Decoding
-mod Halting
+pub mod KnownHalting
 mod Pulling
 mod Ends
 pub mod KnownCompletes

@@ -6,11 +6,10 @@ use Rattle.std.specs.List.{zip, AllByRecursion}
 use Rattle.pide_base.specs.declared.range.Range.{Range}
 use Rattle.outer_tokens.specs.Tokens.{AreTokensBetween}
 use Rattle.outer_tokens.specs.declared.token.Token.{Token}
-use Rattle.command_spans.specs.Spans.{IsSpan, AreSpansOf, AreSpans}
+use Rattle.command_spans.specs.Spans.{AreSpansOf, AreSpans}
 use Rattle.command_spans.specs.Cutting.{spans_in}
 use Rattle.command_spans.specs.declared.span.Span.{Span}
-use Rattle.command_spans.specs.declared.span.SpanKind.{SpanKind}
-use Rattle.command_spans.specs.declared.span.SpanKind.TheVariants.{Command, Malformed, Ignored}
+use Rattle.command_spans.proofs.KnownEnds.{ends, starts, some_tokens}
 use Rattle.doc_nodes.specs.declared.node.Entry.{Entry}
 use Rattle.doc_nodes.specs.declared.node.Node.{Node}
 use Rattle.doc_nodes.specs.Imports.{NodeList}
@@ -46,20 +45,6 @@ module _ (names : ℕ → List ℕ → Bool) (text : List ℕ) where
       let rest = token_behind t.range.stop to j ts last are.2 at in
       (omega (arith, are.0, longer, rest.0), rest.1)
 
-  ends : (from to : ℕ) (tokens : List Token) → AreTokensBetween names text from to tokens → from ≤ to
-  ends from to [] are = omega (arith, are)
-  ends from to (t ∷ ts) are = let longer = are.1.1 in omega (arith, are.0, longer, ends t.range.stop to ts are.2)
-
-  starts : (from to : ℕ) (tokens : List Token) (first : Token) → AreTokensBetween names text from to tokens
-      → slice_get tokens 0 ≡ Some first → first.range.start ≡ from
-  starts from to [] first are at = absurd (cc)
-  starts from to (t ∷ ts) first are at = let same : t ≡ first = cc in subst (λ (x : Token). x.range.start ≡ from) same are.0
-
-  some_tokens : (kind : SpanKind) (tokens : List Token) (n : ℕ) → IsSpan kind tokens n → 0 < n
-  some_tokens Command tokens n is = is.1.some
-  some_tokens Malformed tokens n is = is.2.some
-  some_tokens Ignored tokens n is = is.0
-
   spans_filled : (from : ℕ) (tokens : List Token) (spans : List Span) → AreTokensBetween names text from (length text) tokens
       → AreSpansOf tokens spans → AllByRecursion (IsFilled text) (map (λ s. s.range) (filter (λ s. is_command s.kind) spans))
   spans_filled from tokens [] are cut = tt
@@ -68,8 +53,8 @@ module _ (names : ℕ → List ℕ → Bool) (text : List ℕ) where
       let whole : suc (n - 1) ≡ n = omega (arith, some) in
       let more = subst (λ m. (from < last.range.stop) × AreTokensBetween names text last.range.stop (length text) (drop m tokens)) whole
       (token_behind from (length text) (n - 1) tokens last are end) in
-      let begins : s.range.start ≡ from = start ∙ starts from (length text) tokens first are at in
-      let within : s.range.stop ≤ length text = omega (arith, stop, ends last.range.stop (length text) (drop n tokens) more.1) in
+      let begins : s.range.start ≡ from = start ∙ starts names text from (length text) tokens first are at in
+      let within : s.range.stop ≤ length text = omega (arith, stop, ends names text last.range.stop (length text) (drop n tokens) more.1) in
       let longer : s.range.start < s.range.stop = omega (arith, begins, stop, more.0) in
       go (is_command s.kind) longer within (spans_filled last.range.stop (drop n tokens) ss more.1 rest)
     where

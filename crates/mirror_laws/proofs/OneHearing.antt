@@ -3,6 +3,7 @@ use Rattle.std.proofs.Common.{◌≡◌, ◌⊎◌, inl, inr, ℕ, List, [], ◌
 use Rattle.std.proofs.lemmas.List.{append_cancel_left}
 use Rattle.byte_message.specs.Stream.{AreSpelled, Ending, EndsAs, IsReadAs, placed, told}
 use Rattle.byte_message.specs.Stream.Ending.{Whole, Bad, Short}
+use Rattle.byte_message.proofs.KnownSpelled.{spelled-append}
 use Rattle.reply_writing.specs.declared.told.Told.{Told}
 use Rattle.reply_writing.specs.Replies.{reply_chunks}
 use Rattle.reply_reading.specs.Replies.{FindsReply, IsReply}
@@ -16,11 +17,6 @@ pub record HearingLaws : Type 0 where
       → IsReadAs stream others end → (messages ≡ others) × (ending ≡ end)
   pub every : (stream : List ℕ) → (messages : List (List (List ℕ))) × (ending : Ending) × IsReadAs stream messages ending
   pub reply : (told other : Told) → IsReply told → IsReply other → reply_chunks told ≡ reply_chunks other → told ≡ other
-
-spelled_both : (f g : List ℕ) (ms ns : List (List (List ℕ))) → AreSpelled f ms → AreSpelled g ns → AreSpelled (f ++ g) (ms ++ ns)
-spelled_both f g [] ns are more = subst (λ b. AreSpelled b ns) (ap (λ b. b ++ g) (sym are)) more
-spelled_both f g (m ∷ ms) ns (first, rest, split, is, are) more =
-    (first, rest ++ g, ap (λ b. b ++ g) split ∙ append_assoc first rest g, is, spelled_both rest g ms ns are more)
 
 -- an ending from a later place on
 later : (place : ℕ) (rest : List ℕ) (from : ℕ) (ending : Ending) → EndsAs from rest ending
@@ -54,7 +50,7 @@ module _ (laws : HearingLaws) where
         front = front ++ r.front;
         rest = r.rest;
         whole = ap (λ b. front ++ b) r.whole ∙ sym (append_assoc front r.front r.rest);
-        spelled = spelled_both front r.front ms every.0 are r.spelled;
+        spelled = spelled-append front r.front ms every.0 are r.spelled;
         ends = end.1;
       }) (whole_read (front ++ d) ms all) in
       let none : every.0 ≡ [] = append_cancel_left ms every.0 [] (both.0 ∙ sym (append-nil ms)) in

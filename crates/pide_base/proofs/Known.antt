@@ -17,3 +17,8 @@ pub AppendsFront-after : (a b c : Option (List ℕ)) (xs ys : List ℕ) → Appe
 AppendsFront-after a b c xs ys first second =
     let whole : xs ++ ys ≡ (xs ++ second.0) ++ second.1 = ap (λ zs. xs ++ zs) second.2 ∙ sym (append_assoc xs second.0 second.1) in
     (xs ++ second.0, second.1, whole, Appends-trans a b c xs second.0 first second.3)
+
+-- a front of a text is one of a longer text
+pub front_more : (held held' : Option (List ℕ)) (xs ys : List ℕ) → AppendsFront held held' xs → AppendsFront held held' (xs ++ ys)
+front_more held held' xs ys front =
+    (front.0, front.1 ++ ys, ap (λ zs. zs ++ ys) front.2 ∙ append_assoc front.0 front.1 ys, front.3)

@@ -17,7 +17,7 @@ use Rattle.pide_build.specs.Joins.{refusals_both}
 use Rattle.pide_build.specs.Replies.{refusals}
 use Rattle.pide_build.specs.Runs.{IsBuild}
 use Rattle.pide_build.specs.Theories.{TheoryList, theories_after}
-use Rattle.pide_build.proofs.Written.{front_more}
+use Rattle.pide_base.proofs.Known.{front_more}
 
 -- all messages of an input that ends between them were answered: these are the theories
 pub record CameWhole (left left' held held' : Option (List ℕ)) (theories : TheoryList) : Type 0 where

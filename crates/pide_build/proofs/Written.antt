@@ -39,8 +39,3 @@ no_front held all = ([], all, refl, Appends-nil held)
 -- nothing comes behind
 pub all_written : (first held : Option (List ℕ)) (rest all : List ℕ) → rest ≡ [] → IsWritten first held rest all → Appends first held all
 all_written first held rest all none way = subst (Appends first held) (sym (way.1 ∙ ap (λ xs. way.0 ++ xs) none ∙ append-nil way.0)) way.2
-
--- a front of a text is one of a longer text
-pub front_more : (held held' : Option (List ℕ)) (xs ys : List ℕ) → AppendsFront held held' xs → AppendsFront held held' (xs ++ ys)
-front_more held held' xs ys front =
-    (front.0, front.1 ++ ys, ap (λ zs. zs ++ ys) front.2 ∙ append_assoc front.0 front.1 ys, front.3)

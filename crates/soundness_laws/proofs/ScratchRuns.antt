@@ -5,7 +5,7 @@ use Rattle.std.specs.Prelude.{◌==◌, slice_get}
 use Rattle.std.specs.List.{AllByRecursion}
 use Rattle.std.specs.Option.{option_map_or}
 use Rattle.text_words.specs.Members.{has}
-use Rattle.text_words.proofs.KnownMembers.{has_both, has_left, has_middle}
+use Rattle.text_words.proofs.KnownMembers.{has_left, has_middle, has_other}
 use Rattle.doc_nodes.specs.declared.node.Node.{Node}
 use Rattle.doc_nodes.specs.Imports.{NodeList, order}
 use Rattle.exec_rules.specs.Kept.{BlobList}
@@ -41,17 +41,6 @@ found_of P test (y ∷ xs) x all at = go (test y) refl at (found_of P test xs x 
     go : (b : Bool) → test y ≡ b → cond b (Some y) (find test xs) ≡ Some x → (find test xs ≡ Some x → (test x ≡ true) × P x) → (test x ≡ true) × P x
     go true is at rest = let same : y ≡ x = cc in subst (λ z. (test z ≡ true) × P z) same (is, all.0)
     go false is at rest = rest at
-
-among : (front : List ℕ) (p q : ℕ) → (p == q) ≡ false → has (front ++ p ∷ []) q ≡ true → has front q ≡ true
-among front p q other is = go (or_cases (has front q) (has (p ∷ []) q) (sym (has_both front (p ∷ []) q) ∙ is))
-  where
-    last : ((q == p) ≡ true) ⊎ (false ≡ true) → has front q ≡ true
-    last (inl same) = absurd (false≢true (sym other ∙ eq-eqb p q (sym (eqb-true q p same))))
-    last (inr bad) = absurd (cc)
-
-    go : (has front q ≡ true) ⊎ (has (p ∷ []) q ≡ true) → has front q ≡ true
-    go (inl there) = there
-    go (inr here) = last (or_cases (q == p) false here)
 
 module _ {S : Type 0} (l : Lang S) (nodes : NodeList) (blobs : BlobList)
     (every : (p : ℕ) → (has (order nodes) p ≡ true) ↔ (p < length nodes))
@@ -90,7 +79,7 @@ module _ {S : Type 0} (l : Lang S) (nodes : NodeList) (blobs : BlobList)
       where
         go : (b : Bool) → (p == q) ≡ b → (one : ℕ × Run S) × (cond b (Some new) (find (λ o. o.0 == q) runs) ≡ Some one)
         go true e = (new, refl)
-        go false e = so.there q (among front p q e is)
+        go false e = so.there q (has_other front p q e is)
 
     step : AreRun l nodes blobs (front ++ p ∷ []) (new ∷ runs)
     step = record {

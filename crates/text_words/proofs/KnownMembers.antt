@@ -103,3 +103,15 @@ each_has P (x ∷ xs) e all is = go (or_cases (e == x) (has xs e) is) (each_has 
     go : ((e == x) ≡ true) ⊎ (has xs e ≡ true) → (has xs e ≡ true → P e) → P e
     go (inl same) rest = subst P (sym (eqb-true e x same)) all.0
     go (inr there) rest = rest there
+
+-- what a list has with one number behind it, and is not that one, it has
+pub has_other : (front : List ℕ) (p q : ℕ) → (p == q) ≡ false → has (front ++ p ∷ []) q ≡ true → has front q ≡ true
+has_other front p q other is = go (or_cases (has front q) (has (p ∷ []) q) (sym (has_both front (p ∷ []) q) ∙ is))
+  where
+    last : ((q == p) ≡ true) ⊎ (false ≡ true) → has front q ≡ true
+    last (inl same) = absurd (false≢true (sym other ∙ eq-eqb p q (sym (eqb-true q p same))))
+    last (inr bad) = absurd (false≢true bad)
+
+    go : (has front q ≡ true) ⊎ (has (p ∷ []) q ≡ true) → has front q ≡ true
+    go (inl there) = there
+    go (inr here) = last (or_cases (q == p) false here)

@@ -9,3 +9,4 @@ pub mod Ambiguous
 pub mod KnownNames
 pub mod Covered
 pub mod BlockLocals
+pub mod KnownOrder

@@ -1,26 +1,14 @@
 -- The facts of one name, and the fact of one name and theory.
 use Rattle.std.proofs.Common.{◌≡◌, ℕ, Bool, true, false, not, ◌&&◌, cond, List, [], ◌∷◌, Some, None, refl, sym, ◌∙◌, ap}
 use Rattle.std.specs.Prelude.{find}
-use Rattle.std.specs.declared.cmp.Ordering.{Ordering}
-use Rattle.std.specs.declared.cmp.Ordering.TheVariants.{Less, Equal, Greater}
-use Rattle.std.specs.Ordering.{is_eq, ordering_then}
+use Rattle.std.specs.Ordering.{is_eq}
 use Rattle.std.specs.Str.{bytes_eq}
 use Rattle.std.proofs.lemmas.Map.Text.{is_eq-slice_cmp}
 use Rattle.std.proofs.lemmas.Option.{none-some}
 use Rattle.shared_map.specs.Cuts.{within}
 use Rattle.theory_ctx.specs.Facts.{Fact, is_called, fact_of, is_import, imported}
 use Rattle.theory_ctx.specs.Order.{by_bytes, to_name, to_fact}
-
-both_equal : (o p : Ordering) → is_eq (ordering_then o p) ≡ (is_eq p && is_eq o)
-both_equal Less Less = refl
-both_equal Less Equal = refl
-both_equal Less Greater = refl
-both_equal Equal Less = refl
-both_equal Equal Equal = refl
-both_equal Equal Greater = refl
-both_equal Greater Less = refl
-both_equal Greater Equal = refl
-both_equal Greater Greater = refl
+use Rattle.theory_ctx.proofs.KnownOrder.{both_equal}
 
 -- a fact lies within the cut of a name and a theory where it is called so
 called_by : (t n : List ℕ) (fact : Fact) → is_eq (to_fact t n fact.0) ≡ is_called t n fact

@@ -5,7 +5,7 @@ use Rattle.std.specs.List.{AllByRecursion}
 use Rattle.std.specs.Option.{option_map_or}
 use Rattle.std.proofs.lemmas.Bool.{false≢true}
 use Rattle.text_words.specs.Members.{has}
-use Rattle.text_words.proofs.KnownMembers.{has_middle}
+use Rattle.text_words.proofs.KnownMembers.{has_middle, has_other}
 use Rattle.doc_nodes.specs.declared.node.Node.{Node}
 use Rattle.doc_nodes.specs.Imports.{NodeList, order}
 use Rattle.exec_rules.specs.Kept.{BlobList}
@@ -16,7 +16,7 @@ use Rattle.isar_rules.specs.declared.state.State.{State}
 use Rattle.isar_rules.specs.Isar.{isar}
 use Rattle.theory_laws.specs.Imports.{AreCleanFrom}
 use Rattle.theory_laws.specs.Theories.{IsStatedFrom, IsTheoryOf}
-use Rattle.theory_laws.proofs.NodeRuns.{IsDone, AreDone, One, Order, among, all as all_of}
+use Rattle.theory_laws.proofs.NodeRuns.{IsDone, AreDone, One, Order, all as all_of}
 use Rattle.theory_laws.proofs.Handing.{new as new_of, new_run, new_just}
 
 module _ (nodes : NodeList) (blobs : BlobList) (laws : Order nodes) where
@@ -36,7 +36,7 @@ module _ (nodes : NodeList) (blobs : BlobList) (laws : Order nodes) where
       where
         here : (q : ℕ) (b : Bool) → (p == q) ≡ b → has (front ++ p ∷ []) q ≡ true → (one : One) × (cond b (Some new) (find (λ o. o.0 == q) runs) ≡ Some one)
         here q true e inside = (new, refl)
-        here q false e inside = done.there q (among front p q e inside)
+        here q false e inside = done.there q (has_other front p q e inside)
 
   one_done : (front rest : List ℕ) (p : ℕ) (runs : Runs State) → order nodes ≡ front ++ p ∷ rest → all ≡ run_all isar nodes blobs (p ∷ rest) runs → AreDone nodes blobs laws front runs
       → AreDone nodes blobs laws (front ++ p ∷ []) (run_one isar nodes blobs runs p)

@@ -1,8 +1,6 @@
 -- Facts that are found by their names, with more facts and with more.
 use Rattle.std.proofs.Common.{◌≡◌, ◌↔◌, ◌⊎◌, ℕ, zero, suc, ◌<◌, Bool, true, false, ◌&&◌, cond, List, [], ◌∷◌, ◌++◌, find, get_or, Contains, Option, Some, None, option_map, is_some, refl, sym, ap, ap₂, subst, ◌∙◌, inl, inr, ⊎_elim, arith}
-use Rattle.std.specs.declared.cmp.Ordering.{Ordering}
-use Rattle.std.specs.declared.cmp.Ordering.TheVariants.{Less, Equal, Greater}
-use Rattle.std.specs.Ordering.{is_eq, ordering_then}
+use Rattle.std.specs.Ordering.{is_eq}
 use Rattle.std.proofs.lemmas.Bool.{false≢true}
 use Rattle.std.proofs.lemmas.Cmp.{tied_itself}
 use Rattle.std.proofs.lemmas.List.Elements.{Contains-append_left, Contains-append_right, Contains-append_cases}
@@ -16,6 +14,7 @@ use Rattle.theory_ctx.specs.declared.fact_name.FactName.{FactName}
 use Rattle.theory_ctx.specs.Facts.{Fact, is_called, fact_of}
 use Rattle.theory_ctx.specs.Merged.{added}
 use Rattle.theory_ctx.specs.Order.{by_bytes, by_name, by_name_total}
+use Rattle.theory_ctx.proofs.KnownOrder.{both_equal}
 use Rattle.doc_nodes.proofs.KnownNames.{name_is}
 use Rattle.isar_rules.specs.declared.state.Theory.{Theory}
 use Rattle.isar_rules.specs.BlobLines.{Listed}
@@ -39,17 +38,6 @@ and_more node a xs b ys c one two fact f = (
   λ h. (two fact f).1 (⊎_elim (λ has. inl ((one fact f).1 (inl has)))
       (λ m. ⊎_elim (λ l. inl ((one fact f).1 (inr (m.0, l)))) (λ r. inr (m.0, r)) (Contains-append_cases xs ys (fact.name, f) m.1)) h),
 )
-
-both_equal : (o p : Ordering) → is_eq (ordering_then o p) ≡ (is_eq p && is_eq o)
-both_equal Less Less = refl
-both_equal Less Equal = refl
-both_equal Less Greater = refl
-both_equal Equal Less = refl
-both_equal Equal Equal = refl
-both_equal Equal Greater = refl
-both_equal Greater Less = refl
-both_equal Greater Equal = refl
-both_equal Greater Greater = refl
 
 abbrev pub key : List ℕ → List ℕ → FactName
 key node name = record { name = name; theory = node }

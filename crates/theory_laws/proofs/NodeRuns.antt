@@ -7,7 +7,7 @@ use Rattle.std.proofs.lemmas.Bool.{eq-eqb, eqb-true, or_cases, false≢true}
 use Rattle.std.proofs.lemmas.Option.{none-some, same_Some}
 use Rattle.text_words.specs.Members.{has}
 use Rattle.import_rounds.specs.Rounds.{is_known}
-use Rattle.text_words.proofs.KnownMembers.{has_both, has_left}
+use Rattle.text_words.proofs.KnownMembers.{has_left}
 use Rattle.nj_formula.specs.declared.formula.Formula.{Formula}
 use Rattle.theory_ctx.specs.declared.fact_name.FactName.{FactName}
 use Rattle.doc_nodes.specs.declared.node.Node.{Node}
@@ -46,17 +46,6 @@ found_one P q (first ∷ runs) one all e = go (first.0 == q) refl e (found_one P
         → (find (λ o. o.0 == q) runs ≡ Some one → (one.0 ≡ q) × P one) → (one.0 ≡ q) × P one
     go true is e rest = subst (λ o. (o.0 ≡ q) × P o) (same_Some first one e) (eqb-true first.0 q is, all.0)
     go false is e rest = rest e
-
-pub among : (front : List ℕ) (p q : ℕ) → (p == q) ≡ false → has (front ++ p ∷ []) q ≡ true → has front q ≡ true
-among front p q other is = go (or_cases (has front q) (has (p ∷ []) q) (sym (has_both front (p ∷ []) q) ∙ is))
-  where
-    last : ((q == p) ≡ true) ⊎ (false ≡ true) → has front q ≡ true
-    last (inl same) = absurd (false≢true (sym other ∙ eq-eqb p q (sym (eqb-true q p same))))
-    last (inr bad) = absurd (false≢true bad)
-
-    go : (has front q ≡ true) ⊎ (has (p ∷ []) q ≡ true) → has front q ≡ true
-    go (inl there) = there
-    go (inr here) = last (or_cases (q == p) false here)
 
 module _ (nodes : NodeList) (blobs : BlobList) (laws : Order nodes) where
   abbrev pub all : Runs State

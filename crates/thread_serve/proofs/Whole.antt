@@ -3,6 +3,7 @@ use Rattle.std.proofs.Common.{◌≡◌, ◌≢◌, ℕ, ◌≤◌, Bool, true, 
 use Rattle.std.specs.Io.KnownBytes.{Appends}
 use Rattle.pide_base.specs.Faults.{Rose}
 use Rattle.pide_base.specs.Moves.{AppendsFront}
+use Rattle.pide_base.proofs.Known.{front_more}
 use Rattle.pide_base.specs.declared.status.Status.{Status}
 use Rattle.pide_base.specs.declared.status.Status.TheVariants as status
 use Rattle.language.specs.Lang.{Lang}
@@ -25,10 +26,6 @@ use Rattle.thread_serve.proofs.Bytes.{JoinLaw}
 use Rattle.thread_serve.proofs.Composed.{Ends, ends_kept}
 use Rattle.thread_serve.proofs.Statuses.{kept_status}
 
--- a front of a front
-longer : (a b : Option (List ℕ)) (xs ys : List ℕ) → AppendsFront a b xs → AppendsFront a b (xs ++ ys)
-longer a b xs ys f = (f.0, f.1 ++ ys, ap (λ zs. zs ++ ys) f.2 ∙ append_assoc f.0 f.1 ys, f.3)
-
 module _ {S : Type 0} (l : Lang S) (held now then : Option (List ℕ)) (bytes : List ℕ) (s t : SessionState)
     (told : bytes ≡ sent_in l s.service s.items) (front : (rest : List ℕ) × (replies_in l s.service s.items ≡ sent_in l s.service s.items ++ rest)) where
   -- the writer wrote all that it was handed, and the rest is written too
@@ -49,7 +46,7 @@ module _ {S : Type 0} (l : Lang S) (held now then : Option (List ℕ)) (bytes : 
       let sent = subst (λ b. AppendsFront held b bytes) (sym stays) wrote in
       let so : AppendsFront held then (sent_in l s.service s.items) = subst (AppendsFront held then) told sent in
       let all : AppendsFront held then (replies_in l s.service s.items) = subst (AppendsFront held then) (sym front.1)
-      (longer held then (sent_in l s.service s.items) front.0 so) in
+      (front_more held then (sent_in l s.service s.items) front.0 so) in
       record {
         written = subst (λ (u : SessionState). AppendsFront held then (replies_in l u.service u.items)) (sym same) all;
         sent = subst (λ (u : SessionState). AppendsFront held then (sent_in l u.service u.items)) (sym same) so;

@@ -12,7 +12,8 @@ use Rattle.document_serve.proofs.At.{at_first}
 use Rattle.document_serve.proofs.HandedBack.{stays_short, part_fails, part_told, fewer_parts}
 use Rattle.document_serve.proofs.Short.{short}
 use Rattle.document_serve.proofs.Stepping.{answered}
-use Rattle.document_serve.proofs.Stops.{StopsAmong, counts_on, passed, short_before}
+use Rattle.message_input.proofs.KnownHalting.{passed}
+use Rattle.document_serve.proofs.Stops.{StopsAmong, counts_on, short_before}
 use Rattle.document_serve.proofs.Waiting.{may_after}
 use Rattle.document_serve.proofs.serving.serve_message.Goals as goal
 

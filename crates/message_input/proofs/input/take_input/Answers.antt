@@ -5,7 +5,7 @@ use Rattle.std.proofs.lemmas.List.{length-append, length-take}
 use Rattle.message_input.specs.Inputs.{IsHalted}
 use Rattle.message_input.specs.declared.answering.Halt.TheVariants as halt
 use Rattle.message_input.proofs.Ends.{halted_of, long_read}
-use Rattle.message_input.proofs.Halting.{nothing_read, passed}
+use Rattle.message_input.proofs.KnownHalting.{nothing_read, passed}
 use Rattle.message_input.proofs.Pulling.{keeps_first, step_ends, step_taken}
 use Rattle.message_input.proofs.input.take_input.Goals as goal
 

@@ -2,7 +2,7 @@
 use Rattle.std.proofs.Common.{◌++◌, length, take, arith}
 use Rattle.std.proofs.KnownBytes.{Consumes-kept}
 use Rattle.message_input.proofs.Ends.{bad_read, end_read, fault_read, halted_of}
-use Rattle.message_input.proofs.Halting.{passed}
+use Rattle.message_input.proofs.KnownHalting.{passed}
 use Rattle.message_input.proofs.Pulling.{pulled_more}
 use Rattle.message_input.proofs.input.take_piece.Goals as goal
 

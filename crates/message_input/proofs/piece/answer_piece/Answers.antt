@@ -1,7 +1,7 @@
 -- The piece is fed, and what it makes whole is answered.
 use Rattle.std.proofs.Common.{◌∙◌}
 use Rattle.message_input.specs.declared.answering.Halt.TheVariants as halt
-use Rattle.message_input.proofs.Halting.{passed, piece_bad, piece_halts, piece_on, unread}
+use Rattle.message_input.proofs.KnownHalting.{passed, piece_bad, piece_halts, piece_on, unread}
 use Rattle.message_input.proofs.piece.answer_piece.Goals as goal
 
 pub returns-in_err-fault-clause-err : goal.returns-in_err-fault-clause-err

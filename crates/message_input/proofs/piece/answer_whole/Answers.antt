@@ -1,7 +1,7 @@
 -- What halted the answer of one message halts all.
 use Rattle.std.proofs.Common.{◌∷◌, [], ◌++◌, ◌∙◌, sym, append_assoc}
 use Rattle.message_input.proofs.Decoding.{left_over, waiting_next}
-use Rattle.message_input.proofs.Halting.{halts_after, passed}
+use Rattle.message_input.proofs.KnownHalting.{halts_after, passed}
 use Rattle.message_input.proofs.piece.answer_whole.Goals as goal
 
 pub messages-preserved : goal.messages-preserved

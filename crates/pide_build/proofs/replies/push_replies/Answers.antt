@@ -5,7 +5,7 @@ use Rattle.pide_base.specs.Moves.{AppendsFront}
 use Rattle.pide_base.proofs.Known.{AppendsFront-after}
 use Rattle.reply_writing.specs.declared.told.Told.TheVariants as tells
 use Rattle.pide_build.specs.Replies.{spelled}
-use Rattle.pide_build.proofs.Written.{front_more}
+use Rattle.pide_base.proofs.Known.{front_more}
 use Rattle.pide_build.proofs.replies.push_replies.Goals as goal
 
 pub returns-in_err-push_nodes-clause-front : goal.returns-in_err-push_nodes-clause-front
