@@ -7,7 +7,7 @@ ghost use Rattle.hist_lock.specs.Calls.{May, Turned};
 ghost use Rattle.hist_lock.specs.Passes.{view, IsPassOf};
 ghost use Rattle.hist_lock.specs.Callers.{HasJoined, child, parent};
 
-use crate::news::Role;
+use crate::news::{News, Role};
 use crate::pass::Pass;
 use crate::rule::TICKETS;
 use crate::shared::Shared;
@@ -24,17 +24,77 @@ impl<S: State> Shared<S> {
         ensures turned { Turned S.entries S.whose S.legal (C.gives call) (view pass.old) result
             (view pass.new) }
     {
+        self.come_in(rt, pass);
+        let answer = self.turn_inside(rt, pass, call);
+        if pass.stays {
+            pass.stays = false;
+        } else {
+            self.go_out(pass);
+        }
+        answer
+    }
+
+    /// Comes in, and stays inside until the turn after the next one is over, so that no other
+    /// caller's turn comes between these two. Until then the caller is not to wait for another.
+    pub fn stay<R: Wait>(&self, rt: &R, pass: &mut Pass<S>)
+        requires own { IsPassOf self.now pass.old }
+        ensures own { IsPassOf self.now pass.new }
+        ensures same { view pass.new ≡ view pass.old }
+    {
+        self.come_in(rt, pass);
+        pass.stays = true;
+    }
+
+    // Comes in, unless the caller stayed inside.
+    fn come_in<R: Wait>(&self, rt: &R, pass: &mut Pass<S>)
+        requires own { IsPassOf self.now pass.old }
+        ensures own { IsPassOf self.now pass.new }
+        ensures same { view pass.new ≡ view pass.old }
+    {
+        if !pass.is_inside {
+            self.entrance.enter(rt);
+            pass.is_inside = true;
+        }
+    }
+
+    // Goes out, and tells those for whom there is news. Whoever has heard it looks at the count of
+    // entries after that, and so sees the entry.
+    fn go_out(&self, pass: &mut Pass<S>)
+        requires own { IsPassOf self.now pass.old }
+        ensures own { IsPassOf self.now pass.new }
+        ensures same { view pass.new ≡ view pass.old }
+    {
+        if pass.is_inside {
+            self.entrance.leave();
+            pass.is_inside = false;
+            self.listeners.tell(pass.news);
+            pass.news = News::for_none();
+        }
+    }
+
+    fn turn_inside<R: Wait, C: Turn<S>>(&self, rt: &R, pass: &mut Pass<S>, call: C) -> C::Answer
+        requires own { IsPassOf self.now pass.old }
+        requires may { May S.entries S.whose S.legal (C.asks call) (C.gives call) (view pass.old) }
+        ensures own { IsPassOf self.now pass.new }
+        ensures turned { Turned S.entries S.whose S.legal (C.gives call) (view pass.old) result
+            (view pass.new) }
+    {
         let Pass {
             place,
             count,
             role,
             heard,
+            news,
+            ..
         } = pass;
         let mut state = self.enter(rt, place);
         let before = state.count();
         let answer = call.run(&mut state);
         let after = state.count();
         *heard = self.listeners.of(*role).now();
+        if before < after {
+            *news = news.and(state.news());
+        }
         self.leave(place, state, before < after);
         *count = after;
         answer
@@ -53,11 +113,13 @@ impl<S: State> Shared<S> {
             ≡ (view pass.new).mine }
         ensures rest { SeesMore (view pass.old) (view pass.new) }
     {
+        self.go_out(pass);
         let Pass {
             place,
             count,
             role,
             heard,
+            ..
         } = pass;
         *count = self.watch(rt, place, *count, *role, *heard);
     }
@@ -78,6 +140,9 @@ impl<S: State> Shared<S> {
             count: *count,
             role,
             heard: 0,
+            is_inside: false,
+            stays: false,
+            news: News::for_none(),
         }
     }
 

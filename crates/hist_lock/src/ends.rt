@@ -5,15 +5,15 @@ ghost use Rattle.hist_lock.specs.Known.{Fits};
 ghost use Rattle.hist_lock.specs.Passes.{view, IsPassOf};
 ghost use Rattle.hist_lock.specs.Callers.{AllJoined, HasNoOther, HasTheirs, first_view};
 
+use crate::entrance::Entrance;
 use crate::listeners::Listeners;
-use crate::news::Role;
+use crate::news::{News, Role};
 use crate::pass::Pass;
 use crate::shared::Shared;
 use crate::state::State;
 use atomic_table::{Refused, Table};
 use std::alloc::{AllocFailed, Global};
 use std::snapshot::Snapshot;
-use std::sync::atomic::AtomicU64;
 
 impl<S: State> Shared<S> {
     /// A lock round a state whose entries are all caller 0's, and the pass of caller 0, the reader.
@@ -38,7 +38,7 @@ impl<S: State> Shared<S> {
             Ok((table, place)) => {
                 let shared = Shared {
                     table,
-                    parked: AtomicU64::new(0),
+                    entrance: Entrance::new(),
                     listeners: Listeners::new(),
                 };
                 let pass = Pass {
@@ -46,6 +46,9 @@ impl<S: State> Shared<S> {
                     count,
                     role: Role::Reader,
                     heard: 0,
+                    is_inside: false,
+                    stays: false,
+                    news: News::for_none(),
                 };
                 Ok((shared, pass))
             }

@@ -5,14 +5,16 @@ use std::hint::spin_loop;
 use std::sync::Wait;
 use std::sync::atomic::{AtomicU64, Ordering};
 
-/// So many looks are taken before a caller parks: they take about as long as to be woken does.
-pub(crate) const LOOKS: u32 = 1000;
+/// So many looks are taken before a caller parks: they take about as long as a small part.
+const LOOKS: u32 = 500;
 
 /// How often there was news, and how many callers park until there is more.
 #[derive(Drop)]
 pub(crate) struct EventCount {
     count: AtomicU64,
-    /// Those who are about to park are counted too.
+    /// How many callers look at it.
+    looking: AtomicU64,
+    /// How many park. Those who are about to park are counted too.
     parked: AtomicU64,
 }
 
@@ -20,6 +22,7 @@ impl EventCount {
     pub(crate) fn new() -> EventCount {
         EventCount {
             count: AtomicU64::new(0),
+            looking: AtomicU64::new(0),
             parked: AtomicU64::new(0),
         }
     }
@@ -31,6 +34,13 @@ impl EventCount {
 
     /// Whether the count soon is another than the one that was heard.
     fn changes_soon(&self, heard: u64) -> bool {
+        self.looking.fetch_add(1, Ordering::SeqCst);
+        let changes = self.is_seen_to_change(heard);
+        self.looking.fetch_sub(1, Ordering::SeqCst);
+        changes
+    }
+
+    fn is_seen_to_change(&self, heard: u64) -> bool {
         for _ in 0..LOOKS {
             if self.now() != heard {
                 return true;
@@ -54,16 +64,20 @@ impl EventCount {
         self.now()
     }
 
-    /// Counts news, and wakes so many of those who park, or all where they are no more.
-    pub(crate) fn tell(&self, most: u32) {
+    /// Counts news for so many, and tells whether anybody hears it: those who look do, and as many
+    /// as lack are woken of those who park.
+    pub(crate) fn tell(&self, most: u32) -> bool {
         self.count.fetch_add(1, Ordering::SeqCst);
+        let looking = self.looking.load(Ordering::SeqCst);
+        let most = u64::from(most).saturating_sub(looking);
         let parked = self.parked.load(Ordering::SeqCst);
-        if parked > most as u64 {
+        if parked > most {
             for _ in 0..most {
                 self.count.wake_one();
             }
         } else if parked != 0 {
             self.count.wake_all();
         }
+        looking != 0 || parked != 0
     }
 }

@@ -9,6 +9,7 @@
 
 mod calls;
 mod ends;
+mod entrance;
 mod event_count;
 mod listeners;
 mod news;

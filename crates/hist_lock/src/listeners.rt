@@ -28,21 +28,19 @@ impl Listeners {
         }
     }
 
-    /// Tells those for whom it is news.
+    /// Tells those for whom it is news. What no worker hears is told to the reader.
     pub(crate) fn tell(&self, news: News) {
         let News {
             reader,
             writer,
             workers,
         } = news;
-        if reader {
+        let is_heard = workers == 0 || self.workers.tell(workers);
+        if reader || !is_heard {
             self.reader.tell(u32::MAX);
         }
         if writer {
             self.writer.tell(u32::MAX);
-        }
-        if workers != 0 {
-            self.workers.tell(workers);
         }
     }
 }

@@ -19,11 +19,30 @@ pub struct News {
     pub reader: bool,
     /// Whether it is for the writer.
     pub writer: bool,
-    /// For how many workers it is.
+    /// For how many workers it is: something is to be done that one of them can do, or the reader
+    /// where none of them waits.
     pub workers: u32,
 }
 
 impl News {
+    /// News for nobody.
+    pub(crate) fn for_none() -> News {
+        News {
+            reader: false,
+            writer: false,
+            workers: 0,
+        }
+    }
+
+    /// This and other news.
+    pub(crate) fn and(self, other: News) -> News {
+        News {
+            reader: self.reader || other.reader,
+            writer: self.writer || other.writer,
+            workers: self.workers.saturating_add(other.workers),
+        }
+    }
+
     /// News for every caller.
     pub fn for_all() -> News {
         News {

@@ -9,15 +9,13 @@ ghost use Rattle.hist_lock.specs.Steps.{Carries, CarriesMore, CarriesSeen, HasSe
 ghost use Rattle.hist_lock.specs.Steps.{SeesEntry, SeesList, TakesTicket, TakesTurn, seeing, staged};
 ghost use Rattle.hist_lock.specs.declared.view.Stage.TheVariants.{Idle};
 
-use crate::event_count::LOOKS;
-use crate::news::{News, Role};
+use crate::news::Role;
 use crate::rule::{ENTRIES, Place, SERVED, TICKETS};
 use crate::shared::Shared;
 use crate::state::State;
 use crate::steps::{Append, Draw, Look, PassOn, Watch};
 use std::hint::spin_loop;
 use std::sync::Wait;
-use std::sync::atomic::Ordering;
 
 /// The low half of a word, on which threads park.
 pub(crate) fn low_half(word: u64) -> u32
@@ -36,37 +34,18 @@ impl<S: State> Shared<S> {
         self.table.shared.fetch_add::<Draw>(place, TICKETS, 1)
     }
 
-    // Looks for a while whether this ticket is served.
-    fn look_for_turn(&self, ticket: u64) {
-        for _ in 0..LOOKS {
-            if self.table.shared.peek(SERVED) == ticket {
-                return;
-            }
-            spin_loop();
-        }
-    }
-
-    // Parks while this ticket is served. To park is to look once more, after `parked` was raised:
-    // whoever passes the turn on after that look finds `parked` raised.
-    fn park_for_turn<R: Wait>(&self, rt: &R, served: u64) {
-        self.parked.fetch_add(1, Ordering::SeqCst);
-        self.table.shared.park(rt, SERVED, low_half(served));
-        self.parked.fetch_sub(1, Ordering::SeqCst);
-    }
-
     fn wait_turn<R: Wait>(&self, rt: &R, place: &mut Place<S>, ticket: u64)
         requires own { IsSeatOf self.now place.old }
         requires waits { HasTicket place.old.me ticket }
         ensures own { IsSameSeat place.old place.new }
         ensures turn { TakesTurn S.entries S.whose S.legal place.old.me place.new.me }
     {
-        self.look_for_turn(ticket);
         for _ in rt.forever() {
             let served = self.table.shared.load::<Look<S>>(place, SERVED);
             if served == ticket {
                 return;
             }
-            self.park_for_turn(rt, served);
+            spin_loop();
         }
         unreachable!()
     }
@@ -92,9 +71,8 @@ impl<S: State> Shared<S> {
         let None = left else { unreachable!() };
     }
 
-    // The entry that the call made is appended, and those are told for whom it is news. Whoever has
-    // heard the news looks at the count of entries after that, and so sees the entry.
-    fn append(&self, place: &mut Place<S>, news: News)
+    // The entry that the call made is appended.
+    fn append(&self, place: &mut Place<S>)
         requires own { IsSeatOf self.now place.old }
         requires turn { HasTurn place.old.me }
         requires adds { CarriesMore S.entries S.whose S.legal place.old.me }
@@ -102,14 +80,6 @@ impl<S: State> Shared<S> {
         ensures appended { SeesEntry S.entries S.whose S.legal place.old.me place.new.me }
     {
         self.table.shared.fetch_add::<Append<S>>(place, ENTRIES, 1);
-        self.listeners.tell(news);
-    }
-
-    // Wakes those who park until their turn.
-    fn wake_next(&self) {
-        if self.parked.load(Ordering::SeqCst) != 0 {
-            self.table.shared.wake_all(SERVED);
-        }
     }
 
     fn pass_on(&self, place: &mut Place<S>)
@@ -120,7 +90,6 @@ impl<S: State> Shared<S> {
         ensures passed { place.new.me ≡ (staged place.old.me.0 Idle, []) }
     {
         self.table.shared.fetch_add::<PassOn>(place, SERVED, 1);
-        self.wake_next();
     }
 
     /// Waits for the turn, and takes the state.
@@ -150,10 +119,9 @@ impl<S: State> Shared<S> {
             ≡ (staged (seeing S.entries S.whose S.legal place.old.me.0 state) Idle, []) }
         ensures kept { IsFalse adds → place.new.me ≡ (staged place.old.me.0 Idle, []) }
     {
-        let news = state.news();
         self.put(place, state);
         if adds {
-            self.append(place, news);
+            self.append(place);
         }
         self.pass_on(place);
     }
