@@ -50,6 +50,7 @@ pub(crate) fn run_once<S: State, W: Work<S>, R: Wait, G: Gate>(
     match worker.run(alloc, job, &mut stop) {
         Ran::Done(done) => {
             gate.at(who, before_finish);
+            lock.stay(rt, pass);
             worker.finish(rt, lock, pass, who, done);
             Attempt::Over
         }
