@@ -1,5 +1,6 @@
 //! What a session came to, for callers that look at it.
 ghost use Rattle.std.specs.Prelude.{◌≡◌, IfOk};
+ghost use Rattle.core_rules.specs.Ready.{first_ready};
 ghost use Rattle.prover_core.specs.Results.{AreResults};
 ghost use Rattle.session_rules.specs.Session.{document};
 ghost use Rattle.session_states.specs.lists_below.Items.{session_in};
@@ -9,7 +10,7 @@ use doc_versions::Live;
 use exec_lists::NodeResults;
 use exec_rules::Version;
 use language::Language;
-use pide_base::{NodeName, VersionId};
+use pide_base::{NodeName, Part, VersionId};
 use reply_outbox::Past;
 use session_rules::{Entry, Service};
 use std::alloc::AllocError;
@@ -21,6 +22,14 @@ impl<L: Language, P: Past<Service, Entry> + Drop> Session<L, P> {
             self.now.items)).live }
     {
         self.core.live()
+    }
+
+    /// The first ready part: None exactly where none is ready.
+    pub fn first(&self) -> Option<Part>
+        ensures { result ≡ first_ready L.lang (session_in L.lang self.now.service
+            self.now.items).events }
+    {
+        self.core.first()
     }
 
     /// What came of a node of a live version so far: None exactly where no such version is live, or
