@@ -6,7 +6,6 @@ ghost use Rattle.thread_views.specs.Callers.{service_of, worker_count};
 ghost use Rattle.thread_views.specs.Histories.{IsLegalLog};
 ghost use Rattle.session_turns.specs.Working.{ClaimsSo};
 
-use crate::listening::news_of_claim;
 use crate::locked::Locked;
 use document_session::Claim;
 use document_session::jobs_below::SessionJob;
@@ -88,7 +87,8 @@ impl<'a, L: Language, P: Past<Service, Entry> + Drop> Turn<Locked<L, P>> for Cla
 
     fn run(self, state: &mut Locked<L, P>) -> Claiming<L::State> {
         let ClaimTurn { alloc, lang, who } = self;
-        state.note(news_of_claim());
-        state.claim(alloc, lang, who)
+        let claiming = state.claim(alloc, lang, who);
+        state.note_claim(matches!(claiming, Claiming::Job { .. }));
+        claiming
     }
 }

@@ -7,7 +7,6 @@ ghost use Rattle.document_session.specs.Answers.{FinishedSo, GivenUpSo};
 ghost use Rattle.thread_views.specs.Callers.{service_of, worker_count};
 ghost use Rattle.thread_views.specs.Histories.{IsLegalLog, session_after};
 
-use crate::listening::news_of_end;
 use crate::locked::Locked;
 use document_session::jobs_below::{SessionDone, SessionJob};
 use document_session::{Finish, GiveUp};
@@ -63,8 +62,9 @@ impl<L: Language, P: Past<Service, Entry> + Drop> Turn<Locked<L, P>> for FinishT
 
     fn run(self, state: &mut Locked<L, P>) -> Finish {
         let FinishTurn { who, done } = self;
-        state.note(news_of_end(who));
-        state.finish(who, done)
+        let finish = state.finish(who, done);
+        state.note_end(who, true);
+        finish
     }
 }
 
@@ -86,7 +86,8 @@ impl<L: Language, P: Past<Service, Entry> + Drop> Turn<Locked<L, P>> for GiveUpT
 
     fn run(self, state: &mut Locked<L, P>) -> GiveUp<L::State> {
         let GiveUpTurn { who, job } = self;
-        state.note(news_of_end(who));
-        state.give_up(who, job)
+        let given_up = state.give_up(who, job);
+        state.note_end(who, matches!(given_up, GiveUp::Dropped));
+        given_up
     }
 }

@@ -1,38 +1,98 @@
 //! For whom each item is news; whoever waits and isn't named goes on waiting.
 //!
 //! One worker is enough, however many parts are ready: a worker that is woken claims next, and its
-//! claim is news for one worker more. Only where a claim finds nothing does a worker wait.
+//! claim is news for one worker more, where another part is ready. Only where a claim finds nothing
+//! does a worker wait.
+ghost use Rattle.std.specs.Prelude.{◌≡◌};
+
+use crate::locked::Locked;
 use hist_lock::News;
+use language::Language;
+use reply_outbox::Past;
+use session_rules::{Entry, Service};
 
 /// The reader's number.
 const READER: u32 = 0;
 
-/// A part is claimed: another may be ready.
-pub(crate) fn news_of_claim() -> News {
-    News {
-        reader: false,
-        writer: false,
-        workers: 1,
+impl<L: Language, P: Past<Service, Entry> + Drop> Locked<L, P> {
+    /// For how many workers it is news that parts may be ready.
+    fn workers_for_ready(&self) -> u32 {
+        u32::from(self.session.first().is_some())
     }
-}
 
-/// A message was taken: it has replies, and parts may be ready.
-pub(crate) fn news_of_message() -> News {
-    News {
-        reader: false,
-        writer: true,
-        workers: 1,
+    /// Whether an end may be what the reader waits for. Where one version is live, and each part
+    /// that is held was claimed for it, that version isn't settled before all of them are ended.
+    fn may_settle(&self) -> bool {
+        let is_sure = self.holds_wanted && self.session.live().len() == 1;
+        !is_sure || (self.held == 0 && self.session.first().is_none())
     }
-}
 
-/// A part is finished or dropped, which may be replied: a version may be settled, and other parts
-/// ready. A worker claims next itself, but the reader may have its message answered instead.
-pub(crate) fn news_of_end(who: u32) -> News {
-    let workers = if who == READER { 1 } else { 0 };
-    News {
-        reader: true,
-        writer: true,
-        workers,
+    /// A part is claimed: another may be ready.
+    fn news_of_claim(&self) -> News {
+        News {
+            reader: false,
+            writer: false,
+            workers: self.workers_for_ready(),
+        }
+    }
+
+    /// A message was taken: it has replies, and parts may be ready.
+    fn news_of_message(&self) -> News {
+        News {
+            reader: false,
+            writer: true,
+            workers: self.workers_for_ready(),
+        }
+    }
+
+    /// A part is finished or dropped, which may be replied: a version may be settled, and other
+    /// parts ready. A worker claims next itself, but the reader may have its message answered
+    /// instead.
+    fn news_of_end(&self, who: u32) -> News {
+        let workers = if who == READER {
+            self.workers_for_ready()
+        } else {
+            0
+        };
+        News {
+            reader: self.may_settle(),
+            writer: true,
+            workers,
+        }
+    }
+
+    /// Notes whether a part was claimed.
+    pub(crate) fn note_claim(&mut self, is_claimed: bool)
+        ensures { self.new ≡ self.old }
+    {
+        if !is_claimed {
+            return;
+        }
+        self.held = self.held.saturating_add(1);
+        self.news = self.news_of_claim();
+    }
+
+    /// Notes whether this caller's part was finished or dropped.
+    pub(crate) fn note_end(&mut self, who: u32, is_ended: bool)
+        ensures { self.new ≡ self.old }
+    {
+        if !is_ended {
+            return;
+        }
+        self.held = self.held.saturating_sub(1);
+        self.holds_wanted = self.holds_wanted || self.held == 0;
+        self.news = self.news_of_end(who);
+    }
+
+    /// Notes whether a message was answered, by which parts that are held may be wanted no more.
+    pub(crate) fn note_message(&mut self, is_answered: bool)
+        ensures { self.new ≡ self.old }
+    {
+        if !is_answered {
+            return;
+        }
+        self.holds_wanted = self.held == 0;
+        self.news = self.news_of_message();
     }
 }
 

@@ -19,8 +19,12 @@ use thread_views::list_law;
 #[derive(Drop)]
 pub struct Locked<L: Language, P: Past<Service, Entry>> {
     pub(crate) session: Session<L, P>,
-    /// For whom the item is news that came last. No contract speaks of it.
+    /// For whom the item is news that came last. No contract speaks of it, nor of what follows.
     pub(crate) news: News,
+    /// How many parts are held.
+    pub(crate) held: usize,
+    /// Whether each of them was claimed behind the last message.
+    pub(crate) holds_wanted: bool,
 }
 
 impl<L: Language, P: Past<Service, Entry>> Model for Locked<L, P> {
@@ -51,6 +55,8 @@ impl<L: Language, P: Past<Service, Entry> + Drop> Locked<L, P> {
         Locked {
             session,
             news: News::for_all(),
+            held: 0,
+            holds_wanted: true,
         }
     }
 

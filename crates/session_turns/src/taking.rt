@@ -6,7 +6,6 @@ ghost use Rattle.session_turns.specs.Ends.{IsGoing};
 ghost use Rattle.session_turns.specs.Room.{is_backed_up};
 ghost use Rattle.session_turns.specs.Working.{AnswersSo, MustWait, TakesSo};
 
-use crate::listening::news_of_message;
 use crate::locked::Locked;
 use byte_message::Message;
 use document_session::{Claim, Taken};
@@ -113,7 +112,17 @@ impl<'a, L: Language, P: Past<Service, Entry> + Drop> Turn<Locked<L, P>> for Tak
             lang,
             message,
         } = self;
-        state.note(news_of_message());
-        state.take(alloc, lang, message)
+        let taking = state.take(alloc, lang, message);
+        state.note_message(matches!(taking, Taking::Replied));
+        state.note_claim(claims(&taking));
+        taking
+    }
+}
+
+/// Whether the reader claimed a part.
+fn claims<S>(taking: &Taking<S>) -> bool {
+    match taking {
+        Taking::Waits { claim, .. } => matches!(claim, Claim::Job { .. }),
+        _ => false,
     }
 }
