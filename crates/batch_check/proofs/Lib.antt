@@ -1,2 +1,4 @@
+mod Handing
+pub mod KnownBegins
 pub mod KnownCut
 mod Making

@@ -11,9 +11,9 @@ use Rattle.language.specs.Lang.{Lang}
 use Rattle.core_rules.specs.Scratch.{Runs, begins_at, final, imports_run, run_node}
 use Rattle.node_check.specs.declared.commands.NodeRun.{NodeRun}
 use Rattle.node_check.specs.Nodes.{cut_under, reports_of}
-use Rattle.node_starts.specs.Handed.{AreBehind}
+use Rattle.batch_check.specs.Handed.{AreBehind}
 use Rattle.doc_nodes.proofs.KnownHeads.{along}
-use Rattle.node_starts.proofs.KnownBegins.{begins_head}
+use Rattle.batch_check.proofs.KnownBegins.{begins_head}
 use Rattle.batch_check.specs.declared.telling.BuiltNode.{BuiltNode}
 use Rattle.batch_check.specs.declared.telling.Checked.{Checked}
 use Rattle.batch_check.specs.Cutting.{AreUncut, cut_all}

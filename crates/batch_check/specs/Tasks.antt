@@ -11,7 +11,7 @@ use Rattle.doc_nodes.specs.Imports.{NodeList}
 use Rattle.language.specs.Lang.{Lang}
 use Rattle.core_rules.specs.Scratch.{Run, Runs, begins_at, final, run_node}
 use Rattle.node_check.specs.Nodes.{reports_of}
-use Rattle.node_starts.specs.Handed.{AreBehind}
+use Rattle.batch_check.specs.Handed.{AreBehind}
 use Rattle.batch_check.specs.declared.telling.BuiltNode.{BuiltNode}
 use Rattle.batch_check.specs.declared.telling.Checked.{Checked}
 use Rattle.batch_check.specs.Cutting.{AreUncut}

@@ -5,13 +5,13 @@ ghost use Rattle.task_round.specs.Rounds.{AreMade};
 ghost use Rattle.batch_check.specs.Cutting.{cut_all};
 ghost use Rattle.batch_check.specs.Tasks.{IsReady, MakesSo};
 
+use crate::starting::{Before, begin};
 use crate::telling::{BuiltNode, Checked, Telling};
 use buffer_laws::places_law;
 use buffer_rules::ids_law;
 use joined_results::both;
 use language::Language;
 use node_check::{NodeRun, check_node};
-use node_starts::{Before, begin};
 use pide_base::{ExecId, Gate, Part, PartKind, Point};
 use sqlite_items::Items;
 use std::alloc::{AllocError, Global};

@@ -15,7 +15,7 @@ use Rattle.doc_nodes.specs.Imports.{NodeList, aims, aims_of, is_bad, is_ordered,
 use Rattle.exec_rules.specs.Kept.{BlobList}
 use Rattle.language.specs.Lang.{Lang}
 use Rattle.core_rules.specs.Scratch.{Runs, begins_at, run_all, run_node, run_one, scratch}
-use Rattle.import_batches.specs.Batches.{AreBatches}
+use Rattle.batch_runs.specs.Batches.{AreBatches}
 use Rattle.batch_runs.specs.Running.{run_batch, run_batches, run_beside}
 use Rattle.batch_runs.proofs.Beside.{AreAlike, begins_alike, done_at, done_beside}
 

@@ -1,2 +1,6 @@
+mod Rounds
+mod Cuts
+mod Joined
+mod Steps
 mod Beside
 mod Batch

@@ -4,7 +4,7 @@ ghost use Rattle.std.specs.Prelude.{◌≡◌, ℕ, [], List};
 ghost use Rattle.doc_nodes.specs.Imports.{NodeList};
 ghost use Rattle.exec_rules.specs.Kept.{BlobList};
 ghost use Rattle.core_rules.specs.Scratch.{scratch};
-ghost use Rattle.import_batches.specs.Batches.{AreBatches};
+ghost use Rattle.batch_runs.specs.Batches.{AreBatches};
 ghost use Rattle.batch_runs.specs.Running.{run_batches};
 
 use doc_nodes::order_law;
@@ -18,5 +18,5 @@ pub fn scratch_law<L: Language>()
         → run_batches L.lang nodes blobs batches [] ≡ scratch L.lang nodes blobs }
 {
     order_law();
-    import_batches::batches_law();
+    crate::order_law::batches_law();
 }

@@ -5,12 +5,12 @@ use Rattle.std.proofs.lemmas.List.{length-map}
 use Rattle.std.specs.Prelude.{if◌then◌else◌, nat_lt}
 use Rattle.std.specs.List.{AllByRecursion, list_any}
 use Rattle.pide_base.specs.Ids.{id_end}
-use Rattle.doc_limits.specs.Limits.{most_nodes, most_scalars}
+use Rattle.pide_base.specs.Limits.{most_nodes, most_scalars}
 use Rattle.shared_map.specs.Pairs.{IsSorted}
 use Rattle.doc_nodes.specs.Names.{in_order}
 use Rattle.doc_nodes.specs.Aliases.{aliases_at}
 use Rattle.doc_nodes.specs.Imports.{NodeList}
-use Rattle.exec_rules.specs.Assigning.{greater}
+use Rattle.core_rules.specs.exec_rules_below.Assigning.{greater}
 use Rattle.core_rules.specs.Assigned.{command_ids}
 use Rattle.core_rules.specs.Doc.{Doc, greatest, assignment_of, updated}
 use Rattle.core_rules.specs.Updates.{AllDiffer, AreRising, FitsUpdate}

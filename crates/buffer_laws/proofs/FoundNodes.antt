@@ -12,7 +12,7 @@ use Rattle.doc_nodes.specs.declared.node.Entry.{Entry}
 use Rattle.doc_nodes.specs.declared.node.Node.{Node}
 use Rattle.doc_nodes.specs.Names.{in_order, equal}
 use Rattle.doc_nodes.specs.Imports.{NodeList, place_of}
-use Rattle.exec_rules.specs.declared.version.Version.{Version}
+use Rattle.core_rules.specs.exec_rules_below.declared.version.Version.{Version}
 use Rattle.core_rules.specs.Assigned.{command_ids}
 use Rattle.core_rules.specs.Updates.{AllDiffer, node_in}
 use Rattle.core_rules.proofs.KnownCommands.{differ_front, differ_back}

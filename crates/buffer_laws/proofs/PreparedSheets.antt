@@ -5,16 +5,16 @@ use Rattle.std.specs.Option.{option_map_or}
 use Rattle.std.specs.Cmp.Lexicographic.{nat_list_cmp_total}
 use Rattle.std.specs.declared.cmp.Ordering.TheVariants.{Less}
 use Rattle.pide_base.specs.Ids.{id_end}
-use Rattle.doc_limits.specs.Limits.{most_live}
+use Rattle.pide_base.specs.Limits.{most_live}
 use Rattle.shared_map.specs.Pairs.{IsSorted, Each, found}
 use Rattle.shared_map.specs.Changes.{put, without}
 use Rattle.shared_map.proofs.KnownSorted.{IsSorted-put, IsSorted-without}
 use Rattle.doc_nodes.specs.Names.{in_order}
-use Rattle.message_values.specs.declared.item.Change.{Change}
-use Rattle.message_values.specs.declared.item.Change.TheVariants as change
-use Rattle.message_values.specs.declared.item.Item.{Item}
-use Rattle.message_values.specs.declared.refusal.Refusal.{Refusal}
-use Rattle.message_values.specs.declared.refusal.Refusal.TheVariants.{NodeTwice, UnknownNode, Limit}
+use Rattle.buffer_rules.specs.message_values_below.declared.item.Change.{Change}
+use Rattle.buffer_rules.specs.message_values_below.declared.item.Change.TheVariants as change
+use Rattle.buffer_rules.specs.message_values_below.declared.item.Item.{Item}
+use Rattle.buffer_rules.specs.message_values_below.declared.refusal.Refusal.{Refusal}
+use Rattle.buffer_rules.specs.message_values_below.declared.refusal.Refusal.TheVariants.{NodeTwice, UnknownNode, Limit}
 use Rattle.buffer_rules.specs.declared.sheet.Document.{Document}
 use Rattle.buffer_rules.specs.declared.sheet.Sheet.{Sheet}
 use Rattle.buffer_rules.specs.Trying.{◌>>=◌, steps}

@@ -9,3 +9,4 @@ pub mod Preparing
 pub mod Examples
 pub mod Worked
 pub mod Refused
+pub use Rattle.message_values.specs as message_values_below

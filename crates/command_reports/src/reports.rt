@@ -7,10 +7,10 @@ ghost use Rattle.isar_rules.specs.Cites.{meant_by};
 ghost use Rattle.isar_rules.specs.Reports.{theory_report, import_report, def_report, local_report, formula_report};
 
 use crate::texts::{ascii, plain, shared};
-use formula_texts::formula_text;
 use isar_rules::Spot;
 use itoa::Buffer;
 use nj_formula::{Formula, Name};
+use nj_print::formula_text;
 use outer_tokens::{Kind, Token, scalars};
 use pide_base::Range;
 use report_markup::{PlainText, Property, PropertyKey, Report, ReportKind};

@@ -1,8 +1,8 @@
 -- Jobs and what comes of them, among executions (this project's own).
 use Rattle.std.specs.Prelude.{◌≡◌, List, Some}
 use Rattle.std.specs.Option.{option_map}
-use Rattle.exec_rules.specs.declared.home.Home.{Home}
-use Rattle.language.specs.Lang.{Lang}
+use Rattle.core_rules.specs.exec_rules_below.declared.home.Home.{Home}
+use Rattle.core_rules.specs.language_below.Lang.{Lang}
 use Rattle.core_rules.specs.Settings.{setting}
 use Rattle.core_jobs.specs.declared.done.Done.{Done}
 use Rattle.core_jobs.specs.Jobs.{JobContent, setting_of}

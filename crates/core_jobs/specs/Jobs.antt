@@ -1,7 +1,7 @@
 -- What jobs work on (this project's own).
 use Rattle.std.specs.Prelude.{ℕ, List, Option}
 use Rattle.pide_base.specs.declared.part.Part.{Part}
-use Rattle.language.specs.Lang.{Lang}
+use Rattle.core_rules.specs.language_below.Lang.{Lang}
 use Rattle.core_rules.specs.Settings.{Setting}
 use Rattle.core_jobs.specs.declared.input.Input.{Input}
 use Rattle.core_jobs.specs.declared.input.Input.TheVariants.{State, Start}

@@ -3,8 +3,8 @@ use Rattle.std.specs.Prelude.{◌≡◌, ⊤, ℕ}
 use Rattle.pide_base.specs.Questions.{risen_by, IsAskedUpTo}
 use Rattle.pide_base.specs.declared.part.PartKind.{PartKind}
 use Rattle.pide_base.specs.declared.part.PartKind.TheVariants as kind
-use Rattle.language.specs.Lang.{Lang}
-use Rattle.language.specs.Questions.{Questions}
+use Rattle.core_rules.specs.language_below.Lang.{Lang}
+use Rattle.core_rules.specs.language_below.Questions.{Questions}
 use Rattle.core_rules.specs.Settings.{Setting}
 use Rattle.core_jobs.specs.declared.ran.Ran.{Ran}
 use Rattle.core_jobs.specs.declared.ran.Ran.TheVariants as ran

@@ -4,9 +4,9 @@ use Rattle.pide_base.specs.Faults.{Rose}
 use Rattle.pide_base.specs.declared.part.Part.{Part}
 use Rattle.pide_base.specs.declared.part.PartKind.{PartKind}
 use Rattle.pide_base.specs.declared.part.PartKind.TheVariants as kind
-use Rattle.language.specs.declared.answer.Answer.{Answer}
-use Rattle.language.specs.declared.answer.Answer.TheVariants as answer
-use Rattle.language.specs.Lang.{Lang}
+use Rattle.core_rules.specs.language_below.declared.answer.Answer.{Answer}
+use Rattle.core_rules.specs.language_below.declared.answer.Answer.TheVariants as answer
+use Rattle.core_rules.specs.language_below.Lang.{Lang}
 use Rattle.core_rules.specs.Settings.{Setting, made_of}
 use Rattle.core_rules.specs.Parts.{reports_in}
 use Rattle.core_jobs.specs.declared.done.Done.{Done}

@@ -3,13 +3,13 @@ use Rattle.std.specs.Prelude.{◌≡◌, ℕ, true, List, [], ◌∷◌, codes, 
 use Rattle.pide_base.specs.declared.part.PartKind.{PartKind}
 use Rattle.pide_base.specs.declared.part.PartKind.TheVariants as kind
 use Rattle.report_markup.specs.declared.kind.ReportKind.TheVariants as report
-use Rattle.doc_nodes.specs.Aliases.{no_aliases}
-use Rattle.exec_rules.specs.declared.key.Key.TheVariants.{Lasts}
-use Rattle.exec_rules.specs.declared.key.Last.TheVariants.{Made}
-use Rattle.exec_rules.specs.declared.home.Home.{Home}
-use Rattle.exec_rules.specs.declared.home.Head.{Head}
-use Rattle.exec_rules.specs.declared.home.Input.TheVariants as home
-use Rattle.language.specs.declared.made.Imports.TheVariants.{Ordered}
+use Rattle.core_rules.specs.doc_nodes_below.Aliases.{no_aliases}
+use Rattle.core_rules.specs.exec_rules_below.declared.key.Key.TheVariants.{Lasts}
+use Rattle.core_rules.specs.exec_rules_below.declared.key.Last.TheVariants.{Made}
+use Rattle.core_rules.specs.exec_rules_below.declared.home.Home.{Home}
+use Rattle.core_rules.specs.exec_rules_below.declared.home.Head.{Head}
+use Rattle.core_rules.specs.exec_rules_below.declared.home.Input.TheVariants as home
+use Rattle.core_rules.specs.language_below.declared.made.Imports.TheVariants.{Ordered}
 use Rattle.core_rules.specs.Small.{Words, small, about}
 use Rattle.core_jobs.specs.declared.input.Input.{Input}
 use Rattle.core_jobs.specs.declared.input.Input.TheVariants as input

@@ -1,6 +1,6 @@
 //! What comes of a part.
 
-use doc_nodes::Shared;
+use core_rules::doc_nodes_below::Shared;
 use pide_base::Part;
 use report_markup::Report;
 use sqlite_items::Items;

@@ -6,8 +6,8 @@ ghost use Rattle.core_jobs.specs.Runs.{RanSo};
 
 use crate::input::Input;
 use crate::ran::Ran;
-use doc_nodes::Shared;
-use language::{Answer, Language};
+use core_rules::doc_nodes_below::Shared;
+use core_rules::language_below::{Answer, Language};
 use pide_base::{Part, Stop};
 use std::alloc::Global;
 use std::marker::Model;

@@ -1,12 +1,12 @@
 //! What holds of jobs.
 ghost use Rattle.std.specs.Prelude.{List};
-ghost use Rattle.exec_rules.specs.declared.home.Home.{Home};
+ghost use Rattle.core_rules.specs.exec_rules_below.declared.home.Home.{Home};
 ghost use Rattle.core_jobs.specs.Jobs.{JobContent};
 ghost use Rattle.core_jobs.specs.Runs.{done_by};
 ghost use Rattle.core_jobs.specs.Fits.{IsJobOf, IsDoneOf};
 ghost use Rattle.core_jobs.specs.Worked.{AFirstCommand, AreTheirJobs};
 
-use language::Language;
+use core_rules::language_below::Language;
 
 /// Where a job works on what its part's execution works on, the language's answer to it is what
 /// comes of the part.

@@ -1,8 +1,8 @@
 //! How a job's part is worked on.
 ghost use Rattle.std.specs.Prelude.{◌≡◌, Some, IfOk};
 ghost use Rattle.pide_base.specs.declared.part.PartKind.TheVariants as kind;
-ghost use Rattle.language.specs.Answers.{IsAnswer};
-ghost use Rattle.language.specs.Questions.{AsksSo};
+ghost use Rattle.core_rules.specs.language_below.Answers.{IsAnswer};
+ghost use Rattle.core_rules.specs.language_below.Questions.{AsksSo};
 ghost use Rattle.core_jobs.specs.Jobs.{setting_in};
 ghost use Rattle.core_jobs.specs.Questions.{questions_in, questions_by};
 ghost use Rattle.core_jobs.specs.Runs.{given, done_as, done_in, done_by};
@@ -10,9 +10,9 @@ ghost use Rattle.core_jobs.specs.Runs.{given, done_as, done_in, done_by};
 use crate::done::{Done, Evaluated};
 use crate::input::Input;
 use crate::job::Job;
-use doc_nodes::Shared;
+use core_rules::doc_nodes_below::Shared;
+use core_rules::language_below::{Answer, Language, Made};
 use joined_results::both;
-use language::{Answer, Language, Made};
 use pide_base::{PartKind, Stop};
 use report_markup::Report;
 use sqlite_items::Items;

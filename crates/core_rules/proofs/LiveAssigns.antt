@@ -3,7 +3,7 @@ use Rattle.std.proofs.Common.{◌≡◌, ◌⊎◌, inl, inr, ℕ, Bool, true, f
 use Rattle.std.proofs.lemmas.Bool.{eqb-true, false≢true, or_right, or_cases}
 use Rattle.std.specs.Prelude.{◌==◌}
 use Rattle.text_words.specs.Members.{has}
-use Rattle.doc_versions.specs.declared.versions.Live.{Live}
+use Rattle.core_tables.specs.declared.versions.Live.{Live}
 use Rattle.exec_rules.specs.declared.version.Version.{Version}
 use Rattle.core_rules.specs.Assigned.{assigns, is_assigned}
 

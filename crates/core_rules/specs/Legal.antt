@@ -1,8 +1,8 @@
 -- Which events may follow others (Wenzel, ITP 2014, for claims and cancellations; the rest is this
 -- project's own).
 use Rattle.std.specs.Prelude.{◌≡◌, true, false, List, [], ◌∷◌, ⊤, Some, None}
-use Rattle.doc_versions.specs.declared.versions.Removing.TheVariants as answer
-use Rattle.doc_versions.specs.Removal.{removing}
+use Rattle.core_tables.specs.declared.versions.Removing.TheVariants as answer
+use Rattle.core_tables.specs.Removal.{removing}
 use Rattle.language.specs.Lang.{Lang}
 use Rattle.core_rules.specs.declared.event.Event.{Event}
 use Rattle.core_rules.specs.declared.event.Event.TheVariants as event

@@ -2,7 +2,7 @@
 -- are looked at (this project's own).
 use Rattle.std.specs.Prelude.{ℕ, List, [], ◌∷◌, zip, filter_map, Option, Some, None}
 use Rattle.std.specs.Option.{option_map, option_and_then}
-use Rattle.report_markup.specs.declared.report.Report.{Report}
+use Rattle.language.specs.report_markup_below.declared.report.Report.{Report}
 use Rattle.doc_nodes.specs.Aliases.{no_aliases}
 use Rattle.exec_rules.specs.declared.key.Last.{Last}
 use Rattle.exec_rules.specs.declared.key.Last.TheVariants.{Empty, Open, Made as MadeBy}

@@ -7,7 +7,7 @@ use Rattle.text_words.specs.Members.{has}
 use Rattle.pide_base.specs.declared.part.Part.{Part}
 use Rattle.pide_base.specs.declared.part.PartKind.TheVariants as kind
 use Rattle.pide_base.specs.declared.range.Range.{Range}
-use Rattle.report_markup.specs.declared.report.Report.{Report}
+use Rattle.language.specs.report_markup_below.declared.report.Report.{Report}
 use Rattle.doc_nodes.specs.declared.node.Entry.{Entry}
 use Rattle.doc_nodes.specs.Imports.{place_of}
 use Rattle.exec_rules.specs.declared.home.Home.{Home}

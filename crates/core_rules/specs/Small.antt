@@ -3,9 +3,9 @@ use Rattle.std.specs.Prelude.{ℕ, ◌+◌, Bool, true, false, List, [], ◌∷�
 use Rattle.std.specs.Option.{option_to_list, option_map_or}
 use Rattle.pide_base.specs.declared.part.Part.{Part}
 use Rattle.pide_base.specs.declared.part.PartKind.TheVariants as kind
-use Rattle.report_markup.specs.declared.kind.ReportKind.{ReportKind}
-use Rattle.report_markup.specs.declared.kind.ReportKind.TheVariants as report
-use Rattle.report_markup.specs.declared.report.Report.{Report}
+use Rattle.language.specs.report_markup_below.declared.kind.ReportKind.{ReportKind}
+use Rattle.language.specs.report_markup_below.declared.kind.ReportKind.TheVariants as report
+use Rattle.language.specs.report_markup_below.declared.report.Report.{Report}
 use Rattle.doc_nodes.specs.declared.node.Entry.{Entry}
 use Rattle.doc_nodes.specs.declared.node.Node.{Node}
 use Rattle.doc_nodes.specs.Names.{equal}

@@ -6,7 +6,7 @@ use Rattle.text_words.specs.Pieces.{text_between}
 use Rattle.text_words.specs.Members.{has}
 use Rattle.shared_map.specs.Pairs.{IsSorted}
 use Rattle.pide_base.specs.Ids.{id_end}
-use Rattle.doc_limits.specs.Limits.{most_nodes, most_scalars}
+use Rattle.pide_base.specs.Limits.{most_nodes, most_scalars}
 use Rattle.doc_nodes.specs.declared.node.Entry.{Entry}
 use Rattle.doc_nodes.specs.declared.node.Node.{Node}
 use Rattle.doc_nodes.specs.Names.{in_order}

@@ -5,7 +5,7 @@ ghost use Rattle.text_words.specs.Members.{has};
 ghost use Rattle.pide_base.specs.declared.part.Part.{Part};
 ghost use Rattle.doc_nodes.specs.declared.node.Node.{Node};
 ghost use Rattle.doc_nodes.specs.Wanted.{wanted_at};
-ghost use Rattle.doc_versions.specs.declared.versions.Live.{Live};
+ghost use Rattle.core_tables.specs.declared.versions.Live.{Live};
 ghost use Rattle.exec_rules.specs.declared.row.Row.{Row};
 ghost use Rattle.exec_rules.specs.declared.version.Version.{Version};
 ghost use Rattle.exec_rules.specs.Assigning.{rows_in};

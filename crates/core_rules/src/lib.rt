@@ -13,7 +13,10 @@ mod event;
 mod laws;
 mod worked;
 
+pub use doc_nodes as doc_nodes_below;
 pub use event::Event;
+pub use exec_rules as exec_rules_below;
+pub use language as language_below;
 pub use laws::{
     alone_law, cancelled_law, core_law, covers_law, first_law, holders_law, homes_law, places_law,
     rest_law, tip_law,

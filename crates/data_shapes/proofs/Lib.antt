@@ -1,3 +1,12 @@
+mod AttributePieces
+mod Bodies
+mod Chunks
+mod Faults
+mod Filled
+mod Inside
+mod Merged
+mod Texts
+mod Whole
 pub mod KnownEdits
 pub mod KnownFaults
 pub mod KnownFinds

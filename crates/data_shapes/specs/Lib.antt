@@ -1,3 +1,7 @@
+pub mod Attributes
+pub mod Chunks
+pub mod Inside
+pub mod LentMarks
 pub mod Bodies
 pub mod Each
 pub mod Fits

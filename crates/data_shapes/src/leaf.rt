@@ -5,9 +5,9 @@ ghost use Rattle.xml_codec.specs.Data.{node};
 ghost use Rattle.data_shapes.specs.Reads.{Reads};
 ghost use Rattle.data_shapes.specs.Shapes.{string_in, number_in, truth_of, bool_in, pair_in, option_in};
 
+use crate::body::{LentBody, LentElement};
 use crate::fault::ShapeFault;
 use crate::number::number_of;
-use lent_bodies::{LentBody, LentElement};
 use std::alloc::Global;
 use xml_tree::XmlString;
 

@@ -2,9 +2,9 @@
 ghost use Rattle.data_shapes.specs.Reads.{Reads};
 ghost use Rattle.data_shapes.specs.Shapes.{items_in, optional_in};
 
+use crate::body::LentBody;
 use crate::fault::ShapeFault;
 use crate::leaf::{option_of, take_node};
-use lent_bodies::LentBody;
 use sqlite_items::Items;
 use std::alloc::Global;
 

@@ -3,9 +3,10 @@ ghost use Rattle.std.specs.Prelude.{◌≡◌, bytes_eq, decimal, IfOk};
 ghost use Rattle.data_shapes.specs.Reads.{Reads};
 ghost use Rattle.data_shapes.specs.Shapes.{values_from, variant_in};
 
+use crate::attributes::LentAttributes;
+use crate::body::{LentBody, LentElement};
 use crate::fault::ShapeFault;
 use crate::number::index_of;
-use lent_bodies::{LentAttributes, LentBody, LentElement};
 use sqlite_items::Items;
 use std::alloc::{AllocError, Global};
 use xml_tree::XmlString;

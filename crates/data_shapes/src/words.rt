@@ -3,12 +3,12 @@ ghost use Rattle.std.specs.Prelude.{◌≡◌};
 ghost use Rattle.data_shapes.specs.Reads.{Reads};
 ghost use Rattle.data_shapes.specs.Words.{edit_of, start_of};
 
+use crate::body::LentBody;
 use crate::fault::ShapeFault;
 use crate::leaf::{bool_in, number_in, pair_of, string_of};
 use crate::number::number_of;
 use crate::shape::Shape;
 use crate::variant::variant_of;
-use lent_bodies::LentBody;
 use pide_base::{CommandId, ExecId, NodeName, Range, VersionId};
 use sqlite_items::Items;
 use std::alloc::Global;

@@ -3,13 +3,13 @@ use Rattle.std.specs.Prelude.{ℕ, Bool, ◌&&◌, if◌then◌else◌, List, []
 use Rattle.std.specs.Option.{option_map_or, option_and_then}
 use Rattle.shared_map.specs.Pairs.{found}
 use Rattle.pide_base.specs.NodeName.{is_node_name}
-use Rattle.outer_tokens.specs.Contents.{content_of}
-use Rattle.outer_tokens.specs.Headings.{proper}
-use Rattle.outer_tokens.specs.Kinds.{is_command, is_string}
-use Rattle.outer_tokens.specs.Lexing.{tokens_under}
-use Rattle.outer_tokens.specs.Tokens.{text_of}
-use Rattle.outer_tokens.specs.Words.{is_in_force}
-use Rattle.outer_tokens.specs.declared.token.Token.{Token}
+use Rattle.doc_nodes.specs.outer_tokens_below.Contents.{content_of}
+use Rattle.doc_nodes.specs.outer_tokens_below.Headings.{proper}
+use Rattle.doc_nodes.specs.outer_tokens_below.Kinds.{is_command, is_string}
+use Rattle.doc_nodes.specs.outer_tokens_below.Lexing.{tokens_under}
+use Rattle.doc_nodes.specs.outer_tokens_below.Tokens.{text_of}
+use Rattle.doc_nodes.specs.outer_tokens_below.Words.{is_in_force}
+use Rattle.doc_nodes.specs.outer_tokens_below.declared.token.Token.{Token}
 use Rattle.doc_nodes.specs.Names.{in_order, equal}
 
 -- the aliases in force: pairs of a name and what it stands for

@@ -5,8 +5,8 @@ ghost use Rattle.doc_nodes.specs.Names.{equal};
 ghost use Rattle.doc_blobs.specs.Needs.{is_load, asked_by, named_by, just_two, needs};
 
 use crate::naming::meant;
+use doc_nodes::outer_tokens_below::{Kind, Token, content, proper_under, scalars};
 use doc_nodes::{Aliases, BlobName};
-use outer_tokens::{Kind, Token, content, proper_under, scalars};
 use std::alloc::{AllocError, Global};
 use std::cmp::Ordering;
 use text_words::text_of;

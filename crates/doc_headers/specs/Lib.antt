@@ -1,3 +1,3 @@
 pub mod Headers
 pub mod Reading
-pub use Rattle.outer_tokens.specs as tokens_below
+pub use Rattle.outer_tokens.specs as outer_tokens_below

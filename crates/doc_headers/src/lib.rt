@@ -7,6 +7,6 @@ mod parts;
 mod read;
 
 pub use law::one_header;
-pub use outer_tokens as tokens_below;
+pub use outer_tokens as outer_tokens_below;
 pub use parts::{Header, KeywordPair};
 pub use read::{header, header_stop};

@@ -11,3 +11,5 @@ pub mod Known
 pub mod Reached
 pub mod HandedDown
 pub mod Heads
+pub use Rattle.doc_headers.specs as doc_headers_below
+pub use Rattle.doc_headers.specs.outer_tokens_below as outer_tokens_below

@@ -5,13 +5,13 @@ ghost use Rattle.std.specs.Ordering.{nat_cmp};
 ghost use Rattle.std.specs.Cmp.{partial_equiv_from_equiv};
 ghost use Rattle.std.specs.Cmp.Lexicographic.{pointwise, slice_cmp, nat_list_eq_equiv, nat_list_cmp_total, texts_ties, texts_po};
 ghost use Rattle.std.specs.Prelude.{nat_eq};
-ghost use Rattle.pide_base.specs.NodeName.{is_node_name};
+ghost use Rattle.text_edits.specs.pide_base_below.NodeName.{is_node_name};
 
-use pide_base::NodeName;
 use std::alloc::AllocError;
 use std::cmp::Ordering;
 use std::fmt;
 use std::marker::Model;
+use text_edits::pide_base_below::NodeName;
 
 /// The name of an auxiliary blob, which is as a node's name: an identifier of at most 64
 /// characters. Names are ordered by their bytes.
@@ -22,7 +22,7 @@ pub struct BlobName {
 
 impl Model for BlobName {
     ghost use Rattle.std.specs.Prelude.{ℕ, List, IsTrue};
-    ghost use Rattle.pide_base.specs.NodeName.{is_node_name};
+    ghost use Rattle.text_edits.specs.pide_base_below.NodeName.{is_node_name};
 
     ghost Value = { List ℕ };
 

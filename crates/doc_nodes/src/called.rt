@@ -1,9 +1,9 @@
 //! Nodes by names in scalars.
 
 use crate::compared::compared;
-use pide_base::NodeName;
 use shared_map::Cut;
 use std::cmp::Ordering;
+use text_edits::pide_base_below::NodeName;
 
 /// The node of a name in scalars, as a cut of the nodes.
 #[derive(Clone, Copy)]

@@ -5,11 +5,11 @@ use crate::blob_name::BlobName;
 use crate::shared::Shared;
 use doc_headers::KeywordPair;
 use joined_results::both;
-use pide_base::{CommandId, NodeName, Range};
 use shared_map::SharedMap;
 use sqlite_items::Items;
 use std::alloc::AllocError;
 use text_edits::Text;
+use text_edits::pide_base_below::{CommandId, NodeName, Range};
 
 /// A command of a node.
 #[derive(Debug, Drop)]

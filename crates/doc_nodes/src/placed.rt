@@ -6,9 +6,9 @@ ghost use Rattle.doc_nodes.specs.Graphs.{IsGraphOf};
 use crate::graph::{ImportGraph, place_of};
 use crate::node::{Node, Nodes};
 use joined_results::both;
-use pide_base::NodeName;
 use sqlite_items::Items;
 use std::alloc::{AllocError, Global};
+use text_edits::pide_base_below::NodeName;
 
 /// A node in the order of imports.
 #[derive(Debug, Drop)]

@@ -5,7 +5,7 @@ use Rattle.std.proofs.lemmas.List.Elements.{All-tail}
 use Rattle.doc_nodes.specs.Imports.{NodeList}
 use Rattle.language.specs.Lang.{Lang}
 use Rattle.core_rules.specs.Scratch.{Runs}
-use Rattle.node_starts.specs.Handed.{AreBehind}
+use Rattle.batch_check.specs.Handed.{AreBehind}
 use Rattle.batch_check.specs.declared.telling.BuiltNode.{BuiltNode}
 use Rattle.batch_check.specs.declared.telling.Checked.{Checked}
 use Rattle.batch_runs.specs.Running.{run_batch, run_beside}

@@ -1,7 +1,7 @@
 -- The batches and the order of nodes are those of the nodes that are cut.
 use Rattle.std.proofs.Common.{◌≡◌, ℕ, List, [], ◌∷◌, ◌++◌, ap, subst, ◌∙◌}
 use Rattle.doc_nodes.specs.Imports.{NodeList, aims, order, others}
-use Rattle.import_batches.specs.Batches.{AreBatches, AreRounds}
+use Rattle.batch_runs.specs.Batches.{AreBatches, AreRounds}
 use Rattle.doc_nodes.proofs.KnownHeads.{aims_head, along, order_head, others_head}
 use Rattle.batch_check.specs.Cutting.{AreUncut, cut_all}
 use Rattle.batch_check.proofs.KnownCut.{heads_are}

@@ -5,7 +5,7 @@ use Rattle.text_words.specs.Members.{has}
 use Rattle.doc_nodes.specs.Imports.{NodeList}
 use Rattle.language.specs.Lang.{Lang}
 use Rattle.core_rules.specs.Scratch.{Run, Runs}
-use Rattle.node_starts.specs.Handed.{AreBehind}
+use Rattle.batch_check.specs.Handed.{AreBehind}
 use Rattle.batch_check.specs.declared.telling.BuiltNode.{BuiltNode}
 use Rattle.batch_check.specs.declared.telling.Checked.{Checked}
 use Rattle.batch_check.specs.Tasks.{MakesSo, built_by}

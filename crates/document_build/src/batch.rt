@@ -8,10 +8,9 @@ ghost use Rattle.batch_runs.specs.Running.{run_batch};
 ghost use Rattle.document_build.specs.Standing.{Keeps};
 
 use crate::progress::Progress;
-use batch_check::{Batch, Telling, check_batch};
+use batch_check::{Batch, Before, Telling, check_batch};
 use doc_nodes::{ImportGraph, NodeAliases, Nodes};
 use language::Language;
-use node_starts::Before;
 use pide_base::Gate;
 use std::alloc::{AllocError, Global};
 use std::sync::Wait;

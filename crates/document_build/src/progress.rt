@@ -4,7 +4,7 @@ ghost use Rattle.std.specs.List.{All};
 ghost use Rattle.doc_nodes.specs.Imports.{NodeList};
 ghost use Rattle.language.specs.Lang.{Lang};
 ghost use Rattle.core_rules.specs.Scratch.{Runs};
-ghost use Rattle.node_starts.specs.Handed.{AreBehind};
+ghost use Rattle.batch_check.specs.Handed.{AreBehind};
 ghost use Rattle.batch_check.specs.declared.telling.BuiltNode.{BuiltNode};
 ghost use Rattle.batch_runs.specs.Running.{run_batch};
 ghost use Rattle.document_build.specs.Standing.{Keeps, MakeSo};

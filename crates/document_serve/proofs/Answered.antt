@@ -8,8 +8,8 @@ use Rattle.session_rules.specs.declared.service.Service.{Service}
 use Rattle.session_rules.specs.Services.{free_workers}
 use Rattle.session_rules.specs.Heard.{all_heard}
 use Rattle.session_rules.specs.Alone.{IsAlone}
-use Rattle.document_session.specs.lists_below.Items.{heard_in, session_in}
-use Rattle.document_session.specs.lists_below.Legal.{AreLegal}
+use Rattle.document_session.specs.keeping_rules_below.Items.{heard_in, session_in}
+use Rattle.document_session.specs.keeping_rules_below.Legal.{AreLegal}
 use Rattle.document_session.specs.Contents.{SessionState}
 use Rattle.document_serve.specs.Served.{AllSent, IsLostLast, WritesFront, WritesOn, WritesSome, calls, calls_in, sent_in}
 use Rattle.document_serve.specs.Going.{IsGoing}

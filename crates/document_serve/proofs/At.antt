@@ -3,7 +3,7 @@ use Rattle.std.proofs.Common.{◌≡◌, ℕ, List, Option, refl, sym, subst, ap
 use Rattle.language.specs.Lang.{Lang}
 use Rattle.core_rules.specs.declared.event.Event.{Event}
 use Rattle.session_rules.specs.declared.service.Service.{Service}
-use Rattle.document_session.specs.lists_below.Items.{SessionItem, heard_in, session_in}
+use Rattle.document_session.specs.keeping_rules_below.Items.{SessionItem, heard_in, session_in}
 use Rattle.document_session.specs.Answers.{IsWaiting, TakenSo}
 use Rattle.document_session.specs.Contents.{SessionState}
 use Rattle.document_serve.specs.Served.{AllSent, WritesOn, calls_in}

@@ -9,7 +9,7 @@ use Rattle.byte_message.specs.Stream.{Ending, IsReadAs}
 use Rattle.language.specs.Lang.{Lang}
 use Rattle.reply_outbox.specs.declared.item.Item.TheVariants.{Opened}
 use Rattle.session_rules.specs.Steps.{Nothing, due}
-use Rattle.document_session.specs.lists_below.Items.{SessionItem, heard_in}
+use Rattle.document_session.specs.keeping_rules_below.Items.{SessionItem, heard_in}
 use Rattle.document_session.specs.Contents.{SessionState}
 use Rattle.message_input.specs.Causes.{Tells}
 use Rattle.document_serve.specs.Laws.{ListLaws}

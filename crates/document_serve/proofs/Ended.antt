@@ -9,8 +9,8 @@ use Rattle.session_rules.specs.declared.entry.Entry.TheVariants as entry
 use Rattle.session_rules.specs.declared.service.Service.{Service}
 use Rattle.session_rules.specs.Legal.{IsLegal}
 use Rattle.session_rules.specs.Alone.{IsAlone}
-use Rattle.document_session.specs.lists_below.Items.{SessionItem, heard_in, session_in}
-use Rattle.document_session.specs.lists_below.Pieces.{pieces}
+use Rattle.document_session.specs.keeping_rules_below.Items.{SessionItem, heard_in, session_in}
+use Rattle.document_session.specs.keeping_rules_below.Pieces.{pieces}
 use Rattle.document_session.specs.Contents.{SessionState}
 use Rattle.document_serve.specs.Laws.{ListLaws}
 use Rattle.document_serve.specs.Served.{AllSent, calls_in, replies_in, sent_in}

@@ -6,7 +6,7 @@ use Rattle.core_rules.specs.declared.event.Event.{Event}
 use Rattle.reply_outbox.specs.declared.item.Item.TheVariants.{Made}
 use Rattle.reply_outbox.specs.Items.{is_lost}
 use Rattle.session_rules.specs.declared.entry.Entry.TheVariants as entry
-use Rattle.document_session.specs.lists_below.Legal.{AreLegal}
+use Rattle.document_session.specs.keeping_rules_below.Legal.{AreLegal}
 use Rattle.session_laws.proofs.KnownResting.{fewer_left, finishes, made}
 use Rattle.document_session.specs.declared.taking.Taken.{Taken}
 use Rattle.document_session.specs.declared.taking.Taken.TheVariants as taken

@@ -6,7 +6,7 @@ use Rattle.pide_base.specs.declared.status.Status.TheVariants as status
 use Rattle.language.specs.Lang.{Lang}
 use Rattle.reply_outbox.specs.declared.item.Item.TheVariants.{Opened}
 use Rattle.session_rules.specs.Steps.{Nothing, due}
-use Rattle.document_session.specs.lists_below.Items.{heard_in}
+use Rattle.document_session.specs.keeping_rules_below.Items.{heard_in}
 use Rattle.document_session.specs.Contents.{SessionState}
 use Rattle.message_input.specs.Answers.{HaltsAmong}
 use Rattle.message_input.specs.Causes.{HasCause}

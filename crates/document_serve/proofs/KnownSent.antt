@@ -10,10 +10,10 @@ use Rattle.session_rules.specs.declared.entry.Entry.{Entry}
 use Rattle.session_rules.specs.declared.service.Service.{Service}
 use Rattle.session_rules.specs.Heard.{Heard, heard}
 use Rattle.session_rules.specs.Replies.{replies, told}
-use Rattle.document_session.specs.replies_below.Spelling.{spelling}
-use Rattle.document_session.specs.lists_below.Items.{SessionItem, heard_in}
-use Rattle.document_session.specs.lists_below.Pieces.{pieces, AreWaiting}
-use Rattle.document_session.specs.lists_below.Sent.{IsFrontSent}
+use Rattle.document_session.specs.session_replies_below.Spelling.{spelling}
+use Rattle.document_session.specs.keeping_rules_below.Items.{SessionItem, heard_in}
+use Rattle.document_session.specs.keeping_rules_below.Pieces.{pieces, AreWaiting}
+use Rattle.document_session.specs.keeping_rules_below.Sent.{IsFrontSent}
 use Rattle.document_serve.specs.Served.{AllSent, replies_in, sent_in}
 
 -- replies, joined

@@ -12,10 +12,10 @@ use Rattle.session_rules.specs.Alone.{IsAlone}
 use Rattle.session_rules.specs.Legal.{IsTurn}
 use Rattle.session_rules.specs.Replies.{claim_told}
 use Rattle.session_rules.specs.Steps.{Due, Nothing, Claims, due}
-use Rattle.document_session.specs.lists_below.Items.{SessionItem, heard_in}
-use Rattle.document_session.specs.lists_below.Legal.{AreLegal}
-use Rattle.document_session.specs.replies_below.Spelling.{spelling}
-use Rattle.document_session.specs.lists_below.Pieces.{pieces}
+use Rattle.document_session.specs.keeping_rules_below.Items.{SessionItem, heard_in}
+use Rattle.document_session.specs.keeping_rules_below.Legal.{AreLegal}
+use Rattle.document_session.specs.session_replies_below.Spelling.{spelling}
+use Rattle.document_session.specs.keeping_rules_below.Pieces.{pieces}
 use Rattle.document_session.specs.Answers.{IsWaiting}
 use Rattle.document_session.specs.Contents.{SessionState}
 use Rattle.document_serve.specs.Served.{AllSent, calls_in, sent_in}

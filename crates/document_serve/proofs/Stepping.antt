@@ -20,9 +20,9 @@ use Rattle.session_rules.specs.History.{session}
 use Rattle.session_rules.specs.Legal.{IsTurn, awaited}
 use Rattle.session_rules.specs.Alone.{IsAlone}
 use Rattle.session_rules.specs.Steps.{Nothing, Claims, Finishes, due_of}
-use Rattle.document_session.specs.lists_below.Items.{SessionItem, heard_in, session_in}
-use Rattle.document_session.specs.lists_below.Legal.{AreLegal}
-use Rattle.document_session.specs.lists_below.Sent.{IsFrontSent}
+use Rattle.document_session.specs.keeping_rules_below.Items.{SessionItem, heard_in, session_in}
+use Rattle.document_session.specs.keeping_rules_below.Legal.{AreLegal}
+use Rattle.document_session.specs.keeping_rules_below.Sent.{IsFrontSent}
 use Rattle.document_session.specs.Answers.{IsAnswered, is_step}
 use Rattle.document_session.specs.Contents.{SessionState}
 use Rattle.document_serve.specs.Served.{calls_in, sent_in}

@@ -13,8 +13,8 @@ use Rattle.session_rules.specs.declared.service.Service.{Service}
 use Rattle.session_rules.specs.Services.{free_workers, mode_of}
 use Rattle.session_rules.specs.Heard.{Heard, Claimed, Finished}
 use Rattle.session_rules.specs.Alone.{IsAlone}
-use Rattle.document_session.specs.lists_below.Items.{SessionItem, heard_in, session_in}
-use Rattle.document_session.specs.lists_below.Legal.{AreLegal}
+use Rattle.document_session.specs.keeping_rules_below.Items.{SessionItem, heard_in, session_in}
+use Rattle.document_session.specs.keeping_rules_below.Legal.{AreLegal}
 use Rattle.document_session.specs.Answers.{IsWaiting, TakenSo}
 use Rattle.document_session.specs.declared.taking.Taken.TheVariants as taken
 use Rattle.document_session.specs.Contents.{SessionState}

@@ -12,8 +12,8 @@ use Rattle.session_rules.specs.declared.service.Service.{Service}
 use Rattle.session_rules.specs.Heard.{heard}
 use Rattle.session_rules.specs.Legal.{MayFollow}
 use Rattle.session_rules.specs.Session.{Session, document}
-use Rattle.document_session.specs.lists_below.Items.{SessionItem, heard_in, session_in}
-use Rattle.document_session.specs.lists_below.Legal.{AreLegal}
+use Rattle.document_session.specs.keeping_rules_below.Items.{SessionItem, heard_in, session_in}
+use Rattle.document_session.specs.keeping_rules_below.Legal.{AreLegal}
 use Rattle.document_session.specs.Answers.{IsIdle}
 
 -- a part is ready, and the reader, worker 0, can take it

@@ -11,9 +11,9 @@ use Rattle.session_rules.specs.declared.entry.Entry.{Entry}
 use Rattle.session_rules.specs.declared.service.Service.{Service}
 use Rattle.session_rules.specs.Heard.{Heard, all_heard}
 use Rattle.session_rules.specs.Replies.{replies}
-use Rattle.document_session.specs.lists_below.Items.{SessionItem, heard_in, writer_of}
-use Rattle.document_session.specs.lists_below.Legal.{AreLegal}
-use Rattle.document_session.specs.lists_below.Pieces.{pieces, AreWaiting}
+use Rattle.document_session.specs.keeping_rules_below.Items.{SessionItem, heard_in, writer_of}
+use Rattle.document_session.specs.keeping_rules_below.Legal.{AreLegal}
+use Rattle.document_session.specs.keeping_rules_below.Pieces.{pieces, AreWaiting}
 use Rattle.document_session.specs.Contents.{SessionState}
 use Rattle.document_serve.specs.Served.{AllSent, IsLostLast, WritesFront, WritesOn, WritesSome, replies_in, sent_in}
 use Rattle.document_serve.specs.Runs.{IsSame}

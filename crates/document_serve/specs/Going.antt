@@ -11,8 +11,8 @@ use Rattle.session_rules.specs.Heard.{Heard, Claimed}
 use Rattle.session_rules.specs.History.{session}
 use Rattle.session_rules.specs.Legal.{awaited}
 use Rattle.session_rules.specs.Alone.{IsAlone, IsUnsettled}
-use Rattle.document_session.specs.lists_below.Items.{heard_in, session_in}
-use Rattle.document_session.specs.lists_below.Legal.{AreLegal}
+use Rattle.document_session.specs.keeping_rules_below.Items.{heard_in, session_in}
+use Rattle.document_session.specs.keeping_rules_below.Legal.{AreLegal}
 use Rattle.document_session.specs.Contents.{SessionState}
 use Rattle.document_serve.specs.Served.{AllSent}
 

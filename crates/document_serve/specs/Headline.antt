@@ -12,8 +12,8 @@ use Rattle.reply_outbox.specs.Items.{is_lost}
 use Rattle.session_rules.specs.Legal.{IsLegal}
 use Rattle.session_rules.specs.Steps.{Nothing, due}
 use Rattle.session_rules.specs.Alone.{IsAlone}
-use Rattle.document_session.specs.lists_below.Items.{heard_in, session_in}
-use Rattle.document_session.specs.lists_below.Legal.{AreLegal}
+use Rattle.document_session.specs.keeping_rules_below.Items.{heard_in, session_in}
+use Rattle.document_session.specs.keeping_rules_below.Legal.{AreLegal}
 use Rattle.document_session.specs.Contents.{SessionState}
 use Rattle.document_serve.specs.Served.{AllSent, IsLostLast, calls_in, replies_in, sent_in}
 use Rattle.document_serve.specs.Going.{IsWorkedFor, IsLeftFor}

@@ -2,7 +2,7 @@
 use Rattle.std.specs.Prelude.{◌≡◌, ℕ, ◌≤◌, List, [], ◌++◌, Option}
 use Rattle.std.proofs.Common.{inl, refl, sym, ap, ◌∙◌, append-nil, append_assoc, arith}
 use Rattle.language.specs.Lang.{Lang}
-use Rattle.document_session.specs.lists_below.Items.{heard_in}
+use Rattle.document_session.specs.keeping_rules_below.Items.{heard_in}
 use Rattle.document_session.specs.Contents.{SessionState}
 use Rattle.message_input.specs.declared.answering.Halt.{Halt}
 use Rattle.message_input.specs.declared.answering.Halt.TheVariants as halt

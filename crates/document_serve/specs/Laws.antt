@@ -1,7 +1,7 @@
 -- What serving rests on (this project's own).
 use Rattle.std.specs.Prelude.{◌≡◌, ◌↔◌, ℕ, true, List, length, slice_get, flat_map, Some, None, Ok}
 use Rattle.pide_base.specs.declared.part.Part.{Part}
-use Rattle.doc_versions.specs.declared.versions.Live.{Live}
+use Rattle.core_tables.specs.declared.versions.Live.{Live}
 use Rattle.exec_rules.specs.declared.version.Version.{Version}
 use Rattle.language.specs.Lang.{Lang}
 use Rattle.message_values.specs.declared.editor_message.EditorMessage.{EditorMessage}
@@ -21,10 +21,10 @@ use Rattle.session_rules.specs.declared.service.Service.{Service}
 use Rattle.session_rules.specs.Heard.{Heard}
 use Rattle.session_rules.specs.Legal.{IsLegal}
 use Rattle.session_rules.specs.Replies.{replies}
-use Rattle.document_session.specs.lists_below.Items.{SessionItem, heard_in, session_in}
-use Rattle.document_session.specs.lists_below.Legal.{AreLegal}
-use Rattle.document_session.specs.lists_below.Pieces.{pieces}
-use Rattle.document_session.specs.lists_below.Sent.{IsFrontSent}
+use Rattle.document_session.specs.keeping_rules_below.Items.{SessionItem, heard_in, session_in}
+use Rattle.document_session.specs.keeping_rules_below.Legal.{AreLegal}
+use Rattle.document_session.specs.keeping_rules_below.Pieces.{pieces}
+use Rattle.document_session.specs.keeping_rules_below.Sent.{IsFrontSent}
 
 -- the history of a legal list is legal, and what it tells as sent is a front of the replies,
 -- which one by one are all that is written

@@ -5,8 +5,8 @@ use Rattle.reply_outbox.specs.Items.{entries, is_lost}
 use Rattle.pide_base.specs.Faults.{Rose}
 use Rattle.language.specs.Lang.{Lang}
 use Rattle.session_rules.specs.declared.entry.Entry.TheVariants as entry
-use Rattle.document_session.specs.lists_below.Items.{heard_in}
-use Rattle.document_session.specs.lists_below.Legal.{AreLegal}
+use Rattle.document_session.specs.keeping_rules_below.Items.{heard_in}
+use Rattle.document_session.specs.keeping_rules_below.Legal.{AreLegal}
 use Rattle.document_session.specs.Contents.{SessionState}
 use Rattle.message_input.specs.declared.answering.Halt.{Halt}
 use Rattle.message_input.specs.declared.answering.Halt.TheVariants as halt

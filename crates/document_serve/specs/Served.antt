@@ -10,8 +10,8 @@ use Rattle.session_rules.specs.declared.entry.Entry.{Entry}
 use Rattle.session_rules.specs.declared.entry.Entry.TheVariants as entry
 use Rattle.session_rules.specs.declared.service.Service.{Service}
 use Rattle.session_rules.specs.Replies.{replies}
-use Rattle.document_session.specs.lists_below.Items.{SessionItem, heard_in, writer_of}
-use Rattle.document_session.specs.lists_below.Pieces.{pieces}
+use Rattle.document_session.specs.keeping_rules_below.Items.{SessionItem, heard_in, writer_of}
+use Rattle.document_session.specs.keeping_rules_below.Pieces.{pieces}
 use Rattle.document_session.specs.Contents.{SessionState}
 
 -- nothing was done since the sink was lost

@@ -3,7 +3,7 @@ use Rattle.std.specs.Prelude.{◌≡◌, ◌⊎◌, List, ◌∷◌}
 use Rattle.pide_base.specs.declared.part.Part.{Part}
 use Rattle.reply_outbox.specs.declared.item.Item.TheVariants.{Made}
 use Rattle.session_rules.specs.declared.entry.Entry.TheVariants as entry
-use Rattle.document_session.specs.lists_below.Items.{SessionItem}
+use Rattle.document_session.specs.keeping_rules_below.Items.{SessionItem}
 
 -- the reader took a part and finished it at once
 abbrev pub IsWorked : List SessionItem → List SessionItem → Type 0

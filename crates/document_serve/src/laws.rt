@@ -2,7 +2,7 @@
 ghost use Rattle.document_serve.specs.Laws.{ListLaws, WorkLaws};
 
 use core_rules::{alone_law, first_law, rest_law};
-use document_session::lists_below::{history_law, sent_law};
+use document_session::keeping_rules_below::{history_law, sent_law};
 use language::Language;
 use message_values::a_message_is_asked_where_it_is_spelled;
 

@@ -5,13 +5,13 @@ ghost use Rattle.core_rules.specs.Standing.{held, has_ended};
 ghost use Rattle.reply_outbox.specs.declared.item.Item.TheVariants.{Made};
 ghost use Rattle.session_rules.specs.declared.entry.Entry.TheVariants as entry;
 ghost use Rattle.session_rules.specs.Session.{document};
-ghost use Rattle.document_session.specs.lists_below.Items.{session_in};
-ghost use Rattle.document_session.specs.lists_below.Legal.{AreLegal};
-ghost use Rattle.document_session.specs.states_below.Works.{IsWorkOf};
+ghost use Rattle.document_session.specs.keeping_rules_below.Items.{session_in};
+ghost use Rattle.document_session.specs.keeping_rules_below.Legal.{AreLegal};
+ghost use Rattle.document_session.specs.keeping_rules_below.Works.{IsWorkOf};
 ghost use Rattle.document_serve.specs.Steps.{IsWorked, IsLeftOff};
 
 use core_jobs::job_law;
-use document_session::jobs_below::{SessionJob, SessionRan};
+use document_session::session_replies_below::{SessionJob, SessionRan};
 use document_session::{Claim, Session};
 use language::Language;
 use pide_base::Never;

@@ -1,7 +1,7 @@
 //! Writing the replies that wait.
 ghost use Rattle.std.specs.Prelude.{◌≡◌, ◌≤◌, false, IfErr};
 ghost use Rattle.reply_outbox.specs.Items.{is_lost};
-ghost use Rattle.document_session.specs.lists_below.Legal.{AreLegal};
+ghost use Rattle.document_session.specs.keeping_rules_below.Legal.{AreLegal};
 ghost use Rattle.document_serve.specs.Runs.{CountsSo, WrittenSo};
 
 use crate::laws::list_laws;

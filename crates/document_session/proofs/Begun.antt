@@ -12,9 +12,9 @@ use Rattle.session_rules.specs.declared.service.Service.{Service}
 use Rattle.session_rules.specs.Services.{free_workers}
 use Rattle.session_rules.specs.Session.{Session}
 use Rattle.session_rules.specs.Steps.{due}
-use Rattle.session_states.specs.jobs_below.Works.{Work}
-use Rattle.session_states.specs.lists_below.Items.{SessionItem, heard_in}
-use Rattle.session_states.specs.Kept.{session_of, IsListed, IsKept}
+use Rattle.keeping_rules.specs.session_replies_below.Works.{Work}
+use Rattle.keeping_rules.specs.Items.{SessionItem, heard_in}
+use Rattle.keeping_rules.specs.Kept.{session_of, IsListed, IsKept}
 
 not_both : {A B : Type 0} (o : Option A) (x : A) → o ≡ None → o ≡ Some x → B
 not_both o x none some = let clash : None ≡ Some x = sym none ∙ some in absurd (cc)

@@ -18,7 +18,7 @@ use Rattle.session_rules.specs.Services.{mode_of}
 use Rattle.session_rules.specs.Session.{Session}
 use Rattle.session_rules.specs.Accepting.{accepted}
 use Rattle.session_rules.specs.Steps.{Due, Nothing, Claims, Finishes, due, due_by, due_of, called_for}
-use Rattle.session_states.specs.lists_below.Items.{SessionItem, heard_in, session_in}
+use Rattle.keeping_rules.specs.Items.{SessionItem, heard_in, session_in}
 
 claim_due : (who : ℕ) (d : Due) → d ≡ Claims who → d ≢ Nothing
 claim_due who d is none = let no : Claims who ≡ Nothing = sym is ∙ none in absurd (cc)

@@ -15,11 +15,11 @@ use Rattle.session_rules.specs.declared.entry.Entry.TheVariants as entry
 use Rattle.session_rules.specs.declared.service.Service.{Service}
 use Rattle.session_rules.specs.Services.{free_workers}
 use Rattle.session_rules.specs.Session.{document}
-use Rattle.session_states.specs.jobs_below.Works.{Work}
-use Rattle.session_states.specs.lists_below.Items.{SessionItem, session_in}
-use Rattle.session_states.specs.Kept.{IsKept}
-use Rattle.session_states.specs.States.{State, IsSound, with_past}
-use Rattle.session_states.specs.Workers.{FreeLaws}
+use Rattle.keeping_rules.specs.session_replies_below.Works.{Work}
+use Rattle.keeping_rules.specs.Items.{SessionItem, session_in}
+use Rattle.keeping_rules.specs.Kept.{IsKept}
+use Rattle.keeping_rules.specs.States.{State, IsSound, with_past}
+use Rattle.keeping_rules.specs.Workers.{FreeLaws}
 use Rattle.document_session.specs.Answers.{IsClaimed}
 use Rattle.document_session.specs.Contents.{SessionState}
 use Rattle.document_session.proofs.Still.{seen}

@@ -7,9 +7,9 @@ use Rattle.core_jobs.specs.Jobs.{JobContent}
 use Rattle.core_jobs.specs.Runs.{done_by}
 use Rattle.core_rules.specs.Settings.{Setting}
 use Rattle.session_rules.specs.Session.{Session, document}
-use Rattle.session_states.specs.jobs_below.Runs.{work_done}
-use Rattle.session_states.specs.jobs_below.Works.{Work}
-use Rattle.session_states.specs.Works.{IsWorkOf, IsDoneWorkOf}
+use Rattle.keeping_rules.specs.session_replies_below.Runs.{work_done}
+use Rattle.keeping_rules.specs.session_replies_below.Works.{Work}
+use Rattle.keeping_rules.specs.Works.{IsWorkOf, IsDoneWorkOf}
 
 -- what comes of a job that a session keeps
 pub done_of : {S : Type 0} (l : Lang S) (s : Session) → ((job : JobContent S) → IsJobOf l (document l s).homes job → IsDoneOf l (document l s).homes (done_by l job))

@@ -17,12 +17,12 @@ use Rattle.session_rules.specs.declared.entry.Entry.TheVariants as entry
 use Rattle.session_rules.specs.declared.service.Service.{Service}
 use Rattle.session_rules.specs.Services.{free_workers}
 use Rattle.session_rules.specs.Session.{Session, document}
-use Rattle.session_states.specs.replies_below.Spelling.{spelling}
-use Rattle.session_states.specs.jobs_below.Works.{Work}
-use Rattle.session_states.specs.lists_below.Items.{SessionItem, session_in}
-use Rattle.session_states.specs.Kept.{IsKept}
-use Rattle.session_states.specs.States.{State, IsSound, with_past}
-use Rattle.session_states.specs.Workers.{FreeLaws}
+use Rattle.keeping_rules.specs.session_replies_below.Spelling.{spelling}
+use Rattle.keeping_rules.specs.session_replies_below.Works.{Work}
+use Rattle.keeping_rules.specs.Items.{SessionItem, session_in}
+use Rattle.keeping_rules.specs.Kept.{IsKept}
+use Rattle.keeping_rules.specs.States.{State, IsSound, with_past}
+use Rattle.keeping_rules.specs.Workers.{FreeLaws}
 use Rattle.document_session.specs.declared.working.GiveUp.TheVariants as give_up
 use Rattle.document_session.specs.Answers.{GivenUpSo}
 use Rattle.document_session.specs.Contents.{SessionState}

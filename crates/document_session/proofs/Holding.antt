@@ -7,7 +7,7 @@ use Rattle.pide_base.specs.declared.part.Part.{Part}
 use Rattle.core_rules.specs.declared.event.Event.{Event}
 use Rattle.core_rules.specs.declared.event.Event.TheVariants as event
 use Rattle.core_rules.specs.Standing.{held}
-use Rattle.session_states.specs.Holders.{without, holders}
+use Rattle.keeping_rules.specs.Holders.{without, holders}
 
 -- the worker is among them
 abbrev among : ℕ → List ℕ → Bool

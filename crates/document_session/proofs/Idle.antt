@@ -14,8 +14,8 @@ use Rattle.session_rules.specs.declared.service.Service.{Service}
 use Rattle.session_rules.specs.Services.{mode_of}
 use Rattle.session_rules.specs.Session.{Session}
 use Rattle.session_rules.specs.Accepting.{taken}
-use Rattle.session_states.specs.lists_below.Items.{session_in}
-use Rattle.session_states.specs.Kept.{IsListed}
+use Rattle.keeping_rules.specs.Items.{session_in}
+use Rattle.keeping_rules.specs.Kept.{IsListed}
 use Rattle.document_session.proofs.Refusals.{claims_nothing, finishes_nothing}
 use Rattle.document_session.proofs.Still.{known_still}
 

@@ -4,8 +4,8 @@ use Rattle.language.specs.Lang.{Lang}
 use Rattle.core_rules.specs.Standing.{has_ended}
 use Rattle.session_rules.specs.declared.service.Service.{Service}
 use Rattle.session_rules.specs.Session.{Session}
-use Rattle.session_states.specs.lists_below.Items.{session_in}
-use Rattle.session_states.specs.Kept.{IsListed}
+use Rattle.keeping_rules.specs.Items.{session_in}
+use Rattle.keeping_rules.specs.Kept.{IsListed}
 use Rattle.document_session.specs.Contents.{SessionState}
 
 -- it has not ended

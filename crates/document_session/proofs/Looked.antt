@@ -8,7 +8,7 @@ use Rattle.shared_map.specs.Pairs.{found}
 use Rattle.doc_nodes.specs.declared.node.Node.{Node}
 use Rattle.doc_nodes.specs.Imports.{place_of}
 use Rattle.doc_nodes.specs.Names.{in_order, equal}
-use Rattle.doc_versions.specs.Live.{version_of}
+use Rattle.core_tables.specs.Live.{version_of}
 use Rattle.exec_rules.specs.declared.version.Version.{Version}
 use Rattle.language.specs.Lang.{Lang}
 use Rattle.message_values.specs.declared.editor_message.EditorMessage.TheVariants as asks
@@ -28,9 +28,9 @@ use Rattle.session_rules.specs.Accepting.{taken}
 use Rattle.session_rules.specs.Looking.{Looked, looked_at}
 use Rattle.session_rules.specs.Replies.{told_to}
 use Rattle.session_rules.proofs.KnownLooked.{text_seen, node_seen}
-use Rattle.session_states.specs.replies_below.Spelling.{spelling}
-use Rattle.session_states.specs.Looks.{IsLook}
-use Rattle.session_states.proofs.KnownNothingDue.{nothing_due}
+use Rattle.keeping_rules.specs.session_replies_below.Spelling.{spelling}
+use Rattle.keeping_rules.specs.Looks.{IsLook}
+use Rattle.keeping_rules.proofs.KnownNothingDue.{nothing_due}
 use Rattle.document_session.specs.Looks.{IsFound, LookedSo}
 
 -- the node of a name is what the map has at it

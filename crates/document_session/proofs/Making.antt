@@ -22,8 +22,8 @@ use Rattle.core_rules.specs.Standing.{has_ended}
 use Rattle.core_rules.specs.Updates.{FitsUpdate}
 use Rattle.exec_assign.specs.Untouched.{AreChanged}
 use Rattle.update_plans.specs.Alive.{HaveCommands}
-use Rattle.document_edits.specs.NameSets.{NameSet}
-use Rattle.document_edits.specs.NameSets.{AreChanged as AreOthers}
+use Rattle.editor_buffer.specs.document_edits_below.NameSets.{NameSet}
+use Rattle.editor_buffer.specs.document_edits_below.NameSets.{AreChanged as AreOthers}
 use Rattle.editor_buffer.specs.Cutting.{AreKept}
 use Rattle.editor_buffer.specs.Preparation.{Preparation}
 use Rattle.prover_core.specs.Plans.{PlanState, IsPlanOf}
@@ -35,11 +35,11 @@ use Rattle.session_rules.specs.declared.service.Service.{Service}
 use Rattle.session_rules.specs.Services.{mode_of}
 use Rattle.session_rules.specs.Session.{Session, document}
 use Rattle.session_rules.specs.Accepting.{taken}
-use Rattle.session_states.specs.replies_below.Spelling.{spelling}
-use Rattle.session_states.specs.replies_below.Assigned.{nodes_told}
-use Rattle.session_states.specs.jobs_below.Works.{Work}
-use Rattle.session_states.specs.Kept.{session_of, IsKept}
-use Rattle.session_states.specs.Messages.{UpdateLaw}
+use Rattle.keeping_rules.specs.session_replies_below.Spelling.{spelling}
+use Rattle.keeping_rules.specs.session_replies_below.Assigned.{nodes_told}
+use Rattle.keeping_rules.specs.session_replies_below.Works.{Work}
+use Rattle.keeping_rules.specs.Kept.{session_of, IsKept}
+use Rattle.keeping_rules.specs.Messages.{UpdateLaw}
 use Rattle.document_session.specs.Makes.{IsMade}
 use Rattle.document_session.proofs.Refusals.{limit_passed}
 use Rattle.document_session.proofs.Rooms.{state, replied_by}

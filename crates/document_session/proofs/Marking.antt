@@ -2,7 +2,7 @@
 use Rattle.std.proofs.Common.{◌≡◌, ℕ, List, Option, Some, None, Ok, sym, subst, ◌∙◌}
 use Rattle.text_edits.specs.declared.edit.Edit.{Edit}
 use Rattle.doc_nodes.specs.Imports.{place_of}
-use Rattle.doc_versions.specs.Live.{version_of}
+use Rattle.core_tables.specs.Live.{version_of}
 use Rattle.exec_rules.specs.declared.version.Version.{Version}
 use Rattle.exec_lists.specs.declared.results.NodeResults.{NodeResults}
 use Rattle.language.specs.Lang.{Lang}
@@ -12,7 +12,7 @@ use Rattle.core_rules.specs.Doc.{doc}
 use Rattle.core_rules.specs.Updates.{node_in}
 use Rattle.prover_core.specs.Results.{AreResults, AreResultsIn}
 use Rattle.session_rules.specs.Session.{Session}
-use Rattle.session_states.specs.replies_below.Edited.{PlacesFit}
+use Rattle.keeping_rules.specs.session_replies_below.Edited.{PlacesFit}
 use Rattle.document_session.specs.Looks.{IsSeen}
 use Rattle.document_session.proofs.Looked.{placed}
 

@@ -10,7 +10,7 @@ use Rattle.sheet_edits.specs.Telling.{Tells}
 use Rattle.session_rules.specs.declared.service.Service.{Service}
 use Rattle.session_rules.specs.Session.{Session}
 use Rattle.session_rules.specs.Accepting.{taken}
-use Rattle.session_states.specs.Looks.{IsLook}
+use Rattle.keeping_rules.specs.Looks.{IsLook}
 use Rattle.document_session.specs.Looks.{LookedSo}
 
 -- a step that is refused

@@ -18,9 +18,9 @@ use Rattle.session_rules.specs.declared.service.Service.{Service}
 use Rattle.session_rules.specs.Session.{Session, document}
 use Rattle.session_rules.specs.Updating.{with_buffer}
 use Rattle.session_rules.specs.Replies.{rows_told}
-use Rattle.session_states.specs.replies_below.Assigned.{nodes_told}
-use Rattle.session_states.specs.jobs_below.Works.{Work}
-use Rattle.session_states.specs.Kept.{session_of, IsKept}
+use Rattle.keeping_rules.specs.session_replies_below.Assigned.{nodes_told}
+use Rattle.keeping_rules.specs.session_replies_below.Works.{Work}
+use Rattle.keeping_rules.specs.Kept.{session_of, IsKept}
 
 module _ {S : Type 0} (l : Lang S) (s : Session) (version : ℕ) (b : Buffer) (p : PlanState) (is : IsPlanOf l s.events p)
     (nodes : p.nodes ≡ b.nodes) (blobs : p.blobs ≡ b.document.blobs) where

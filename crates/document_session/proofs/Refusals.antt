@@ -5,8 +5,8 @@ use Rattle.std.specs.Prelude.{◌≤◌, ◌||◌, is_some}
 use Rattle.std.specs.Option.{is_none}
 use Rattle.pide_base.specs.Ids.{id_end}
 use Rattle.pide_base.specs.declared.part.Part.{Part}
-use Rattle.doc_versions.specs.declared.versions.Removing.TheVariants as answer
-use Rattle.doc_versions.specs.Removal.{removing}
+use Rattle.core_tables.specs.declared.versions.Removing.TheVariants as answer
+use Rattle.core_tables.specs.Removal.{removing}
 use Rattle.language.specs.Lang.{Lang}
 use Rattle.message_values.specs.declared.editor_message.EditorMessage.{EditorMessage}
 use Rattle.message_values.specs.declared.editor_message.EditorMessage.TheVariants as asks
@@ -23,7 +23,7 @@ use Rattle.session_rules.specs.declared.service.Service.{Service}
 use Rattle.session_rules.specs.Session.{Session, document}
 use Rattle.session_rules.specs.Accepting.{taken}
 use Rattle.session_rules.specs.Updating.{removed_by, with_buffer}
-use Rattle.session_states.proofs.KnownChecked.{checked, taken_checked}
+use Rattle.keeping_rules.proofs.KnownChecked.{checked, taken_checked}
 
 -- an update
 module _ {S : Type 0} (l : Lang S) (service : Service) (s : Session) (version : ℕ) (wanted : Asked) where

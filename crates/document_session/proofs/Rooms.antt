@@ -8,10 +8,10 @@ use Rattle.session_rules.specs.declared.entry.Entry.{Entry}
 use Rattle.session_rules.specs.declared.service.Service.{Service}
 use Rattle.session_rules.specs.Session.{Session}
 use Rattle.session_rules.specs.Steps.{due}
-use Rattle.session_states.specs.jobs_below.Works.{Work}
-use Rattle.session_states.specs.lists_below.Items.{SessionItem, heard_in}
-use Rattle.session_states.specs.Kept.{IsListed, IsKept}
-use Rattle.session_states.specs.States.{State, IsAdded}
+use Rattle.keeping_rules.specs.session_replies_below.Works.{Work}
+use Rattle.keeping_rules.specs.Items.{SessionItem, heard_in}
+use Rattle.keeping_rules.specs.Kept.{IsListed, IsKept}
+use Rattle.keeping_rules.specs.States.{State, IsAdded}
 
 -- the state of these parts
 abbrev pub state : {S : Type 0} → Log Service Entry → Session → ℕ → ℕ → (ℕ → Option (Work S)) → State S

@@ -12,8 +12,8 @@ use Rattle.session_rules.specs.declared.service.Service.{Service}
 use Rattle.session_rules.specs.declared.service.Service.TheVariants.{Workers, Script}
 use Rattle.session_rules.specs.Services.{is_held_by_script}
 use Rattle.session_rules.specs.Session.{Session}
-use Rattle.session_states.specs.jobs_below.Works.{Work}
-use Rattle.session_states.specs.Kept.{AreKeptJobs}
+use Rattle.keeping_rules.specs.session_replies_below.Works.{Work}
+use Rattle.keeping_rules.specs.Kept.{AreKeptJobs}
 
 none_in : (f : ℕ → Bool) (a n : ℕ) → ((w : ℕ) → a ≤ w → w < a + n → f w ≡ false) → list_any f (range_with_len a n) ≡ false
 none_in f a zero each = refl

@@ -5,7 +5,7 @@ use Rattle.reply_outbox.specs.declared.item.Item.TheVariants as item
 use Rattle.reply_outbox.specs.Waiting.{Log, IsSent, IsStill}
 use Rattle.session_rules.specs.declared.entry.Entry.{Entry}
 use Rattle.session_rules.specs.declared.service.Service.{Service}
-use Rattle.session_states.specs.lists_below.Items.{SessionItem, writer_of}
+use Rattle.keeping_rules.specs.Items.{SessionItem, writer_of}
 use Rattle.document_session.specs.Contents.{SessionState}
 
 -- where a reply is sent the state after it is sound, and where none is it is as it was

@@ -4,7 +4,7 @@ use Rattle.std.proofs.lemmas.Bool.{eqb-true}
 use Rattle.std.specs.Prelude.{◌==◌, ◌||◌, ◌&&◌, if◌then◌else◌}
 use Rattle.std.specs.List.{list_any, list_all}
 use Rattle.pide_base.specs.declared.part.Part.{Part}
-use Rattle.doc_versions.specs.Live.{version_of}
+use Rattle.core_tables.specs.Live.{version_of}
 use Rattle.exec_rules.specs.declared.version.Version.{Version}
 use Rattle.language.specs.Lang.{Lang}
 use Rattle.message_values.specs.declared.editor_message.EditorMessage.TheVariants as asks
@@ -28,9 +28,9 @@ use Rattle.session_rules.specs.Accepting.{taken}
 use Rattle.session_rules.specs.Legal.{IsSettledIn, awaited_by, awaited_of}
 use Rattle.session_rules.specs.Looking.{settles}
 use Rattle.session_rules.specs.Replies.{or_refusal}
-use Rattle.session_states.specs.replies_below.Spelling.{spelling}
-use Rattle.session_states.specs.Looks.{IsLook}
-use Rattle.session_states.proofs.KnownNothingDue.{nothing_due}
+use Rattle.keeping_rules.specs.session_replies_below.Spelling.{spelling}
+use Rattle.keeping_rules.specs.Looks.{IsLook}
+use Rattle.keeping_rules.proofs.KnownNothingDue.{nothing_due}
 
 none_fails : {A : Type 0} (p q : A → Bool) (xs : List A) → list_any p xs ≡ true → ((x : A) → p x ≡ true → q x ≡ false) → list_all q xs ≡ false
 none_fails p q [] some each = absurd (cc)

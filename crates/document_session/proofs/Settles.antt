@@ -2,7 +2,7 @@
 use Rattle.std.proofs.Common.{◌≡◌, ◌≢◌, ℕ, true, false, List, Some, Result, Ok, Err, refl, sym, ap, subst, ◌∙◌}
 use Rattle.std.specs.Prelude.{Vec}
 use Rattle.std.specs.declared.alloc.Global.{Global}
-use Rattle.doc_versions.specs.Live.{version_of}
+use Rattle.core_tables.specs.Live.{version_of}
 use Rattle.exec_rules.specs.declared.version.Version.{Version}
 use Rattle.language.specs.Lang.{Lang}
 use Rattle.message_values.specs.declared.editor_message.EditorMessage.{EditorMessage}
@@ -24,9 +24,9 @@ use Rattle.session_rules.specs.Services.{mode_of, is_held_by_script}
 use Rattle.session_rules.specs.Session.{Session}
 use Rattle.session_rules.specs.Accepting.{taken}
 use Rattle.session_rules.specs.Legal.{awaited_of}
-use Rattle.session_states.specs.replies_below.Spelling.{spelling}
-use Rattle.session_states.specs.lists_below.Items.{SessionItem, session_in}
-use Rattle.session_states.specs.Looks.{IsLook}
+use Rattle.keeping_rules.specs.session_replies_below.Spelling.{spelling}
+use Rattle.keeping_rules.specs.Items.{SessionItem, session_in}
+use Rattle.keeping_rules.specs.Looks.{IsLook}
 use Rattle.document_session.specs.Answers.{IsWaiting}
 use Rattle.document_session.specs.Looks.{SettlesSo}
 use Rattle.document_session.specs.declared.looking.Settling.{Settling}

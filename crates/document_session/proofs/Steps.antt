@@ -28,17 +28,17 @@ use Rattle.session_rules.specs.declared.service.Service.{Service}
 use Rattle.session_rules.specs.declared.service.Service.TheVariants.{Script}
 use Rattle.session_rules.specs.Services.{mode_of}
 use Rattle.session_rules.specs.Session.{document}
-use Rattle.session_states.specs.replies_below.Spelling.{spelling}
-use Rattle.session_states.specs.jobs_below.Works.{Work, WorkDone}
-use Rattle.session_states.specs.jobs_below.declared.ran.SessionRan.{SessionRan}
-use Rattle.session_states.specs.jobs_below.declared.ran.SessionRan.TheVariants as ran
-use Rattle.session_states.specs.jobs_below.Runs.{RanSo, work_done}
-use Rattle.session_states.specs.lists_below.Items.{SessionItem}
-use Rattle.session_states.specs.Kept.{IsKept}
-use Rattle.session_states.specs.States.{State, IsSound, heard_with}
-use Rattle.session_states.specs.Turns.{entry_of, told_of}
-use Rattle.session_states.specs.Workers.{StepLaws}
-use Rattle.session_states.specs.Works.{IsDoneWorkOf}
+use Rattle.keeping_rules.specs.session_replies_below.Spelling.{spelling}
+use Rattle.keeping_rules.specs.session_replies_below.Works.{Work, WorkDone}
+use Rattle.keeping_rules.specs.session_replies_below.declared.ran.SessionRan.{SessionRan}
+use Rattle.keeping_rules.specs.session_replies_below.declared.ran.SessionRan.TheVariants as ran
+use Rattle.keeping_rules.specs.session_replies_below.Runs.{RanSo, work_done}
+use Rattle.keeping_rules.specs.Items.{SessionItem}
+use Rattle.keeping_rules.specs.Kept.{IsKept}
+use Rattle.keeping_rules.specs.States.{State, IsSound, heard_with}
+use Rattle.keeping_rules.specs.Turns.{entry_of, told_of}
+use Rattle.keeping_rules.specs.Workers.{StepLaws}
+use Rattle.keeping_rules.specs.Works.{IsDoneWorkOf}
 use Rattle.document_session.specs.Answers.{IsAnswered, is_step}
 use Rattle.document_session.specs.Contents.{SessionState}
 use Rattle.document_session.proofs.Called.{claim_called, finish_called}

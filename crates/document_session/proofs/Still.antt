@@ -12,10 +12,10 @@ use Rattle.session_rules.specs.declared.entry.Entry.{Entry}
 use Rattle.session_rules.specs.declared.service.Service.{Service}
 use Rattle.session_rules.specs.Services.{mode_of}
 use Rattle.session_rules.specs.Session.{Session}
-use Rattle.session_states.specs.lists_below.Items.{SessionItem, session_in}
-use Rattle.session_states.specs.jobs_below.Works.{Work}
-use Rattle.session_states.specs.Kept.{IsListed, IsKept}
-use Rattle.session_states.specs.States.{with_past}
+use Rattle.keeping_rules.specs.Items.{SessionItem, session_in}
+use Rattle.keeping_rules.specs.session_replies_below.Works.{Work}
+use Rattle.keeping_rules.specs.Kept.{IsListed, IsKept}
+use Rattle.keeping_rules.specs.States.{with_past}
 use Rattle.document_session.specs.declared.taking.Taken.{Taken}
 use Rattle.document_session.specs.Answers.{TakenSo}
 use Rattle.document_session.specs.Contents.{SessionState}

@@ -8,8 +8,8 @@ use Rattle.reply_outbox.specs.Waiting.{Log}
 use Rattle.session_rules.specs.declared.entry.Entry.{Entry}
 use Rattle.session_rules.specs.declared.service.Service.{Service}
 use Rattle.session_rules.specs.Session.{Session}
-use Rattle.session_states.specs.jobs_below.Works.{Work}
-use Rattle.session_states.specs.Kept.{AreKeptJobs, IsKept}
+use Rattle.keeping_rules.specs.session_replies_below.Works.{Work}
+use Rattle.keeping_rules.specs.Kept.{AreKeptJobs, IsKept}
 
 module _ {S : Type 0} (l : Lang S) (service : Service) (s : Session) (jobs : ℕ → Option (Work S)) (are : AreKeptJobs l service s jobs) where
   -- a worker that holds nothing has no job

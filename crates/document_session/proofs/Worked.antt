@@ -15,11 +15,11 @@ use Rattle.prover_core.specs.Answers.{FinishedSo as CoreFinishedSo}
 use Rattle.reply_outbox.specs.declared.item.Item.TheVariants.{Made}
 use Rattle.session_rules.specs.declared.service.Service.{Service}
 use Rattle.session_rules.specs.Session.{Session, document}
-use Rattle.session_states.specs.jobs_below.Works.{Work}
-use Rattle.session_states.specs.lists_below.Items.{SessionItem, session_in}
-use Rattle.session_states.specs.States.{with_past}
-use Rattle.session_states.specs.Turns.{entry_of}
-use Rattle.session_states.specs.Works.{IsWorkOf}
+use Rattle.keeping_rules.specs.session_replies_below.Works.{Work}
+use Rattle.keeping_rules.specs.Items.{SessionItem, session_in}
+use Rattle.keeping_rules.specs.States.{with_past}
+use Rattle.keeping_rules.specs.Turns.{entry_of}
+use Rattle.keeping_rules.specs.Works.{IsWorkOf}
 use Rattle.document_session.specs.Answers.{FinishedSo}
 
 -- the work that a worker took

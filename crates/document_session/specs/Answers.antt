@@ -15,7 +15,7 @@ use Rattle.session_rules.specs.Session.{Session, document}
 use Rattle.session_rules.specs.Steps.{Nothing, due}
 use Rattle.session_rules.specs.Legal.{awaited}
 use Rattle.session_rules.specs.Alone.{IsUnsettled}
-use Rattle.session_states.specs.jobs_below.Works.{Work}
+use Rattle.keeping_rules.specs.session_replies_below.Works.{Work}
 use Rattle.document_session.specs.declared.taking.Taken.{Taken}
 use Rattle.document_session.specs.declared.taking.Taken.TheVariants as taken
 use Rattle.document_session.specs.declared.working.Claim.{Claim}
@@ -24,8 +24,8 @@ use Rattle.prover_core.specs.declared.finishing.Finish.{Finish}
 use Rattle.prover_core.specs.declared.finishing.Finish.TheVariants as finish
 use Rattle.document_session.specs.declared.working.GiveUp.{GiveUp}
 use Rattle.document_session.specs.declared.working.GiveUp.TheVariants as give_up
-use Rattle.session_states.specs.lists_below.Items.{SessionItem, heard_in, session_in}
-use Rattle.session_states.specs.Works.{IsWorkOf}
+use Rattle.keeping_rules.specs.Items.{SessionItem, heard_in, session_in}
+use Rattle.keeping_rules.specs.Works.{IsWorkOf}
 
 -- a worker's entry
 abbrev pub is_step : Entry → Bool

@@ -1,8 +1,8 @@
 -- The replies to a cancellation, written before it is known what it comes to.
 use Rattle.std.specs.Prelude.{◌≡◌, ℕ}
-use Rattle.exec_table.specs.declared.execs.Cancelling.TheVariants as answer
-use Rattle.session_states.specs.replies_below.Spelling.{spelling}
-use Rattle.session_states.specs.replies_below.Cancelled.{cancelling_told}
+use Rattle.core_tables.specs.declared.execs.Cancelling.TheVariants as answer
+use Rattle.keeping_rules.specs.session_replies_below.Spelling.{spelling}
+use Rattle.keeping_rules.specs.session_replies_below.Cancelled.{cancelling_told}
 use Rattle.document_session.specs.declared.changing.CancelReplies.{CancelReplies}
 
 -- they are the replies to each answer

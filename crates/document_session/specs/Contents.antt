@@ -1,7 +1,7 @@
 -- What contracts see of a session (this project's own).
 use Rattle.std.specs.Prelude.{ℕ, List}
 use Rattle.session_rules.specs.declared.service.Service.{Service}
-use Rattle.session_states.specs.lists_below.Items.{SessionItem}
+use Rattle.keeping_rules.specs.Items.{SessionItem}
 
 -- how it is served, its items, the newest first, and the replies that wait, the oldest first
 pub record SessionState : Type 0 where

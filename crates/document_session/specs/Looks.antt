@@ -3,7 +3,7 @@
 use Rattle.std.specs.Prelude.{◌≡◌, ℕ, List, Some, Result, Ok, Err}
 use Rattle.text_edits.specs.declared.edit.Edit.{Edit}
 use Rattle.doc_nodes.specs.declared.node.Node.{Node}
-use Rattle.doc_versions.specs.Live.{version_of}
+use Rattle.core_tables.specs.Live.{version_of}
 use Rattle.exec_rules.specs.declared.version.Version.{Version}
 use Rattle.language.specs.Lang.{Lang}
 use Rattle.message_values.specs.declared.editor_message.EditorMessage.{EditorMessage}
@@ -18,8 +18,8 @@ use Rattle.session_rules.specs.Session.{Session, document}
 use Rattle.session_rules.specs.Accepting.{taken}
 use Rattle.session_rules.specs.Alone.{IsUnsettled}
 use Rattle.session_rules.specs.Legal.{awaited_of}
-use Rattle.session_states.specs.replies_below.Edited.{PlacesFit}
-use Rattle.session_states.specs.Looks.{IsLook}
+use Rattle.keeping_rules.specs.session_replies_below.Edited.{PlacesFit}
+use Rattle.keeping_rules.specs.Looks.{IsLook}
 use Rattle.document_session.specs.declared.looking.Settling.{Settling}
 use Rattle.document_session.specs.declared.looking.Settling.TheVariants as settling
 

@@ -4,19 +4,19 @@ ghost use Rattle.core_rules.specs.Standing.{has_ended};
 ghost use Rattle.message_values.specs.Asked.{asked};
 ghost use Rattle.session_rules.specs.Services.{mode_of};
 ghost use Rattle.session_rules.specs.Accepting.{taken};
-ghost use Rattle.session_states.specs.lists_below.Items.{session_in};
-ghost use Rattle.session_states.specs.lists_below.Legal.{AreLegal};
+ghost use Rattle.keeping_rules.specs.Items.{session_in};
+ghost use Rattle.keeping_rules.specs.Legal.{AreLegal};
 ghost use Rattle.document_session.specs.Answers.{TakenSo};
 
 use crate::session::Session;
 use crate::taking::Taken;
 use byte_message::Message;
+use keeping_rules::look_laws;
+use keeping_rules::session_replies_below::refused;
 use language::Language;
 use message_values::Refusal;
 use reply_outbox::{Outbox, Past};
 use session_rules::{Entry, Service};
-use session_states::look_laws;
-use session_states::replies_below::refused;
 use std::alloc::{AllocError, Global};
 
 impl<L: Language, P: Past<Service, Entry> + Drop> Session<L, P> {

@@ -4,10 +4,10 @@ ghost use Rattle.core_rules.specs.Standing.{has_ended};
 ghost use Rattle.message_values.specs.Asked.{asked};
 ghost use Rattle.message_values.specs.declared.editor_message.EditorMessage.TheVariants as asks;
 ghost use Rattle.session_rules.specs.Services.{mode_of};
-ghost use Rattle.session_states.specs.lists_below.Items.{session_in};
-ghost use Rattle.session_states.specs.lists_below.Legal.{AreLegal};
-ghost use Rattle.session_states.specs.replies_below.Spelling.{spelling};
-ghost use Rattle.session_states.specs.replies_below.Cancelled.{cancelling_told};
+ghost use Rattle.keeping_rules.specs.Items.{session_in};
+ghost use Rattle.keeping_rules.specs.Legal.{AreLegal};
+ghost use Rattle.keeping_rules.specs.session_replies_below.Spelling.{spelling};
+ghost use Rattle.keeping_rules.specs.session_replies_below.Cancelled.{cancelling_told};
 ghost use Rattle.document_session.specs.Answers.{TakenSo};
 ghost use Rattle.document_session.specs.Cancels.{AreRepliesTo};
 
@@ -15,16 +15,15 @@ use crate::answering::make_room;
 use crate::session::Session;
 use crate::taking::Taken;
 use byte_message::Message;
-use doc_versions::Removing;
-use exec_table::Cancelling;
+use core_tables::{Cancelling, Removing};
 use joined_results::each_of_three;
+use keeping_rules::change_laws;
+use keeping_rules::session_replies_below::{cancelling, removed_law, removed_versions};
 use language::Language;
 use message_values::{Protocol, Refusal};
 use pide_base::{ExecId, VersionId};
 use reply_outbox::Past;
 use session_rules::{Entry, Service};
-use session_states::change_laws;
-use session_states::replies_below::{cancelling, removed_law, removed_versions};
 use sqlite_items::Items;
 use std::alloc::{AllocError, Global};
 
@@ -124,7 +123,7 @@ impl<L: Language, P: Past<Service, Entry> + Drop> Session<L, P> {
             return self.refuse(alloc, message, Refusal::ProtocolFixed);
         }
         make_room(&mut self.outbox, self.held, 1)?;
-        let reply = session_states::replies_below::protocol(alloc, protocol)?;
+        let reply = keeping_rules::session_replies_below::protocol(alloc, protocol)?;
         self.protocol = protocol;
         self.called = true;
         self.outbox.add(Entry::Call(message), Some(reply));

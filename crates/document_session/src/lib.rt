@@ -19,8 +19,9 @@ mod taking;
 mod updating;
 mod working;
 
+pub use keeping_rules as keeping_rules_below;
+pub use keeping_rules::session_replies_below as session_replies_below;
 pub use prover_core::Finish;
 pub use session::Session;
-pub use session_states::{jobs_below as jobs_below, lists_below as lists_below};
 pub use taking::Taken;
 pub use working::{Claim, GiveUp};

@@ -8,12 +8,12 @@ ghost use Rattle.reply_writing.specs.declared.told.Told.TheVariants as tells;
 ghost use Rattle.exec_lists.specs.Parts.{told};
 ghost use Rattle.session_rules.specs.Services.{mode_of, is_held_by_script};
 ghost use Rattle.session_rules.specs.Replies.{is_outdated};
-ghost use Rattle.session_states.specs.lists_below.Items.{session_in};
-ghost use Rattle.session_states.specs.lists_below.Legal.{AreLegal};
-ghost use Rattle.session_states.specs.replies_below.Spelling.{spelling};
-ghost use Rattle.session_states.specs.replies_below.Marked.{marked, AreMovable};
+ghost use Rattle.keeping_rules.specs.Items.{session_in};
+ghost use Rattle.keeping_rules.specs.Legal.{AreLegal};
+ghost use Rattle.keeping_rules.specs.session_replies_below.Spelling.{spelling};
+ghost use Rattle.keeping_rules.specs.session_replies_below.Marked.{marked, AreMovable};
 ghost use Rattle.document_session.specs.Answers.{TakenSo};
-ghost use Rattle.session_states.specs.Looks.{IsLook};
+ghost use Rattle.keeping_rules.specs.Looks.{IsLook};
 ghost use Rattle.document_session.specs.Looks.{IsSeen, FoundSo, LookedSo, SettlesSo};
 
 use crate::answering::make_room;
@@ -21,15 +21,16 @@ use crate::session::Session;
 use crate::taking::Taken;
 use byte_message::Message;
 use exec_lists::NodeResults;
+use keeping_rules::session_replies_below::{
+    edited_text, markup, settled, settled_law, snapshot_law,
+};
+use keeping_rules::{history_law, look_laws};
 use language::Language;
 use message_values::{Protocol, Refusal};
 use pide_base::{NodeName, VersionId};
 use prover_core::Settled;
 use reply_outbox::Past;
 use session_rules::{Entry, Service};
-use session_states::lists_below::history_law;
-use session_states::look_laws;
-use session_states::replies_below::{edited_text, markup, settled, settled_law, snapshot_law};
 use sheet_edits::PrepareError;
 use std::alloc::{AllocError, Global};
 use text_edits::Edit;

@@ -3,10 +3,10 @@ ghost use Rattle.std.specs.Prelude.{◌≡◌, IfOk};
 ghost use Rattle.core_rules.specs.Ready.{first_ready};
 ghost use Rattle.prover_core.specs.Results.{AreResults};
 ghost use Rattle.session_rules.specs.Session.{document};
-ghost use Rattle.session_states.specs.lists_below.Items.{session_in};
+ghost use Rattle.keeping_rules.specs.Items.{session_in};
 
 use crate::session::Session;
-use doc_versions::Live;
+use core_tables::Live;
 use exec_lists::NodeResults;
 use exec_rules::Version;
 use language::Language;

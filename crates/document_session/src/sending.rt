@@ -5,15 +5,15 @@ ghost use Rattle.reply_outbox.specs.Items.{has_sent, is_lost};
 ghost use Rattle.reply_outbox.specs.Waiting.{bytes_waiting};
 ghost use Rattle.message_values.specs.Workers.{most_workers};
 ghost use Rattle.session_rules.specs.Services.{free_workers};
-ghost use Rattle.session_states.specs.lists_below.Items.{heard_in, writer_of};
-ghost use Rattle.session_states.specs.lists_below.Legal.{AreLegal};
-ghost use Rattle.session_states.specs.lists_below.Pieces.{pieces, AreWaiting};
+ghost use Rattle.keeping_rules.specs.Items.{heard_in, writer_of};
+ghost use Rattle.keeping_rules.specs.Legal.{AreLegal};
+ghost use Rattle.keeping_rules.specs.Pieces.{pieces, AreWaiting};
 
 use crate::session::Session;
+use keeping_rules::writer_laws;
 use language::Language;
 use reply_outbox::Past;
 use session_rules::{Entry, Service};
-use session_states::writer_laws;
 
 /// The most workers that messages name.
 const MOST_WORKERS: u32 = 16;

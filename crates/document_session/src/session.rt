@@ -6,18 +6,18 @@ ghost use Rattle.message_values.specs.Workers.{most_workers};
 ghost use Rattle.session_rules.specs.Services.{free_workers};
 ghost use Rattle.session_rules.specs.Steps.{Nothing, due};
 ghost use Rattle.session_rules.specs.declared.entry.Entry.TheVariants as entry;
-ghost use Rattle.session_states.specs.lists_below.Items.{heard_in, session_in};
-ghost use Rattle.session_states.specs.lists_below.Legal.{AreLegal};
+ghost use Rattle.keeping_rules.specs.Items.{heard_in, session_in};
+ghost use Rattle.keeping_rules.specs.Legal.{AreLegal};
 
 use crate::table::Table;
 use editor_buffer::Buffer;
+use keeping_rules::session_replies_below::SessionJob;
+use keeping_rules::writer_laws;
 use language::Language;
 use message_values::Protocol;
 use prover_core::Core;
 use reply_outbox::{Outbox, Past};
 use session_rules::{Entry, Service};
-use session_states::jobs_below::SessionJob;
-use session_states::writer_laws;
 use std::alloc::{AllocFailed, Global};
 use std::collections::HashMap;
 use std::marker::Model;
@@ -42,7 +42,7 @@ pub struct Session<L: Language, P: Past<Service, Entry>> {
 }
 
 impl<L: Language, P: Past<Service, Entry>> Model for Session<L, P> {
-    ghost use Rattle.session_states.specs.Kept.{session_of, IsKept};
+    ghost use Rattle.keeping_rules.specs.Kept.{session_of, IsKept};
     ghost use Rattle.document_session.specs.Contents.{SessionState};
     ghost use Rattle.prover_core.specs.Looked.{looked};
 

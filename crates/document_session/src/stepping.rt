@@ -3,14 +3,14 @@ ghost use Rattle.std.specs.Prelude.{◌≡◌, ◌+◌, ◌^◌, ◌<◌, ◌≤
 ghost use Rattle.std.specs.HashMap.{spare};
 ghost use Rattle.prover_core.specs.Looked.{looked};
 ghost use Rattle.reply_writing.specs.declared.told.Told.TheVariants as tells;
-ghost use Rattle.session_states.specs.replies_below.Spelling.{spelling};
+ghost use Rattle.keeping_rules.specs.session_replies_below.Spelling.{spelling};
 ghost use Rattle.core_rules.specs.Standing.{has_ended};
 ghost use Rattle.message_values.specs.Asked.{asked};
 ghost use Rattle.message_values.specs.Workers.{IsWorker};
 ghost use Rattle.message_values.specs.declared.editor_message.EditorMessage.TheVariants as asks;
 ghost use Rattle.session_rules.specs.Services.{mode_of};
-ghost use Rattle.session_states.specs.lists_below.Items.{session_in};
-ghost use Rattle.session_states.specs.lists_below.Legal.{AreLegal};
+ghost use Rattle.keeping_rules.specs.Items.{session_in};
+ghost use Rattle.keeping_rules.specs.Legal.{AreLegal};
 ghost use Rattle.document_session.specs.Answers.{TakenSo};
 
 use crate::answering::make_room;
@@ -21,15 +21,14 @@ use crate::working::take_in;
 use byte_message::Message;
 use core_jobs::job_law;
 use joined_results::both;
+use keeping_rules::session_replies_below::{SessionJob, SessionRan, claimed, dropped};
+use keeping_rules::step_laws;
 use language::Language;
 use message_values::{Refusal, Worker, a_message_is_asked_where_it_is_spelled};
 use pide_base::{Never, Part};
 use prover_core::Claim as CoreClaim;
 use reply_outbox::{Outbox, Past};
 use session_rules::{Entry, Service};
-use session_states::jobs_below::{SessionJob, SessionRan};
-use session_states::replies_below::{claimed, dropped};
-use session_states::step_laws;
 use std::alloc::{AllocError, Global};
 
 impl<L: Language, P: Past<Service, Entry> + Drop> Session<L, P> {

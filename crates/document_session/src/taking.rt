@@ -3,8 +3,8 @@ ghost use Rattle.std.specs.Prelude.{◌≡◌, false, IfOk, OnErr, Ok};
 ghost use Rattle.core_rules.specs.Standing.{has_ended};
 ghost use Rattle.message_values.specs.Asked.{asked};
 ghost use Rattle.session_rules.specs.Services.{mode_of};
-ghost use Rattle.session_states.specs.lists_below.Items.{session_in};
-ghost use Rattle.session_states.specs.lists_below.Legal.{AreLegal};
+ghost use Rattle.keeping_rules.specs.Items.{session_in};
+ghost use Rattle.keeping_rules.specs.Legal.{AreLegal};
 ghost use Rattle.document_session.specs.Answers.{TakenSo};
 
 use crate::session::Session;

@@ -6,23 +6,22 @@ ghost use Rattle.core_rules.specs.Doc.{doc};
 ghost use Rattle.prover_core.specs.Answers.{FinishedSo as CoreFinishedSo};
 ghost use Rattle.reply_outbox.specs.declared.item.Item.TheVariants.{Made};
 ghost use Rattle.session_rules.specs.Services.{free_workers};
-ghost use Rattle.session_states.specs.replies_below.Spelling.{spelling};
-ghost use Rattle.session_states.specs.lists_below.Items.{session_in};
-ghost use Rattle.session_states.specs.lists_below.Legal.{AreLegal};
-ghost use Rattle.session_states.specs.Works.{IsDoneWorkOf};
-ghost use Rattle.session_states.specs.Turns.{entry_of, told_of};
+ghost use Rattle.keeping_rules.specs.session_replies_below.Spelling.{spelling};
+ghost use Rattle.keeping_rules.specs.Items.{session_in};
+ghost use Rattle.keeping_rules.specs.Legal.{AreLegal};
+ghost use Rattle.keeping_rules.specs.Works.{IsDoneWorkOf};
+ghost use Rattle.keeping_rules.specs.Turns.{entry_of, told_of};
 ghost use Rattle.document_session.specs.Answers.{ClaimedSo, FinishedSo, GivenUpSo};
 
 use crate::answering::make_room;
 use crate::session::Session;
+use keeping_rules::free_laws;
+use keeping_rules::session_replies_below::{DoneParts, JobParts, SessionDone, SessionJob, dropped};
 use language::Language;
 use pide_base::{Flag, Part};
 use prover_core::{Claim as CoreClaim, Core, Finish, GiveUp as CoreGiveUp};
 use reply_outbox::{Outbox, Past};
 use session_rules::{Entry, Service};
-use session_states::free_laws;
-use session_states::jobs_below::{DoneParts, JobParts, SessionDone, SessionJob};
-use session_states::replies_below::dropped;
 use std::alloc::Global;
 
 /// What a claim gives.

@@ -14,10 +14,10 @@ ghost use Rattle.editor_buffer.specs.Preparation.{buffer_of, IsStanding, Prepara
 
 use crate::cutting::{Cutting, Tip, cut_all};
 use crate::limits::is_large;
-use doc_limits::are_too_many_live;
 use doc_nodes::Nodes;
 use document_edits::{BlobEdits, BlobNames, Blobs, Draft, OpenNodes, blob_edits, names_twice};
 use message_values::{BlobChange, Item, Refusal};
+use pide_base::are_too_many_live;
 use shared_map::SharedMap;
 use sheet_edits::PrepareError;
 use std::alloc::Global;

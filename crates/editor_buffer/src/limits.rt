@@ -4,8 +4,8 @@ ghost use Rattle.std.specs.List.{list_any};
 ghost use Rattle.buffer_rules.specs.Preparing.{is_long, is_large};
 ghost use Rattle.document_edits.specs.Standing.{sheets_of};
 
-use doc_limits::{are_too_many, is_too_long};
 use document_edits::{Blobs, OpenNodes};
+use pide_base::{are_too_many, is_too_long};
 
 /// Whether the text of some node is too long.
 fn has_long_sheet(opened: &OpenNodes) -> bool

@@ -5,10 +5,10 @@ use Rattle.std.specs.List.{AllByRecursion}
 use Rattle.text_words.proofs.KnownLists.{each-both, each-so}
 use Rattle.shared_map.specs.Pairs.{IsSorted}
 use Rattle.pide_base.specs.Ids.{IsId, id_end}
-use Rattle.doc_limits.specs.Limits.{most_scalars}
+use Rattle.pide_base.specs.Limits.{most_scalars}
 use Rattle.doc_nodes.specs.Imports.{NodeList}
 use Rattle.doc_nodes.specs.Names.{in_order}
-use Rattle.doc_versions.specs.declared.versions.Live.{Live}
+use Rattle.core_tables.specs.declared.versions.Live.{Live}
 use Rattle.exec_rules.specs.declared.home.Home.{Home}
 use Rattle.exec_rules.specs.declared.version.Version.{Version}
 use Rattle.exec_rules.specs.Assigning.{Update, assignment}
@@ -21,7 +21,7 @@ use Rattle.core_rules.specs.Legal.{IsLegal}
 use Rattle.core_rules.specs.Numbered.{next_number, numbered}
 use Rattle.core_rules.specs.Updates.{FitsNode, FitsUpdate}
 use Rattle.core_rules.proofs.KnownNumbers.{length_grown, numbered_positive, numbered_within}
-use Rattle.plain_laws.specs.Headed.{AreHeaded}
+use Rattle.report_laws.specs.Headed.{AreHeaded}
 use Rattle.editor_laws.proofs.CommandNumbers.{ArePositive, nodes_positive, rising_begin}
 use Rattle.editor_laws.proofs.FineEvents.{IsFine}
 use Rattle.editor_laws.proofs.FittingReports.{filter_all}

@@ -3,9 +3,9 @@ use Rattle.std.proofs.Common.{◌≡◌, ℕ, List, [], ◌∷◌, length, Resul
 use Rattle.std.specs.Prelude.{if◌then◌else◌, ◌||◌, is_some}
 use Rattle.std.specs.Option.{is_none}
 use Rattle.std.specs.List.{AllByRecursion}
-use Rattle.doc_versions.specs.declared.versions.Removing.{Removing}
-use Rattle.doc_versions.specs.declared.versions.Removing.TheVariants as answer
-use Rattle.doc_versions.specs.Removal.{removing}
+use Rattle.core_tables.specs.declared.versions.Removing.{Removing}
+use Rattle.core_tables.specs.declared.versions.Removing.TheVariants as answer
+use Rattle.core_tables.specs.Removal.{removing}
 use Rattle.language.specs.Lang.{Lang}
 use Rattle.message_values.specs.declared.editor_message.EditorMessage.{EditorMessage}
 use Rattle.message_values.specs.declared.editor_message.EditorMessage.TheVariants as asks

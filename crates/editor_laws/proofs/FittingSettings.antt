@@ -5,7 +5,7 @@ use Rattle.std.specs.Prelude.{slice_get, ◌==◌}
 use Rattle.std.specs.List.{AllByRecursion}
 use Rattle.text_words.specs.Members.{has}
 use Rattle.pide_base.specs.declared.part.Part.{Part}
-use Rattle.doc_limits.specs.Limits.{most_scalars}
+use Rattle.pide_base.specs.Limits.{most_scalars}
 use Rattle.report_markup.specs.declared.report.Report.{Report}
 use Rattle.doc_nodes.specs.declared.node.Node.{Node}
 use Rattle.doc_nodes.specs.Imports.{NodeList}
@@ -33,7 +33,7 @@ use Rattle.core_rules.specs.Updates.{source_in}
 use Rattle.core_rules.proofs.KnownNamedRows.{found_row, row_place}
 use Rattle.core_rules.proofs.KnownPlaces.{place_found}
 use Rattle.reply_reading.specs.Fits.{FitsReport, IsWide}
-use Rattle.plain_laws.specs.Headed.{AreHeaded}
+use Rattle.report_laws.specs.Headed.{AreHeaded}
 use Rattle.mirror_laws.proofs.KnownReported.{row_reports}
 use Rattle.editor_laws.proofs.AtPlaces.{all_from}
 use Rattle.editor_laws.proofs.FineDocs.{FineVersion}

@@ -6,12 +6,12 @@ use Rattle.std.specs.List.{AllByRecursion, range_with_len}
 use Rattle.text_words.proofs.KnownLists.{each-so}
 use Rattle.byte_message.specs.Limits.{longest_chunk}
 use Rattle.pide_base.specs.Ids.{IsId}
-use Rattle.doc_limits.specs.Limits.{most_scalars}
+use Rattle.pide_base.specs.Limits.{most_scalars}
 use Rattle.text_edits.specs.declared.edit.Edit.{Edit}
 use Rattle.symbol_markup.specs.Places.{symbol_place}
 use Rattle.doc_nodes.specs.Imports.{place_of}
-use Rattle.doc_versions.specs.declared.versions.Live.{Live}
-use Rattle.doc_versions.specs.Live.{version_of}
+use Rattle.core_tables.specs.declared.versions.Live.{Live}
+use Rattle.core_tables.specs.Live.{version_of}
 use Rattle.exec_rules.specs.declared.version.Version.{Version}
 use Rattle.exec_rules.specs.Assigning.{entries_in, rows_in}
 use Rattle.language.specs.Lang.{Lang}

@@ -7,9 +7,9 @@ use Rattle.std.specs.List.{AllByRecursion}
 use Rattle.text_words.specs.Members.{has}
 use Rattle.pide_base.specs.Ids.{IsId}
 use Rattle.pide_base.specs.declared.part.Part.{Part}
-use Rattle.doc_limits.specs.Limits.{most_scalars}
+use Rattle.pide_base.specs.Limits.{most_scalars}
 use Rattle.report_markup.specs.declared.report.Report.{Report}
-use Rattle.doc_versions.specs.declared.versions.Live.{Live}
+use Rattle.core_tables.specs.declared.versions.Live.{Live}
 use Rattle.exec_rules.specs.declared.home.Home.{Home}
 use Rattle.exec_rules.specs.declared.version.Version.{Version}
 use Rattle.language.specs.Lang.{Lang}

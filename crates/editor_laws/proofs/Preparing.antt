@@ -3,7 +3,7 @@ use Rattle.std.proofs.Common.{◌≡◌, ℕ, ◌+◌, ◌≤◌, Bool, true, fa
 use Rattle.std.proofs.lemmas.Bool.{ltb-false}
 use Rattle.std.specs.Prelude.{if◌then◌else◌, ◌||◌}
 use Rattle.pide_base.specs.Ids.{id_end}
-use Rattle.doc_limits.specs.Limits.{most_live}
+use Rattle.pide_base.specs.Limits.{most_live}
 use Rattle.message_values.specs.declared.refusal.Refusal.{Refusal}
 use Rattle.message_values.specs.declared.refusal.Refusal.TheVariants.{Limit}
 use Rattle.buffer_rules.specs.declared.sheet.Document.{Document}

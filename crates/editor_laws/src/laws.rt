@@ -22,10 +22,9 @@ use exec_rules::numbers_law;
 use language::Language;
 use message_values::a_message_is_asked_where_it_is_spelled;
 use mirror_laws::bytes_law;
-use plain_laws::{plain_law, sheets_law};
+use report_laws::{plain_law, sheets_law, told_law};
 use session_rules::events_law;
 use symbol_markup::places_in_symbols;
-use told_laws::told_law;
 
 /// Replies can tell what the command language reports.
 pub fn isar_law()

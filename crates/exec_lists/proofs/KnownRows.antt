@@ -2,11 +2,11 @@
 use Rattle.std.proofs.Common.{◌≡◌, ◌⊎◌, inl, inr, ℕ, zero, suc, ◌+◌, ◌<◌, ◌≤◌, List, [], ◌∷◌, ◌++◌, length, drop, Option, refl, ap, sym, ◌∙◌, append_assoc, arith}
 use Rattle.std.proofs.lemmas.Bool.{cases_lt}
 use Rattle.std.specs.Prelude.{min, flat_map}
-use Rattle.exec_table.specs.declared.execution.Execution.{Execution}
+use Rattle.core_tables.specs.declared.execution.Execution.{Execution}
 use Rattle.doc_nodes.specs.declared.node.Entry.{Entry}
 use Rattle.exec_rules.specs.declared.row.Row.{Row}
 use Rattle.exec_rules.specs.Listed.{executions}
-use Rattle.core_rules.specs.Shown.{PartShown}
+use Rattle.core_jobs.specs.core_rules_below.Shown.{PartShown}
 use Rattle.core_jobs.specs.declared.done.Done.{Done}
 use Rattle.exec_lists.specs.Parts.{parts_known, rows_known}
 

@@ -2,15 +2,15 @@
 use Rattle.std.specs.Prelude.{ℕ, Bool, false, not, List, [], ◌∷◌, ◌++◌, flat_map, slice_get, Option, Some}
 use Rattle.std.specs.Option.{option_map_or}
 use Rattle.pide_base.specs.declared.range.Range.{Range}
-use Rattle.exec_table.specs.declared.execution.Execution.{Execution}
-use Rattle.exec_table.specs.declared.execution.Progress.{Progress}
-use Rattle.exec_table.specs.declared.execution.Progress.TheVariants as progress
-use Rattle.exec_table.specs.Progress.{is_done}
+use Rattle.core_tables.specs.declared.execution.Execution.{Execution}
+use Rattle.core_tables.specs.declared.execution.Progress.{Progress}
+use Rattle.core_tables.specs.declared.execution.Progress.TheVariants as progress
+use Rattle.core_tables.specs.Progress.{is_done}
 use Rattle.doc_nodes.specs.declared.node.Entry.{Entry}
 use Rattle.exec_rules.specs.declared.row.Row.{Row}
 use Rattle.exec_rules.specs.declared.version.Version.{Version}
 use Rattle.exec_rules.specs.Listed.{executions}
-use Rattle.core_rules.specs.Shown.{PartShown}
+use Rattle.core_jobs.specs.core_rules_below.Shown.{PartShown}
 use Rattle.core_jobs.specs.declared.done.Done.{Done}
 use Rattle.exec_lists.specs.declared.results.PartResult.{PartResult}
 

@@ -2,13 +2,13 @@
 ghost use Rattle.std.specs.Prelude.{◌≡◌, ℕ, filter, flat_map, IfOk};
 ghost use Rattle.std.specs.List.Sorted.{IsStrictlyIncreasing};
 ghost use Rattle.text_words.specs.Members.{has};
-ghost use Rattle.exec_table.specs.Rows.{execution_of};
+ghost use Rattle.core_tables.specs.Rows.{execution_of};
 ghost use Rattle.exec_rules.specs.Listed.{executions};
 ghost use Rattle.exec_lists.specs.Parts.{is_unfinished};
 
 use crate::gathering::{add_rows, rising};
+use core_tables::{Execs, Progress};
 use exec_rules::Row;
-use exec_table::{Execs, Progress};
 use pide_base::ExecId;
 use std::alloc::{AllocError, Global};
 

@@ -2,7 +2,7 @@
 ghost use Rattle.std.specs.Prelude.{◌≡◌, ℕ, filter, flat_map, map, IfOk};
 ghost use Rattle.std.specs.List.Sorted.{IsStrictlyIncreasing};
 ghost use Rattle.text_words.specs.Members.{has};
-ghost use Rattle.exec_table.specs.Rows.{execution_of};
+ghost use Rattle.core_tables.specs.Rows.{execution_of};
 ghost use Rattle.exec_rules.specs.Assigning.{entries_at};
 ghost use Rattle.exec_rules.specs.Listed.{executions};
 ghost use Rattle.exec_lists.specs.Parts.{told, rows_at, rows_known, is_unfinished};
@@ -10,9 +10,9 @@ ghost use Rattle.exec_lists.specs.Parts.{told, rows_at, rows_known, is_unfinishe
 use crate::opened::pending_in;
 use crate::shown::finished_parts;
 use core_jobs::Done;
+use core_tables::Execs;
 use doc_nodes::{Entry, Nodes};
 use exec_rules::{Row, Version};
-use exec_table::Execs;
 use pide_base::{ExecId, Range};
 use report_markup::Report;
 use std::alloc::{AllocError, Global};

@@ -1,14 +1,14 @@
 //! The finished parts of a node's commands.
 ghost use Rattle.std.specs.Prelude.{◌≡◌, ◌∷◌, [], ◌++◌, map, flat_map, Some, IfOk, OnOk};
-ghost use Rattle.exec_table.specs.Rows.{execution_of};
+ghost use Rattle.core_tables.specs.Rows.{execution_of};
 ghost use Rattle.exec_rules.specs.Listed.{executions};
 ghost use Rattle.exec_lists.specs.Parts.{told, parts_by, parts_known, rows_known};
 
 use crate::results::PartResult;
 use core_jobs::Done;
+use core_tables::{Execs, Progress};
 use doc_nodes::Entry;
 use exec_rules::Row;
-use exec_table::{Execs, Progress};
 use pide_base::{ExecId, Range};
 use report_markup::Report;
 use std::alloc::{AllocError, Global};

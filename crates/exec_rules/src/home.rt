@@ -1,10 +1,10 @@
 //! What executions go by.
 
 use crate::key::Key;
+use doc_nodes::text_edits_below::Text;
 use doc_nodes::{NodeAliases, Shared};
 use pide_base::{ExecId, NodeName};
 use sqlite_items::Items;
-use text_edits::Text;
 
 /// What the first command of a node goes by, beside its own source.
 #[derive(Debug, Drop)]

@@ -1,10 +1,10 @@
 //! Versions with what is assigned in them.
 
 use crate::row::Assigned;
+use doc_nodes::text_edits_below::Text;
 use doc_nodes::{BlobName, Nodes, Shared};
 use shared_map::SharedMap;
 use sqlite_items::Items;
-use text_edits::Text;
 
 /// The auxiliary blobs of a version, by name.
 pub type Blobs = SharedMap<BlobName, Shared<Text>>;

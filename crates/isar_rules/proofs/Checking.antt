@@ -16,9 +16,9 @@ use Rattle.proof_terms.specs.declared.term.Term.TheOpen.{Term-F}
 use Rattle.proof_terms.specs.declared.term.Term.TheVariants.{Fact, ImpI, rolls-Fact, rolls-ImpI}
 use Rattle.proof_terms.proofs.KnownLayers.{out-Fact, out-ImpI}
 use Rattle.proof_terms.specs.Reading.{deepest}
-use Rattle.proof_checks.specs.Checks.{and_then, cited, by_one, of_step, step_within, checked_within, checked}
-use Rattle.proof_checks.specs.Rows.{step_of, imp_i}
-use Rattle.proof_checks.specs.Scopes.{inside, remaining}
+use Rattle.suggest_rules.specs.proof_checks_below.Checks.{and_then, cited, by_one, of_step, step_within, checked_within, checked}
+use Rattle.suggest_rules.specs.proof_checks_below.Rows.{step_of, imp_i}
+use Rattle.suggest_rules.specs.proof_checks_below.Scopes.{inside, remaining}
 use Rattle.report_markup.specs.declared.kind.ReportKind.TheVariants as kind
 use Rattle.report_markup.specs.declared.report.Report.{Report}
 use Rattle.report_markup.specs.Sorting.{in_order}

@@ -19,7 +19,7 @@ use Rattle.proof_terms.specs.Marks.{marks}
 use Rattle.proof_terms.specs.Reading.{proof_of}
 use Rattle.proof_terms.proofs.KnownCiting.{cited_on_tokens}
 use Rattle.proof_terms.proofs.KnownTerms.{folds_agree}
-use Rattle.proof_checks.specs.Checks.{checked}
+use Rattle.suggest_rules.specs.proof_checks_below.Checks.{checked}
 use Rattle.report_markup.specs.declared.kind.ReportKind.TheVariants as kind
 use Rattle.report_markup.specs.declared.report.Report.{Report}
 use Rattle.isar_rules.specs.declared.state.Place.{Place}

@@ -12,7 +12,7 @@ use Rattle.proof_terms.specs.declared.term.Term.{Term}
 use Rattle.proof_terms.specs.Marks.{marks}
 use Rattle.proof_terms.specs.Reading.{proof_of}
 use Rattle.proof_terms.specs.Texts.{fault_text}
-use Rattle.proof_checks.specs.Checks.{checked}
+use Rattle.suggest_rules.specs.proof_checks_below.Checks.{checked}
 use Rattle.report_markup.specs.declared.kind.ReportKind.TheVariants as kind
 use Rattle.report_markup.specs.declared.report.Report.{Report}
 use Rattle.report_markup.specs.Sorting.{in_order}

@@ -11,7 +11,7 @@ use Rattle.report_markup.specs.declared.property.Property.{Property}
 use Rattle.report_markup.specs.declared.property.PropertyKey.TheVariants as key
 use Rattle.report_markup.specs.declared.report.Report.{Report}
 use Rattle.isar_rules.specs.declared.shape.Spot.{Spot}
-use Rattle.formula_texts.specs.Printed.{formula_text}
+use Rattle.nj_print.specs.Printed.{formula_text}
 
 -- a report of a range
 abbrev pub report : ReportKind → Range → List Property → List ℕ → Report

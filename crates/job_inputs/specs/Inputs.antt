@@ -2,9 +2,9 @@
 use Rattle.std.specs.Prelude.{ℕ, List, [], ◌∷◌, zip, Option, Some, None}
 use Rattle.std.specs.Option.{option_map, option_and_then}
 use Rattle.pide_base.specs.declared.part.PartKind.TheVariants as kind
-use Rattle.exec_table.specs.declared.execution.Execution.{Execution}
-use Rattle.exec_table.specs.Rows.{Row, execution_of}
-use Rattle.exec_table.specs.Progress.{result_of}
+use Rattle.core_tables.specs.declared.execution.Execution.{Execution}
+use Rattle.core_tables.specs.Rows.{Row, execution_of}
+use Rattle.core_tables.specs.Progress.{result_of}
 use Rattle.doc_nodes.specs.Imports.{NodeList, place_of}
 use Rattle.exec_rules.specs.declared.key.Last.{Last}
 use Rattle.exec_rules.specs.declared.key.Last.TheVariants.{Empty, Open, Made as MadeBy}
@@ -16,7 +16,7 @@ use Rattle.language.specs.declared.made.Imported.{Imported}
 use Rattle.language.specs.declared.made.Imports.{Imports}
 use Rattle.language.specs.declared.made.Imports.TheVariants.{Ordered, Bad}
 use Rattle.language.specs.Lang.{Lang}
-use Rattle.core_rules.specs.Settings.{bare_start}
+use Rattle.core_jobs.specs.core_rules_below.Settings.{bare_start}
 use Rattle.core_jobs.specs.declared.done.Done.{Done}
 use Rattle.core_jobs.specs.declared.input.Input.{Input}
 use Rattle.core_jobs.specs.declared.input.Input.TheVariants as input

@@ -3,7 +3,7 @@ ghost use Rattle.std.specs.Prelude.{◌≡◌, Some, IfOk, zip};
 ghost use Rattle.std.specs.Option.{IsSome};
 ghost use Rattle.doc_nodes.specs.Aliases.{no_aliases};
 ghost use Rattle.doc_nodes.specs.Imports.{place_of};
-ghost use Rattle.core_rules.specs.Settings.{bare_start};
+ghost use Rattle.core_jobs.specs.core_rules_below.Settings.{bare_start};
 ghost use Rattle.job_inputs.specs.Inputs.{known_state, found_state, found_import, all_imported, found_imports};
 
 use crate::called::node_called;

@@ -5,9 +5,9 @@ ghost use Rattle.exec_rules.specs.declared.home.Input.TheVariants as taken;
 ghost use Rattle.job_inputs.specs.Inputs.{known_state, found_input};
 
 use core_jobs::{Done, Input};
+use core_tables::Execs;
 use doc_nodes::{Nodes, Shared};
 use exec_rules::{Head, Home, Input as Taken};
-use exec_table::Execs;
 use joined_results::both;
 use language::Language;
 use pide_base::{ExecId, PartKind};

@@ -5,3 +5,5 @@ mod Nesting
 mod Short
 mod Items
 mod Asked
+mod Greatest
+mod Counted

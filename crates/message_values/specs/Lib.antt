@@ -7,3 +7,4 @@ pub mod Protocols
 pub mod Refusals
 pub mod Spelled
 pub mod Workers
+pub use Rattle.doc_nodes.specs as doc_nodes_below

@@ -16,6 +16,7 @@ mod refusal;
 mod shapes;
 mod worker;
 
+pub use doc_nodes as doc_nodes_below;
 pub use editor_message::EditorMessage;
 pub use function::Function;
 pub use item::{BlobChange, Change, Item, Perspective};

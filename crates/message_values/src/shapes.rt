@@ -5,9 +5,10 @@ ghost use Rattle.data_shapes.specs.Words.{name_in};
 ghost use Rattle.message_values.specs.Items.{edited_in, change_of};
 
 use crate::item::{BlobChange, Change, Item, Perspective};
-use data_shapes::{Shape, ShapeFault, list_of, optional_of, pair_of, string_of, variant_of};
+use data_shapes::{
+    LentBody, Shape, ShapeFault, list_of, optional_of, pair_of, string_of, variant_of,
+};
 use doc_nodes::BlobName;
-use lent_bodies::LentBody;
 use pide_base::NodeName;
 use std::alloc::Global;
 

@@ -5,9 +5,9 @@ use Rattle.std.specs.Prelude.{slice_get, not, ◌==◌, ◌||◌, ◌&&◌, if�
 use Rattle.std.specs.List.{list_any}
 use Rattle.text_words.specs.Members.{has}
 use Rattle.text_words.proofs.KnownMembers.{has_itself, has_passing, has_tail}
-use Rattle.doc_versions.specs.declared.versions.Live.{Live}
-use Rattle.doc_versions.specs.declared.versions.Removing.TheVariants as answer
-use Rattle.doc_versions.specs.Removal.{left}
+use Rattle.core_tables.specs.declared.versions.Live.{Live}
+use Rattle.core_tables.specs.declared.versions.Removing.TheVariants as answer
+use Rattle.core_tables.specs.Removal.{left}
 use Rattle.exec_rules.specs.declared.version.Version.{Version}
 use Rattle.language.specs.Lang.{Lang}
 use Rattle.message_values.specs.declared.editor_message.EditorMessage.TheVariants as asks

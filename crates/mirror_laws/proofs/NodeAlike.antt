@@ -16,7 +16,7 @@ use Rattle.exec_rules.specs.declared.row.Row.{Row}
 use Rattle.exec_rules.specs.declared.version.Version.{Version}
 use Rattle.exec_rules.specs.Assigning.{rows_in}
 use Rattle.exec_rules.specs.Listed.{executions}
-use Rattle.fork_words.specs.Forking.{may_fork}
+use Rattle.mirror_rules.specs.Forking.{may_fork}
 use Rattle.language.specs.Lang.{Lang}
 use Rattle.core_rules.specs.declared.event.Event.{Event}
 use Rattle.core_rules.specs.Settings.{Setting, setting}

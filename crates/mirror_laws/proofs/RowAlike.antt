@@ -18,7 +18,7 @@ use Rattle.exec_rules.specs.declared.version.Version.{Version}
 use Rattle.exec_rules.specs.Assigning.{entries_in, rows_in}
 use Rattle.exec_rules.specs.Homes.{home}
 use Rattle.exec_rules.specs.Listed.{executions, print_list}
-use Rattle.fork_words.specs.Forking.{forks_by, is_error, may_fork}
+use Rattle.mirror_rules.specs.Forking.{forks_by, is_error, may_fork}
 use Rattle.language.specs.Lang.{Lang}
 use Rattle.core_rules.specs.declared.event.Event.{Event}
 use Rattle.core_rules.specs.Settings.{made_of}

@@ -1,3 +1,5 @@
+pub mod Forking
+pub mod WorkedForks
 pub mod Images
 pub mod Rows
 pub mod Reports

@@ -7,7 +7,7 @@ use Rattle.text_edits.specs.declared.edit.Edit.{Edit}
 use Rattle.report_markup.specs.declared.report.Report.{Report}
 use Rattle.report_markup.specs.Sorting.{in_order}
 use Rattle.snapshots.specs.Converted.{left_by}
-use Rattle.doc_versions.specs.Live.{version_of}
+use Rattle.core_tables.specs.Live.{version_of}
 use Rattle.doc_nodes.specs.Imports.{NodeList, place_of}
 use Rattle.message_values.specs.declared.refusal.Refusal.{Refusal}
 use Rattle.message_values.specs.declared.refusal.Refusal.TheVariants.{UnknownVersion, UnknownNode}

@@ -10,7 +10,7 @@ use Rattle.doc_nodes.specs.declared.node.Node.{Node}
 use Rattle.doc_nodes.specs.Imports.{NodeList}
 use Rattle.doc_nodes.specs.Aliases.{aliases_at}
 use Rattle.doc_blobs.specs.Needs.{AliasList}
-use Rattle.fork_words.specs.Forking.{may_fork, forks_by}
+use Rattle.mirror_rules.specs.Forking.{may_fork, forks_by}
 use Rattle.buffer_rules.specs.Cuts.{source}
 use Rattle.core_rules.specs.Parts.{same_part}
 use Rattle.core_rules.specs.Shown.{PartShown}

@@ -2,9 +2,9 @@
 use Rattle.std.specs.Prelude.{if◌then◌else◌, List, [], ◌∷◌, map, Option, Some, None, Ok}
 use Rattle.pide_base.specs.declared.part.Part.{Part}
 use Rattle.report_markup.specs.declared.report.Report.{Report}
-use Rattle.doc_versions.specs.declared.versions.Live.{Live}
-use Rattle.doc_versions.specs.declared.versions.Removing.TheVariants as answer
-use Rattle.doc_versions.specs.Removal.{left}
+use Rattle.core_tables.specs.declared.versions.Live.{Live}
+use Rattle.core_tables.specs.declared.versions.Removing.TheVariants as answer
+use Rattle.core_tables.specs.Removal.{left}
 use Rattle.message_values.specs.declared.editor_message.EditorMessage.TheVariants as asks
 use Rattle.message_values.specs.declared.mode.Mode.{Mode}
 use Rattle.message_values.specs.declared.mode.Mode.TheVariants as mode

@@ -6,7 +6,7 @@ use Rattle.symbol_markup.specs.Places.{StandsOnSymbols}
 use Rattle.doc_nodes.specs.Imports.{NodeList}
 use Rattle.language.specs.Lang.{Lang}
 use Rattle.language.specs.Laws.{AreTidy, reports_of}
-use Rattle.fork_words.specs.Forking.{may_fork, forks_by}
+use Rattle.mirror_rules.specs.Forking.{may_fork, forks_by}
 use Rattle.exec_rules.specs.Kept.{BlobList}
 use Rattle.core_rules.specs.Settings.{Setting, made_of}
 use Rattle.core_rules.specs.Scratch.{scratch_at}

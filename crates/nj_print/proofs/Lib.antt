@@ -27,3 +27,8 @@ pub mod KnownInstances
 pub mod KnownReadable
 pub mod KnownPrints
 pub mod KnownParts
+mod TextLengths
+pub mod KnownPrimed
+mod SpokenLemmas
+pub mod KnownTexts
+pub mod KnownSpoken

@@ -7,3 +7,4 @@ pub mod Within
 pub mod Opens
 pub mod ReadBack
 pub mod Readable
+pub mod Printed

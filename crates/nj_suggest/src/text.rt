@@ -6,10 +6,9 @@ ghost use Rattle.proof_terms.specs.declared.term.Term.{out-Term};
 ghost use Rattle.suggest_rules.specs.TermText.{quoted, formula, ruled, term_text, by_text};
 ghost use Rattle.nj_suggest.specs.Forms.{IsEliminating, IsInstancing};
 
-use formula_texts::formula_text;
 use nj_formula::{Formula, Name, ObjTerm};
 use nj_kernel::Rule;
-use nj_print::print_term as print_object;
+use nj_print::{formula_text, print_term as print_object};
 use proof_terms::Term;
 use std::alloc::{AllocError, Global};
 

@@ -4,3 +4,4 @@ pub mod Ids
 pub mod Moves
 pub mod NodeName
 pub mod Questions
+pub mod Limits

@@ -1,14 +1,17 @@
-//! The words that every layer shares: names of nodes, ids, parts of executions, ranges, the
-//! statuses that the program ends with, and the traits by which it meets the outside.
+//! The words that every layer shares: names of nodes, ids, parts of executions, ranges, the limits
+//! of a document (how many nodes and blobs a version has, how long a text is, how many versions
+//! live), the statuses that the program ends with, and the traits by which it meets the outside.
 //!
 //! Versions, commands and executions are those of Wenzel, "Asynchronous User Interaction and Tool
-//! Integration in Isabelle/PIDE" (ITP 2014); their numbers, and the traits, are this project's own.
-//! It must not know of messages, documents, the language, threads or the real streams.
+//! Integration in Isabelle/PIDE" (ITP 2014); their numbers, the limits and the traits are this
+//! project's own. It must not know of messages, what a document holds, the language, threads or the
+//! real streams.
 #![tactic(auto)]
 
 mod flag;
 mod gate;
 mod ids;
+mod limits;
 mod never;
 mod node_name;
 mod part;
@@ -22,6 +25,7 @@ mod stop;
 pub use flag::Flag;
 pub use gate::{Gate, Point};
 pub use ids::{CommandId, ExecId, VersionId};
+pub use limits::{are_too_many, are_too_many_live, is_too_long};
 pub use never::Never;
 pub use node_name::{NodeName, is_node_name};
 pub use part::{Part, PartKind};

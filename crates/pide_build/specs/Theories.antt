@@ -2,7 +2,7 @@
 use Rattle.std.specs.Prelude.{ℕ, ◌+◌, Bool, ◌||◌, nat_lt, if◌then◌else◌, List, [], ◌∷◌, length, is_some, Result, Ok, Err}
 use Rattle.shared_map.specs.Pairs.{found}
 use Rattle.shared_map.specs.Changes.{put}
-use Rattle.doc_limits.specs.Limits.{most_nodes, most_scalars}
+use Rattle.pide_base.specs.Limits.{most_nodes, most_scalars}
 use Rattle.doc_nodes.specs.Names.{in_order}
 use Rattle.message_values.specs.declared.editor_message.EditorMessage.{EditorMessage}
 use Rattle.message_values.specs.declared.editor_message.EditorMessage.TheVariants as asks

@@ -6,11 +6,10 @@ ghost use Rattle.pide_build.specs.Theories.{is_beyond, taken, with_message, with
 ghost use Rattle.pide_build.specs.Taking.{TakesSo};
 
 use byte_message::Message;
-use doc_limits::{are_too_many, is_too_long};
 use doc_nodes::Shared;
 use joined_results::both;
 use message_values::{EditorMessage, Mode, Refusal};
-use pide_base::NodeName;
+use pide_base::{NodeName, are_too_many, is_too_long};
 use pide_messages::{ReadError, read};
 use shared_map::SharedMap;
 use std::alloc::{AllocError, Global};

@@ -2,7 +2,7 @@
 use Rattle.std.proofs.Common.{◌≡◌, ◌≤◌, List, [], ◌∷◌, ◌++◌, length, drop, slice_index_or, sym, ap, arith}
 use Rattle.std.specs.List.{flat_map}
 use Rattle.report_markup.specs.declared.report.Report.{Report}
-use Rattle.markup_lines.specs.Lines.{line}
+use Rattle.text_check.specs.Lines.{line}
 
 -- it stands before the others
 pub first_line : (reports : List Report) (report : Report) → 1 ≤ length reports → report ≡ slice_index_or reports 0 report

@@ -1,3 +1,5 @@
+pub mod KnownErrors
+mod Pulling
 mod FirstLine
 mod Pushing
-mod Reading
+mod WholeText

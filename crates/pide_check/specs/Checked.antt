@@ -7,8 +7,8 @@ use Rattle.pide_base.specs.declared.status.Status.TheVariants as status
 use Rattle.pide_base.specs.Faults.{Rose}
 use Rattle.pide_base.specs.Moves.{AppendsFront}
 use Rattle.language.specs.Lang.{Lang}
-use Rattle.markup_lines.specs.Lines.{lines}
-use Rattle.text_input.specs.Reading.{HadJust, most_bytes}
+use Rattle.text_check.specs.Lines.{lines}
+use Rattle.pide_check.specs.Reading.{HadJust, most_bytes}
 
 -- the source had a text of these bytes, and no more
 abbrev pub HadText : List ℕ → Option (List ℕ) → Type 0

@@ -1,2 +1,4 @@
+pub mod Reading
+pub mod Steps
 pub mod Checked
 pub mod Writing

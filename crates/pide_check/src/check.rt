@@ -3,16 +3,17 @@ ghost use Rattle.std.specs.Prelude.{◌≡◌, ◌≤◌, true, false, Ok, IfOk,
 ghost use Rattle.pide_base.specs.Faults.{Rose};
 ghost use Rattle.pide_base.specs.Moves.{AppendsFront};
 ghost use Rattle.std.specs.Io.KnownBytes.{Appends};
-ghost use Rattle.markup_lines.specs.Lines.{lines};
+ghost use Rattle.text_check.specs.Lines.{lines};
 ghost use Rattle.pide_check.specs.Checked.{ChecksWhole, IsChecked};
 
+use crate::input::Input;
 use crate::lines::write_lines;
+use crate::reading::read_text;
 use language::Language;
 use pide_base::{Sink, Source, Status};
 use std::alloc::{AllocError, Global};
 use text_check::markup_of;
 use text_edits::Text;
-use text_input::{Input, read_text};
 
 /// Writes the lines of a text. False where the sink failed.
 fn write_markup<L: Language, K: Sink>(

@@ -4,7 +4,7 @@ ghost use Rattle.std.specs.List.{flat_map};
 ghost use Rattle.std.specs.Io.KnownBytes.{Appends};
 ghost use Rattle.pide_base.specs.Faults.{Rose};
 ghost use Rattle.pide_base.specs.Moves.{AppendsFront};
-ghost use Rattle.markup_lines.specs.Lines.{line};
+ghost use Rattle.text_check.specs.Lines.{line};
 ghost use Rattle.pide_check.specs.Writing.{AreOnTheirWay};
 
 use pide_base::{Sink, push_whole};

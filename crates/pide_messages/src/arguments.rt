@@ -8,8 +8,7 @@ ghost use Rattle.pide_messages.specs.Arguments.{worker_at, protocol_at};
 ghost use Rattle.pide_messages.specs.Gives.{Gives};
 
 use crate::error::ReadError;
-use data_shapes::number_of;
-use lent_bodies::LentBody;
+use data_shapes::{LentBody, number_of};
 use message_values::{Protocol, Refusal, Worker};
 use pide_base::{ExecId, NodeName, VersionId};
 use std::alloc::Global;

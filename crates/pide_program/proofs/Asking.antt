@@ -21,11 +21,11 @@ use Rattle.session_rules.specs.Heard.{all_heard}
 use Rattle.session_rules.specs.Legal.{IsLegal}
 use Rattle.session_rules.specs.Services.{mode_of}
 use Rattle.session_laws.specs.OneThread.{reads}
-use Rattle.thread_serve.specs.lists_below.Items.{heard_in}
+use Rattle.thread_serve.specs.keeping_rules_below.Items.{heard_in}
 use Rattle.reply_outbox.specs.Items.{entries}
-use Rattle.thread_serve.specs.sessions_below.Contents.{SessionState}
-use Rattle.thread_serve.specs.serving_below.Served.{calls, calls_in}
-use Rattle.thread_serve.specs.serving_below.Headline.{MessagesRead, OneLegalHistory}
+use Rattle.thread_serve.specs.document_session_below.Contents.{SessionState}
+use Rattle.thread_serve.specs.document_serve_below.Served.{calls, calls_in}
+use Rattle.thread_serve.specs.document_serve_below.Headline.{MessagesRead, OneLegalHistory}
 use Rattle.made_document.specs.Asking.{Ask}
 use Rattle.made_document.specs.Messages.{made_messages}
 use Rattle.pide_program.specs.Answered.{Answered, Made}

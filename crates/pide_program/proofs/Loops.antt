@@ -7,8 +7,8 @@ use Rattle.doc_nodes.specs.declared.node.Entry.{Entry}
 use Rattle.doc_nodes.specs.declared.node.Node.{Node}
 use Rattle.doc_nodes.specs.Imports.{NodeList}
 use Rattle.core_rules.specs.Assigned.{command_ids}
-use Rattle.made_summary.specs.declared.tally.Tally.{Tally}
-use Rattle.made_summary.specs.Tallies.{IsTally}
+use Rattle.made_document.specs.declared.tally.Tally.{Tally}
+use Rattle.made_document.specs.Tallies.{IsTally}
 
 -- a place within a list has an item, with which the rest begins
 there : {A : Type 0} (xs : List A) (i : ℕ) → i < length xs → (x : A) × (slice_get xs i ≡ Some x) × (drop i xs ≡ x ∷ drop (i + 1) xs)

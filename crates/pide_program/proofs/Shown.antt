@@ -5,7 +5,7 @@ use Rattle.std.specs.Prelude.{flat_map, is_some}
 use Rattle.std.specs.Option.{option_map_or}
 use Rattle.report_markup.specs.declared.report.Report.{Report}
 use Rattle.doc_nodes.specs.Imports.{place_of}
-use Rattle.doc_versions.specs.Live.{version_of}
+use Rattle.core_tables.specs.Live.{version_of}
 use Rattle.exec_rules.specs.declared.version.Version.{Version}
 use Rattle.exec_rules.specs.Assigning.{entries_at, rows_in}
 use Rattle.language.specs.Lang.{Lang}
@@ -15,10 +15,10 @@ use Rattle.exec_lists.specs.declared.results.PartResult.{PartResult}
 use Rattle.exec_lists.specs.Parts.{told}
 use Rattle.prover_core.specs.Results.{AreResults, is_reported}
 use Rattle.session_rules.specs.Session.{document}
-use Rattle.thread_serve.specs.sessions_below.Contents.{SessionState}
-use Rattle.settled_laws.specs.Reported.{part_reports}
-use Rattle.made_summary.specs.declared.tally.Tally.{Tally}
-use Rattle.made_summary.specs.Tallies.{IsTally, results_reports}
+use Rattle.thread_serve.specs.document_session_below.Contents.{SessionState}
+use Rattle.session_laws.specs.Reported.{part_reports}
+use Rattle.made_document.specs.declared.tally.Tally.{Tally}
+use Rattle.made_document.specs.Tallies.{IsTally, results_reports}
 use Rattle.pide_program.specs.Told.{IsLive, after, shown_reports}
 
 -- parts that are not reported have none

@@ -3,8 +3,8 @@ use Rattle.std.proofs.Common.{◌≡◌, ℕ, List, [], ◌∷◌, ◌++◌, len
 use Rattle.std.specs.Prelude.{flat_map}
 use Rattle.std.specs.Option.{option_map, option_map_or}
 use Rattle.doc_nodes.specs.declared.node.Node.{Node}
-use Rattle.doc_versions.specs.declared.versions.Live.{Live}
-use Rattle.doc_versions.specs.Live.{version_of}
+use Rattle.core_tables.specs.declared.versions.Live.{Live}
+use Rattle.core_tables.specs.Live.{version_of}
 use Rattle.exec_rules.specs.declared.version.Version.{Version}
 use Rattle.language.specs.Lang.{Lang}
 use Rattle.core_rules.specs.Assigned.{command_ids}
@@ -15,15 +15,15 @@ use Rattle.session_rules.specs.History.{session}
 use Rattle.session_rules.specs.Legal.{IsLegal}
 use Rattle.session_rules.specs.Session.{document}
 use Rattle.session_laws.specs.OneThread.{reads}
-use Rattle.thread_serve.specs.lists_below.Items.{heard_in, session_in}
-use Rattle.thread_serve.specs.sessions_below.Contents.{SessionState}
+use Rattle.thread_serve.specs.keeping_rules_below.Items.{heard_in, session_in}
+use Rattle.thread_serve.specs.document_session_below.Contents.{SessionState}
 use Rattle.made_document.specs.Messages.{last_version}
-use Rattle.settled_laws.specs.Reported.{node_reports, part_reports, version_reports}
-use Rattle.settled_laws.specs.Updates.{Updates, all_read, document_of}
-use Rattle.made_summary.specs.declared.summary.Summary.{Summary}
-use Rattle.made_summary.specs.declared.tally.Tally.{Tally}
-use Rattle.made_summary.specs.Summary.{greatest_execution, lines_of, made_updates, summary, summary_lines, summary_of}
-use Rattle.made_summary.specs.Tallies.{IsTally}
+use Rattle.session_laws.specs.Reported.{node_reports, part_reports, version_reports}
+use Rattle.session_laws.specs.Updates.{Updates, all_read, document_of}
+use Rattle.made_document.specs.declared.summary.Summary.{Summary}
+use Rattle.made_document.specs.declared.tally.Tally.{Tally}
+use Rattle.made_document.specs.Summary.{greatest_execution, lines_of, made_updates, summary, summary_lines, summary_of}
+use Rattle.made_document.specs.Tallies.{IsTally}
 use Rattle.pide_program.specs.Answered.{Made}
 use Rattle.pide_program.specs.Told.{IsLive, after, shown_reports}
 

@@ -5,9 +5,9 @@ use Rattle.std.specs.Str.{chars}
 use Rattle.pide_base.specs.declared.status.Status.{Status}
 use Rattle.pide_base.specs.declared.status.Status.TheVariants as status
 use Rattle.language.specs.Lang.{Lang}
-use Rattle.markup_lines.specs.Lines.{lines}
+use Rattle.text_check.specs.Lines.{lines}
 use Rattle.std.specs.Io.KnownBytes.{Appends}
-use Rattle.made_summary.specs.Summary.{summary_lines}
+use Rattle.made_document.specs.Summary.{summary_lines}
 use Rattle.pide_check.specs.Checked.{IsChecked}
 use Rattle.pide_program.specs.Generated.{IsGenerated}
 

@@ -5,12 +5,12 @@ use Rattle.language.specs.Lang.{Lang}
 use Rattle.session_rules.specs.declared.service.Service.{Service}
 use Rattle.session_rules.specs.declared.service.Service.TheVariants.{Workers}
 use Rattle.session_rules.specs.Legal.{IsLegal}
-use Rattle.thread_serve.specs.lists_below.Items.{heard_in}
+use Rattle.thread_serve.specs.keeping_rules_below.Items.{heard_in}
 use Rattle.session_laws.specs.OneThread.{reads}
-use Rattle.thread_serve.specs.sessions_below.Contents.{SessionState}
-use Rattle.thread_serve.specs.serving_below.Served.{calls_in}
-use Rattle.settled_laws.specs.Updates.{all_read}
-use Rattle.made_summary.specs.Summary.{made_updates}
+use Rattle.thread_serve.specs.document_session_below.Contents.{SessionState}
+use Rattle.thread_serve.specs.document_serve_below.Served.{calls_in}
+use Rattle.session_laws.specs.Updates.{all_read}
+use Rattle.made_document.specs.Summary.{made_updates}
 
 -- the messages of these bytes were answered, by one legal history
 pub record Answered {S : Type 0} (l : Lang S) (service : Service) (bytes : List ℕ)

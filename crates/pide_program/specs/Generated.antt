@@ -5,7 +5,7 @@ use Rattle.pide_base.specs.declared.status.Status.{Status}
 use Rattle.pide_base.specs.declared.status.Status.TheVariants as status
 use Rattle.pide_base.specs.Moves.{AppendsFront}
 use Rattle.language.specs.Lang.{Lang}
-use Rattle.made_summary.specs.Summary.{summary_lines}
+use Rattle.made_document.specs.Summary.{summary_lines}
 
 -- the lines for a document of so many nodes; a front of them where the sink failed or memory is
 -- short; it has no other status

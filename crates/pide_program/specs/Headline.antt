@@ -9,10 +9,10 @@ use Rattle.message_input.specs.Causes.{HasCause}
 use Rattle.session_rules.specs.declared.service.Service.{Service}
 use Rattle.session_rules.specs.Heard.{Heard}
 use Rattle.session_rules.specs.Services.{free_workers}
-use Rattle.thread_serve.specs.lists_below.Items.{heard_in}
+use Rattle.thread_serve.specs.keeping_rules_below.Items.{heard_in}
 use Rattle.session_laws.specs.Promises.{CoversSo, EachMessage, ShowsSo}
-use Rattle.thread_serve.specs.sessions_below.Contents.{SessionState}
-use Rattle.thread_serve.specs.serving_below.Headline.{BytesWritten, MadeAlone, MessagesRead, OneLegalHistory}
+use Rattle.thread_serve.specs.document_session_below.Contents.{SessionState}
+use Rattle.thread_serve.specs.document_serve_below.Headline.{BytesWritten, MadeAlone, MessagesRead, OneLegalHistory}
 use Rattle.pide_program.specs.Held.{HoldsSo}
 use Rattle.pide_program.specs.Limit.{input_limit}
 

@@ -5,7 +5,7 @@ use Rattle.pide_base.specs.declared.status.Status.{Status}
 use Rattle.pide_base.specs.declared.status.Status.TheVariants as status
 use Rattle.reply_outbox.specs.Items.{entries}
 use Rattle.session_rules.specs.Services.{free_workers}
-use Rattle.thread_serve.specs.sessions_below.Contents.{SessionState}
+use Rattle.thread_serve.specs.document_session_below.Contents.{SessionState}
 use Rattle.pide_program.specs.Headline.{Headline}
 
 -- one thread served these bytes but for the rest; neither did writing fail, nor was memory short

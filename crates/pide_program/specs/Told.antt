@@ -1,14 +1,14 @@
 -- What a session tells of a version (this project's own).
 use Rattle.std.specs.Prelude.{◌≡◌, ℕ, List, Some, flat_map}
 use Rattle.report_markup.specs.declared.report.Report.{Report}
-use Rattle.doc_versions.specs.Live.{version_of}
+use Rattle.core_tables.specs.Live.{version_of}
 use Rattle.exec_rules.specs.declared.version.Version.{Version}
 use Rattle.language.specs.Lang.{Lang}
 use Rattle.core_rules.specs.Shown.{parts_shown}
 use Rattle.session_rules.specs.Session.{Session, document}
-use Rattle.thread_serve.specs.lists_below.Items.{session_in}
-use Rattle.thread_serve.specs.sessions_below.Contents.{SessionState}
-use Rattle.settled_laws.specs.Reported.{part_reports}
+use Rattle.thread_serve.specs.keeping_rules_below.Items.{session_in}
+use Rattle.thread_serve.specs.document_session_below.Contents.{SessionState}
+use Rattle.session_laws.specs.Reported.{part_reports}
 
 -- what the session has after its list
 abbrev pub after : {S : Type 0} → Lang S → SessionState → Session

@@ -1,7 +1,7 @@
 //! What holds of runs, whatever the source and the sink.
 ghost use Rattle.std.specs.Prelude.{◌≡◌, ℕ, List, Option};
 ghost use Rattle.pide_base.specs.declared.status.Status.{Status};
-ghost use Rattle.thread_serve.specs.sessions_below.Contents.{SessionState};
+ghost use Rattle.thread_serve.specs.document_session_below.Contents.{SessionState};
 ghost use Rattle.pide_program.specs.Outcomes.{IsSameOutcome, IsServedAlone};
 
 use byte_message::one_reading;

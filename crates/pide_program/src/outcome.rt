@@ -2,7 +2,7 @@
 use pide_base::Status;
 use reply_outbox::Past;
 use session_rules::{Entry, Service};
-use thread_serve::sessions_below::Session;
+use thread_serve::document_session_below::Session;
 use toplevel::Isar;
 
 /// How a run ended, the source and sink that it was given, and its session, which lends the list of

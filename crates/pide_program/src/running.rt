@@ -24,8 +24,8 @@ use session_rules::{Entry, Service};
 use std::alloc::{AllocFailed, Global};
 use std::sync::Wait;
 use std::thread::Threads;
-use thread_serve::serving_below::{Served, serve};
-use thread_serve::sessions_below::Session;
+use thread_serve::document_serve_below::{Served, serve};
+use thread_serve::document_session_below::Session;
 use toplevel::Isar;
 
 /// The most bytes that a run takes.

@@ -15,3 +15,4 @@ mod stepping;
 
 pub use proving::proof_made;
 pub use standing::Lemma;
+pub use theory_steps as theory_steps_below;

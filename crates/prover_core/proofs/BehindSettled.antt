@@ -6,8 +6,8 @@ use Rattle.text_words.specs.Members.{has}
 use Rattle.pide_base.specs.Ids.{IsId}
 use Rattle.pide_base.specs.declared.part.Part.{Part}
 use Rattle.task_queue.specs.Ready.{IsReadyPart}
-use Rattle.doc_versions.specs.declared.versions.Live.{Live}
-use Rattle.doc_versions.specs.Live.{version_of}
+use Rattle.core_tables.specs.declared.versions.Live.{Live}
+use Rattle.core_tables.specs.Live.{version_of}
 use Rattle.exec_rules.specs.declared.version.Version.{Version}
 use Rattle.exec_lists.specs.Parts.{is_unfinished}
 use Rattle.language.specs.Lang.{Lang}

@@ -3,10 +3,10 @@ use Rattle.std.proofs.Common.{◌≡◌, ℕ, Bool, true, false, cond, not, ◌&
 use Rattle.std.proofs.lemmas.Bool.{eqb-true, eq-eqb, false≢true}
 use Rattle.std.specs.Prelude.{◌==◌}
 use Rattle.text_words.specs.Members.{has}
-use Rattle.exec_table.specs.declared.execution.Execution.{Execution}
-use Rattle.exec_table.specs.declared.execs.Cancelling.TheVariants as answer
-use Rattle.exec_table.specs.Progress.{is_done}
-use Rattle.exec_table.specs.Finish.{cancelling, after_cancelling}
+use Rattle.core_tables.specs.declared.execution.Execution.{Execution}
+use Rattle.core_tables.specs.declared.execs.Cancelling.TheVariants as answer
+use Rattle.core_tables.specs.Progress.{is_done}
+use Rattle.core_tables.specs.Finish.{cancelling, after_cancelling}
 use Rattle.language.specs.Lang.{Lang}
 use Rattle.core_rules.specs.declared.event.Event.{Event}
 use Rattle.core_rules.specs.declared.event.Event.TheVariants.{Cancel}

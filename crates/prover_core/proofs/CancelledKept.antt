@@ -5,8 +5,8 @@ use Rattle.std.specs.Prelude.{◌==◌, ◌+◌}
 use Rattle.std.proofs.Math.Bool.{and-false, or-false, or-true}
 use Rattle.text_words.specs.Members.{has}
 use Rattle.pide_base.specs.declared.part.PartKind.{PartKind}
-use Rattle.exec_table.specs.declared.execution.Execution.{Execution}
-use Rattle.exec_table.specs.Finish.{after_cancelling}
+use Rattle.core_tables.specs.declared.execution.Execution.{Execution}
+use Rattle.core_tables.specs.Finish.{after_cancelling}
 use Rattle.task_queue.specs.declared.task.Standing.{Standing as Task}
 use Rattle.task_queue.specs.Ready.{with_standing}
 use Rattle.language.specs.Lang.{Lang}

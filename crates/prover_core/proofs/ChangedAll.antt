@@ -4,9 +4,9 @@ use Rattle.std.proofs.lemmas.Bool.{eqb-true}
 use Rattle.std.specs.Prelude.{◌==◌}
 use Rattle.std.proofs.Math.Bool.{or-false}
 use Rattle.text_words.specs.Members.{has}
-use Rattle.exec_table.specs.declared.execution.Execution.{Execution}
-use Rattle.exec_table.specs.Progress.{is_idle}
-use Rattle.exec_table.specs.Finish.{after_cancelling}
+use Rattle.core_tables.specs.declared.execution.Execution.{Execution}
+use Rattle.core_tables.specs.Progress.{is_idle}
+use Rattle.core_tables.specs.Finish.{after_cancelling}
 use Rattle.prover_core.proofs.CancelTold.{turned}
 use Rattle.text_words.proofs.KnownMembers.{has_both}
 

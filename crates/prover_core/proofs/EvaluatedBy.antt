@@ -3,8 +3,8 @@ use Rattle.std.proofs.Common.{◌≡◌, Bool, true, false, cond, refl, ap, ◌�
 use Rattle.std.specs.Prelude.{is_some}
 use Rattle.pide_base.specs.declared.part.PartKind.{PartKind}
 use Rattle.pide_base.specs.declared.part.PartKind.TheVariants as kind
-use Rattle.exec_table.specs.declared.execution.Progress.TheVariants as progress
-use Rattle.exec_table.specs.Progress.{result_of}
+use Rattle.core_tables.specs.declared.execution.Progress.TheVariants as progress
+use Rattle.core_tables.specs.Progress.{result_of}
 use Rattle.exec_rules.specs.declared.home.Input.{Input}
 use Rattle.exec_rules.specs.declared.home.Input.TheVariants as input
 use Rattle.core_rules.specs.Sources.{is_evaluation}

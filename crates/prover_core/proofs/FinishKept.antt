@@ -4,9 +4,9 @@ use Rattle.std.specs.Prelude.{◌==◌}
 use Rattle.std.specs.Option.{option_map, option_map_or, option_and_then}
 use Rattle.pide_base.specs.declared.part.Part.{Part}
 use Rattle.pide_base.specs.declared.part.PartKind.TheVariants as kind
-use Rattle.exec_table.specs.declared.execution.Execution.{Execution}
-use Rattle.exec_table.specs.declared.execution.Done.{Done as Brought}
-use Rattle.exec_table.specs.Finish.{finished_in}
+use Rattle.core_tables.specs.declared.execution.Execution.{Execution}
+use Rattle.core_tables.specs.declared.execution.Done.{Done as Brought}
+use Rattle.core_tables.specs.Finish.{finished_in}
 use Rattle.task_queue.specs.declared.task.Standing.{Standing as Task}
 use Rattle.text_words.specs.Members.{has}
 use Rattle.task_queue.specs.Changes.{without}

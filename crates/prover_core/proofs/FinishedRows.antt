@@ -7,9 +7,9 @@ use Rattle.pide_base.specs.declared.part.PartKind.TheVariants as kind
 use Rattle.exec_rules.specs.declared.home.Home.{Home}
 use Rattle.exec_rules.specs.declared.home.Input.{Input}
 use Rattle.exec_rules.specs.declared.home.Input.TheVariants as input
-use Rattle.exec_table.specs.declared.execution.Progress.{Progress}
-use Rattle.exec_table.specs.declared.execution.Progress.TheVariants as progress
-use Rattle.exec_table.specs.Finish.{finished, finished_in}
+use Rattle.core_tables.specs.declared.execution.Progress.{Progress}
+use Rattle.core_tables.specs.declared.execution.Progress.TheVariants as progress
+use Rattle.core_tables.specs.Finish.{finished, finished_in}
 use Rattle.language.specs.Lang.{Lang}
 use Rattle.core_rules.specs.Settings.{Setting, made_of}
 use Rattle.prover_core.specs.Brought.{brought}

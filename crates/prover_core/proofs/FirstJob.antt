@@ -8,7 +8,7 @@ use Rattle.doc_nodes.specs.Imports.{NodeList}
 use Rattle.text_words.specs.Members.{has}
 use Rattle.pide_base.specs.declared.part.Part.{Part}
 use Rattle.pide_base.specs.declared.part.PartKind.{PartKind}
-use Rattle.doc_versions.specs.Live.{tip_of}
+use Rattle.core_tables.specs.Live.{tip_of}
 use Rattle.exec_rules.specs.declared.home.Home.{Home}
 use Rattle.exec_rules.specs.declared.version.Version.{Version}
 use Rattle.language.specs.Lang.{Lang}

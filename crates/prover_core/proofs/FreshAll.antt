@@ -8,7 +8,7 @@ use Rattle.task_queue.specs.declared.task.Standing.{Standing}
 use Rattle.task_queue.specs.declared.task.Task.{Task}
 use Rattle.text_words.specs.Members.{has}
 use Rattle.task_queue.specs.Changes.{waiting}
-use Rattle.exec_table.specs.declared.execution.Execution.{Execution}
+use Rattle.core_tables.specs.declared.execution.Execution.{Execution}
 use Rattle.update_plans.specs.declared.known.Known.{Known}
 use Rattle.update_plans.specs.declared.beginning.Fresh.{Fresh}
 use Rattle.prover_core.specs.Fresh.{number_of, fresh_at, with_fresh, RiseFrom, IsEmptyFrom, WaitBelow, AreNew}

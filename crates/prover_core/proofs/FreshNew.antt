@@ -5,8 +5,8 @@ use Rattle.std.proofs.lemmas.Option.{same_Some}
 use Rattle.text_words.specs.Members.{has}
 use Rattle.text_words.proofs.KnownMembers.{each_has}
 use Rattle.doc_nodes.specs.Imports.{NodeList}
-use Rattle.exec_table.specs.declared.execution.Execution.{Execution}
-use Rattle.exec_table.specs.Finish.{after_cancelling}
+use Rattle.core_tables.specs.declared.execution.Execution.{Execution}
+use Rattle.core_tables.specs.Finish.{after_cancelling}
 use Rattle.task_queue.specs.declared.task.Standing.{Standing as Task}
 use Rattle.exec_rules.specs.declared.home.Home.{Home}
 use Rattle.exec_rules.specs.Kept.{BlobList}

@@ -2,7 +2,7 @@
 use Rattle.std.proofs.Common.{◌≡◌, ℕ, ◌≤◌, Bool, true, ◌&&◌, List, Option, Some, ap, sym, subst, ◌∙◌}
 use Rattle.text_words.specs.Members.{has}
 use Rattle.pide_base.specs.declared.part.Part.{Part}
-use Rattle.exec_table.specs.declared.execution.Execution.{Execution}
+use Rattle.core_tables.specs.declared.execution.Execution.{Execution}
 use Rattle.task_queue.specs.declared.task.Standing.{Standing as Task}
 use Rattle.exec_assign.specs.Fitting.{RowsFit}
 use Rattle.language.specs.Lang.{Lang}

@@ -5,8 +5,8 @@ use Rattle.std.specs.Prelude.{◌==◌, nat_lt, find, is_some}
 use Rattle.std.specs.Option.{option_map}
 use Rattle.std.specs.Cmp.{first_so}
 use Rattle.std.proofs.Math.Bool.{or-true}
-use Rattle.doc_versions.specs.declared.versions.Live.{Live}
-use Rattle.doc_versions.specs.Live.{version_of}
+use Rattle.core_tables.specs.declared.versions.Live.{Live}
+use Rattle.core_tables.specs.Live.{version_of}
 use Rattle.exec_rules.specs.declared.version.Version.{Version}
 use Rattle.core_rules.specs.Numbered.{next_number}
 use Rattle.core_rules.specs.Assigned.{assigns}

@@ -4,7 +4,7 @@ use Rattle.std.specs.List.{AllByRecursion}
 use Rattle.text_words.specs.Members.{has}
 use Rattle.pide_base.specs.Ids.{id_end}
 use Rattle.doc_nodes.specs.Imports.{NodeList}
-use Rattle.exec_table.specs.Rows.{Row as TableRow}
+use Rattle.core_tables.specs.Rows.{Row as TableRow}
 use Rattle.exec_rules.specs.declared.home.Home.{Home}
 use Rattle.exec_rules.specs.Kept.{BlobList}
 use Rattle.exec_rules.specs.Assigning.{Assignment}

@@ -4,8 +4,8 @@ use Rattle.std.proofs.lemmas.List.{take_more, length-append, reverse-append, len
 use Rattle.std.proofs.lemmas.List.Concat.{flat_map-append}
 use Rattle.std.specs.Prelude.{flat_map, min}
 use Rattle.text_words.specs.Members.{has}
-use Rattle.doc_versions.specs.Live.{History, tip_of}
-use Rattle.exec_table.specs.declared.execution.Execution.{Execution}
+use Rattle.core_tables.specs.Live.{History, tip_of}
+use Rattle.core_tables.specs.declared.execution.Execution.{Execution}
 use Rattle.task_queue.specs.declared.task.Standing.{Standing}
 use Rattle.task_queue.specs.declared.task.Task.{Task}
 use Rattle.exec_rules.specs.declared.home.Home.{Home}

@@ -7,9 +7,9 @@ use Rattle.text_words.specs.Members.{has}
 use Rattle.text_words.proofs.KnownMembers.{each_has}
 use Rattle.pide_base.specs.declared.part.PartKind.TheVariants as kind
 use Rattle.doc_nodes.specs.Imports.{NodeList}
-use Rattle.exec_table.specs.declared.execution.Execution.{Execution}
-use Rattle.exec_table.specs.Rows.{Row, execution_of}
-use Rattle.exec_table.specs.Progress.{result_of}
+use Rattle.core_tables.specs.declared.execution.Execution.{Execution}
+use Rattle.core_tables.specs.Rows.{Row, execution_of}
+use Rattle.core_tables.specs.Progress.{result_of}
 use Rattle.exec_rules.specs.declared.home.Home.{Home}
 use Rattle.exec_rules.specs.Kept.{BlobList}
 use Rattle.language.specs.Lang.{Lang}

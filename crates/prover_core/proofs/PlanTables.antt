@@ -3,8 +3,8 @@ use Rattle.std.proofs.Common.{◌≡◌, ℕ, cond, List, Option, Some, refl, ap
 use Rattle.std.specs.Option.{option_map_or}
 use Rattle.text_words.specs.Members.{has}
 use Rattle.doc_nodes.specs.Imports.{NodeList}
-use Rattle.exec_table.specs.declared.execution.Execution.{Execution}
-use Rattle.exec_table.specs.Finish.{after_cancelling}
+use Rattle.core_tables.specs.declared.execution.Execution.{Execution}
+use Rattle.core_tables.specs.Finish.{after_cancelling}
 use Rattle.exec_rules.specs.declared.home.Home.{Home}
 use Rattle.exec_rules.specs.declared.home.Input.{Input}
 use Rattle.exec_rules.specs.declared.home.Input.TheVariants as input

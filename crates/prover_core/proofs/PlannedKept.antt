@@ -4,9 +4,9 @@ use Rattle.std.specs.List.{AllByRecursion}
 use Rattle.std.specs.Option.{option_map}
 use Rattle.text_words.specs.Members.{has}
 use Rattle.pide_base.specs.Ids.{id_end}
-use Rattle.doc_versions.specs.Live.{History}
-use Rattle.exec_table.specs.declared.execution.Execution.{Execution}
-use Rattle.exec_table.specs.Finish.{after_cancelling}
+use Rattle.core_tables.specs.Live.{History}
+use Rattle.core_tables.specs.declared.execution.Execution.{Execution}
+use Rattle.core_tables.specs.Finish.{after_cancelling}
 use Rattle.task_queue.specs.declared.task.Standing.{Standing as Task}
 use Rattle.task_queue.specs.Changes.{waiting}
 use Rattle.exec_rules.specs.declared.home.Home.{Home}

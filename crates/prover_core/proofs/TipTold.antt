@@ -2,8 +2,8 @@
 use Rattle.std.proofs.Common.{◌≡◌, ℕ, false, cond, List, Option, Some, None, ap, sym, ◌∙◌}
 use Rattle.std.specs.Option.{option_map, option_map_or}
 use Rattle.text_words.specs.Members.{has}
-use Rattle.exec_table.specs.declared.execution.Execution.{Execution}
-use Rattle.exec_table.specs.Rows.{Row as TableRow, execution_of}
+use Rattle.core_tables.specs.declared.execution.Execution.{Execution}
+use Rattle.core_tables.specs.Rows.{Row as TableRow, execution_of}
 use Rattle.exec_rules.specs.declared.home.Home.{Home}
 use Rattle.exec_assign.specs.Agreeing.{AgreeAt}
 use Rattle.language.specs.Lang.{Lang}

@@ -2,8 +2,8 @@
 use Rattle.std.proofs.Common.{◌≡◌, ℕ, suc, true, not, ◌&&◌, List, ◌∷◌, length, Option}
 use Rattle.text_words.specs.Members.{has}
 use Rattle.doc_nodes.specs.Imports.{NodeList}
-use Rattle.doc_versions.specs.Live.{History}
-use Rattle.exec_table.specs.declared.execution.Execution.{Execution}
+use Rattle.core_tables.specs.Live.{History}
+use Rattle.core_tables.specs.declared.execution.Execution.{Execution}
 use Rattle.task_queue.specs.declared.task.Standing.{Standing as Task}
 use Rattle.exec_rules.specs.declared.home.Home.{Home}
 use Rattle.exec_rules.specs.declared.version.Version.{Version}

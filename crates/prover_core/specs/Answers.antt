@@ -1,8 +1,8 @@
 -- What calls of a core answer, and what they add to all that has happened (this project's own).
 use Rattle.std.specs.Prelude.{◌≡◌, ◌&&◌, ℕ, true, false, List, ◌∷◌}
 use Rattle.pide_base.specs.declared.part.Part.{Part}
-use Rattle.exec_table.specs.declared.execs.Cancelling.{Cancelling}
-use Rattle.exec_table.specs.declared.execs.Cancelling.TheVariants as cancelling
+use Rattle.core_tables.specs.declared.execs.Cancelling.{Cancelling}
+use Rattle.core_tables.specs.declared.execs.Cancelling.TheVariants as cancelling
 use Rattle.language.specs.Lang.{Lang}
 use Rattle.core_jobs.specs.Jobs.{JobContent}
 use Rattle.core_rules.specs.declared.event.Event.{Event}

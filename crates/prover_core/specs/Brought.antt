@@ -3,8 +3,8 @@ use Rattle.std.specs.Prelude.{Bool, false}
 use Rattle.std.specs.Option.{option_map_or}
 use Rattle.pide_base.specs.declared.part.PartKind.{PartKind}
 use Rattle.pide_base.specs.declared.part.PartKind.TheVariants as kind
-use Rattle.exec_table.specs.declared.execution.Done.{Done as Row}
-use Rattle.exec_table.specs.declared.execution.Done.TheVariants as done
+use Rattle.core_tables.specs.declared.execution.Done.{Done as Row}
+use Rattle.core_tables.specs.declared.execution.Done.TheVariants as done
 use Rattle.core_jobs.specs.declared.done.Done.{Done as Result}
 
 -- what finishing a part of this kind brings, where an evaluation tells whether its command forks

@@ -3,7 +3,7 @@ use Rattle.std.specs.Prelude.{◌≡◌, ℕ, suc, ◌<◌, ◌≤◌, ◌==◌,
 use Rattle.std.specs.Option.{option_map_or}
 use Rattle.task_queue.specs.declared.task.Standing.{Standing}
 use Rattle.text_words.specs.Members.{has}
-use Rattle.exec_table.specs.declared.execution.Execution.{Execution}
+use Rattle.core_tables.specs.declared.execution.Execution.{Execution}
 use Rattle.update_plans.specs.declared.known.Known.{Known}
 use Rattle.update_plans.specs.declared.beginning.Fresh.{Fresh}
 

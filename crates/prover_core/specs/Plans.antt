@@ -4,8 +4,8 @@ use Rattle.std.specs.List.{AllByRecursion}
 use Rattle.text_words.specs.Members.{has}
 use Rattle.pide_base.specs.declared.part.PartKind.{PartKind}
 use Rattle.pide_base.specs.declared.part.PartKind.TheVariants as kind
-use Rattle.exec_table.specs.declared.execution.Execution.{Execution}
-use Rattle.exec_table.specs.declared.execution.Progress.TheVariants as progress
+use Rattle.core_tables.specs.declared.execution.Execution.{Execution}
+use Rattle.core_tables.specs.declared.execution.Progress.TheVariants as progress
 use Rattle.task_queue.specs.declared.task.Task.{Task}
 use Rattle.task_queue.specs.declared.task.Standing.{Standing}
 use Rattle.doc_nodes.specs.Imports.{NodeList}

@@ -5,9 +5,9 @@ use Rattle.text_words.specs.Members.{has}
 use Rattle.pide_base.specs.declared.part.Part.{Part}
 use Rattle.pide_base.specs.declared.part.PartKind.{PartKind}
 use Rattle.pide_base.specs.declared.part.PartKind.TheVariants as kind
-use Rattle.exec_table.specs.declared.execution.Execution.{Execution}
-use Rattle.exec_table.specs.declared.execution.Progress.{Progress}
-use Rattle.exec_table.specs.declared.execution.Progress.TheVariants as progress
+use Rattle.core_tables.specs.declared.execution.Execution.{Execution}
+use Rattle.core_tables.specs.declared.execution.Progress.{Progress}
+use Rattle.core_tables.specs.declared.execution.Progress.TheVariants as progress
 use Rattle.exec_rules.specs.declared.home.Home.{Home}
 use Rattle.exec_rules.specs.declared.home.Input.{Input}
 use Rattle.exec_rules.specs.declared.home.Input.TheVariants as input

@@ -1,7 +1,7 @@
 -- What is told of a node's results (this project's own).
 use Rattle.std.specs.Prelude.{◌≡◌, ℕ, Bool, List, filter, map, Option, Some, None, is_some}
 use Rattle.doc_nodes.specs.Imports.{place_of}
-use Rattle.doc_versions.specs.Live.{version_of}
+use Rattle.core_tables.specs.Live.{version_of}
 use Rattle.exec_rules.specs.declared.version.Version.{Version}
 use Rattle.language.specs.Lang.{Lang}
 use Rattle.core_rules.specs.declared.event.Event.{Event}

@@ -2,7 +2,7 @@
 use Rattle.std.specs.Prelude.{◌≡◌, ℕ, ◌==◌, nat_lt, Bool, true, false, not, ◌&&◌, ◌||◌, is_some, List, length, Some, None}
 use Rattle.text_words.specs.Members.{has}
 use Rattle.pide_base.specs.declared.part.Part.{Part}
-use Rattle.doc_versions.specs.Live.{version_of}
+use Rattle.core_tables.specs.Live.{version_of}
 use Rattle.task_queue.specs.Ready.{Standings}
 use Rattle.exec_rules.specs.declared.version.Version.{Version}
 use Rattle.language.specs.Lang.{Lang}

@@ -2,7 +2,7 @@
 ghost use Rattle.std.specs.Prelude.{◌≡◌, ◌==◌, ◌+◌, ◌<◌, ◌≤◌, ℕ, None, Some, length, map, flat_map, reverse, false, if◌then◌else◌};
 ghost use Rattle.std.specs.Option.{option_map, option_map_or};
 ghost use Rattle.std.specs.HashMap.{hash_map_len, spare};
-ghost use Rattle.exec_table.specs.Rows.{execution_of};
+ghost use Rattle.core_tables.specs.Rows.{execution_of};
 ghost use Rattle.text_words.specs.Members.{has};
 ghost use Rattle.task_queue.specs.Tasks.{standing};
 ghost use Rattle.task_queue.specs.Changes.{waiting, nobody_waits};
@@ -13,7 +13,7 @@ ghost use Rattle.prover_core.specs.Fresh.{with_fresh, AreNew};
 
 use crate::following::same;
 use crate::table::Table;
-use exec_table::{Execs, Execution};
+use core_tables::{Execs, Execution};
 use pide_base::{Part, PartKind};
 use task_queue::TaskQueue;
 use update_plans::{Fresh, Known};

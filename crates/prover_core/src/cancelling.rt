@@ -7,7 +7,7 @@ ghost use Rattle.prover_core.specs.Answers.{CancelledSo};
 use crate::prover::Core;
 use crate::table::Table;
 use core_rules::{Event, tip_law};
-use exec_table::Cancelling;
+use core_tables::Cancelling;
 use language::Language;
 use pide_base::ExecId;
 use update_plans::Known;

@@ -11,7 +11,7 @@ ghost use Rattle.prover_core.specs.Progress.{kind_behind};
 ghost use Rattle.prover_core.specs.Tasks.{task_behind};
 
 use core_jobs::Done;
-use exec_table::Done as Brought;
+use core_tables::Done as Brought;
 use pide_base::{ExecId, Part, PartKind};
 use std::alloc::Global;
 use task_queue::{Inputs, Priority, Task, TaskQueue};

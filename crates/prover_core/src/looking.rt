@@ -1,11 +1,11 @@
 //! The live versions.
 ghost use Rattle.std.specs.Prelude.{◌≡◌};
 ghost use Rattle.std.specs.Option.{option_copied};
-ghost use Rattle.doc_versions.specs.Live.{version_of};
+ghost use Rattle.core_tables.specs.Live.{version_of};
 ghost use Rattle.core_rules.specs.Doc.{doc};
 
 use crate::prover::Core;
-use doc_versions::Live;
+use core_tables::Live;
 use exec_rules::Version;
 use language::Language;
 use pide_base::VersionId;

@@ -3,8 +3,8 @@ ghost use Rattle.std.specs.Prelude.{◌≡◌, map};
 ghost use Rattle.exec_assign.specs.Told.{told_node};
 
 use core_rules::Event;
+use core_tables::Version as SharedVersion;
 use doc_nodes::Shared;
-use doc_versions::Version as SharedVersion;
 use exec_assign::ToldNode;
 use exec_rules::Version;
 use pide_base::{ExecId, VersionId};

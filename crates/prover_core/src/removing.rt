@@ -1,6 +1,6 @@
 //! Removed versions.
 ghost use Rattle.std.specs.Prelude.{◌≡◌, false, IfOk, OnErr};
-ghost use Rattle.doc_versions.specs.Removal.{removing};
+ghost use Rattle.core_tables.specs.Removal.{removing};
 ghost use Rattle.core_rules.specs.Standing.{has_ended};
 ghost use Rattle.core_rules.specs.Doc.{doc};
 ghost use Rattle.core_rules.specs.Legal.{IsLegal};
@@ -9,7 +9,7 @@ ghost use Rattle.prover_core.specs.Removal.{with_removal};
 use crate::forgetting::forget_all;
 use crate::prover::Core;
 use core_rules::Event;
-use doc_versions::Removing;
+use core_tables::Removing;
 use language::Language;
 use pide_base::VersionId;
 use sqlite_items::Items;

@@ -1,14 +1,13 @@
 //! Room for an update.
 ghost use Rattle.std.specs.Prelude.{◌≡◌, ◌≤◌, ◌+◌, ℕ, length, flat_map, vec_len, vec_capacity, IfSome, OnOk};
 ghost use Rattle.std.specs.HashMap.{spare};
-ghost use Rattle.exec_table.specs.Rows.{execution_of};
+ghost use Rattle.core_tables.specs.Rows.{execution_of};
 ghost use Rattle.task_queue.specs.Tasks.{standing};
 ghost use Rattle.prover_core.specs.Looked.{looked};
 
 use crate::table::Table;
-use doc_versions::Versions;
+use core_tables::{Execs, Versions};
 use exec_rules::Version;
-use exec_table::Execs;
 use pide_base::ExecId;
 use std::alloc::AllocError;
 use task_queue::TaskQueue;

@@ -28,3 +28,12 @@ mod MadeParts
 mod Reported
 mod Unnumbered
 mod SameTexts
+mod Unmarked
+mod Finished
+mod Documents
+mod Sessions
+mod Kept
+mod Histories
+mod Reached
+mod Reports
+mod Settled

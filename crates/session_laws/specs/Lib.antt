@@ -4,3 +4,5 @@ pub mod Keeping
 pub mod Promises
 pub mod Reporting
 pub mod Checked
+pub mod Reported
+pub mod Updates

@@ -4,11 +4,11 @@ use Rattle.std.specs.Prelude.{◌==◌, slice_get}
 use Rattle.std.specs.Option.{option_map, option_and_then}
 use Rattle.std.specs.List.{AllByRecursion}
 use Rattle.text_words.proofs.KnownLists.{each-both, each-so}
-use Rattle.doc_limits.specs.Limits.{most_scalars}
+use Rattle.pide_base.specs.Limits.{most_scalars}
 use Rattle.doc_nodes.specs.declared.node.Node.{Node}
 use Rattle.doc_nodes.specs.Imports.{NodeList, place_of}
-use Rattle.doc_versions.specs.declared.versions.Live.{Live}
-use Rattle.doc_versions.specs.Live.{version_of}
+use Rattle.core_tables.specs.declared.versions.Live.{Live}
+use Rattle.core_tables.specs.Live.{version_of}
 use Rattle.exec_rules.specs.declared.version.Version.{Version}
 use Rattle.exec_rules.proofs.KnownThere.{all_at}
 use Rattle.language.specs.Lang.{Lang}

@@ -6,10 +6,10 @@ use Rattle.std.specs.Prelude.{◌==◌, is_some}
 use Rattle.std.specs.Option.{option_map}
 use Rattle.text_words.specs.Members.{has}
 use Rattle.text_words.proofs.KnownMembers.{has_passing}
-use Rattle.doc_versions.specs.declared.versions.Live.{Live}
-use Rattle.doc_versions.specs.declared.versions.Removing.TheVariants as answer
-use Rattle.doc_versions.specs.Live.{is_live}
-use Rattle.doc_versions.specs.Removal.{answer_by, removing}
+use Rattle.core_tables.specs.declared.versions.Live.{Live}
+use Rattle.core_tables.specs.declared.versions.Removing.TheVariants as answer
+use Rattle.core_tables.specs.Live.{is_live}
+use Rattle.core_tables.specs.Removal.{answer_by, removing}
 use Rattle.exec_rules.specs.declared.version.Version.{Version}
 use Rattle.language.specs.Lang.{Lang}
 use Rattle.core_rules.specs.declared.event.Event.{Event}

@@ -12,7 +12,7 @@ use Rattle.snapshots.specs.Converted.{left_by}
 use Rattle.snapshots.specs.Gathered.{Movable}
 use Rattle.reply_writing.specs.Forms.{IsRising}
 use Rattle.doc_nodes.specs.declared.node.Node.{Node}
-use Rattle.doc_versions.specs.declared.versions.Live.{Live}
+use Rattle.core_tables.specs.declared.versions.Live.{Live}
 use Rattle.exec_rules.specs.declared.version.Version.{Version}
 use Rattle.exec_rules.specs.Assigning.{rows_in}
 use Rattle.exec_rules.specs.Listed.{executions}

@@ -4,10 +4,10 @@ use Rattle.std.specs.Prelude.{if◌then◌else◌}
 use Rattle.text_words.specs.Members.{has}
 use Rattle.text_edits.specs.declared.edit.Edit.{Edit}
 use Rattle.doc_nodes.specs.declared.node.Node.{Node}
-use Rattle.doc_versions.specs.Live.{version_of}
+use Rattle.core_tables.specs.Live.{version_of}
 use Rattle.exec_rules.specs.declared.version.Version.{Version}
-use Rattle.exec_table.specs.declared.execs.Cancelling.{Cancelling}
-use Rattle.exec_table.specs.declared.execs.Cancelling.TheVariants as answer
+use Rattle.core_tables.specs.declared.execs.Cancelling.{Cancelling}
+use Rattle.core_tables.specs.declared.execs.Cancelling.TheVariants as answer
 use Rattle.language.specs.Lang.{Lang}
 use Rattle.message_values.specs.declared.editor_message.EditorMessage.TheVariants as asks
 use Rattle.message_values.specs.declared.refusal.Refusal.{Refusal}

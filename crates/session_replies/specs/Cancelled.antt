@@ -1,7 +1,7 @@
 -- What is told of a cancellation.
 use Rattle.std.specs.Prelude.{ℕ}
-use Rattle.exec_table.specs.declared.execs.Cancelling.{Cancelling}
-use Rattle.exec_table.specs.declared.execs.Cancelling.TheVariants as answer
+use Rattle.core_tables.specs.declared.execs.Cancelling.{Cancelling}
+use Rattle.core_tables.specs.declared.execs.Cancelling.TheVariants as answer
 use Rattle.message_values.specs.declared.refusal.Refusal.TheVariants.{UnknownExecution}
 use Rattle.reply_writing.specs.declared.told.Told.{Told}
 use Rattle.reply_writing.specs.declared.told.Told.TheVariants as tells

@@ -2,10 +2,10 @@
 ghost use Rattle.std.specs.Prelude.{◌≡◌, ℕ, List, [], ◌∷◌, map, Some, Ok};
 ghost use Rattle.text_edits.specs.declared.edit.Edit.{Edit};
 ghost use Rattle.doc_nodes.specs.declared.node.Node.{Node};
-ghost use Rattle.doc_versions.specs.declared.versions.Removing.TheVariants as removing;
-ghost use Rattle.doc_versions.specs.Removal.{removing};
+ghost use Rattle.core_tables.specs.declared.versions.Removing.TheVariants as removing;
+ghost use Rattle.core_tables.specs.Removal.{removing};
 ghost use Rattle.exec_rules.specs.declared.version.Version.{Version};
-ghost use Rattle.exec_table.specs.declared.execs.Cancelling.{Cancelling};
+ghost use Rattle.core_tables.specs.declared.execs.Cancelling.{Cancelling};
 ghost use Rattle.message_values.specs.declared.editor_message.EditorMessage.TheVariants as asks;
 ghost use Rattle.buffer_rules.specs.Texts.{edit_all};
 ghost use Rattle.reply_writing.specs.Forms.{IsRising};

@@ -5,7 +5,7 @@ ghost use Rattle.reply_writing.specs.declared.told.Told.TheVariants as tells;
 ghost use Rattle.session_replies.specs.Spelling.{spelling};
 ghost use Rattle.session_replies.specs.Cancelled.{cancelling_told};
 
-use exec_table::Cancelling;
+use core_tables::Cancelling;
 use message_values::Refusal;
 use pide_base::{ExecId, VersionId};
 use reply_writing::{cancelled, idle, refused};

@@ -6,8 +6,8 @@ use Rattle.exec_rules.specs.declared.version.Version.{Version}
 use Rattle.message_values.specs.declared.refusal.Refusal.{Refusal}
 use Rattle.message_values.specs.declared.refusal.Refusal.TheVariants.{UnknownNode}
 use Rattle.message_values.specs.Asked.{or_refused}
-use Rattle.buffer_rules.specs.Texts.{edit_all}
-use Rattle.buffer_rules.specs.Trying.{◌>>=◌}
+use Rattle.buffer_laws.specs.buffer_rules_below.Texts.{edit_all}
+use Rattle.buffer_laws.specs.buffer_rules_below.Trying.{◌>>=◌}
 use Rattle.session_rules.specs.Looking.{Looked}
 
 -- a text of a version, with edits

@@ -3,25 +3,25 @@ use Rattle.std.proofs.Common.{◌≡◌, ℕ, ◌<◌, ◌≤◌, Bool, true, fa
 use Rattle.std.proofs.lemmas.Bool.{ltb-true, ltb-false}
 use Rattle.std.specs.Prelude.{if◌then◌else◌, nat_lt}
 use Rattle.pide_base.specs.Ids.{id_end}
-use Rattle.doc_versions.specs.declared.versions.Removing.{Removing}
-use Rattle.doc_versions.specs.declared.versions.Removing.TheVariants as answer
-use Rattle.doc_versions.specs.Removal.{removing}
+use Rattle.core_tables.specs.declared.versions.Removing.{Removing}
+use Rattle.core_tables.specs.declared.versions.Removing.TheVariants as answer
+use Rattle.core_tables.specs.Removal.{removing}
 use Rattle.exec_rules.specs.declared.version.Version.{Version}
 use Rattle.language.specs.Lang.{Lang}
 use Rattle.message_values.specs.declared.refusal.Refusal.{Refusal}
 use Rattle.message_values.specs.declared.refusal.Refusal.TheVariants.{VersionNotHigher, UnknownExecution, Limit}
 use Rattle.buffer_laws.specs.Fitting.{Agrees, start_doc}
-use Rattle.buffer_rules.specs.Trying.{◌>>=◌}
-use Rattle.buffer_rules.specs.Updates.{Asked}
-use Rattle.buffer_rules.specs.Preparing.{Buffer, prepared}
-use Rattle.buffer_rules.specs.Preparing as buffer
-use Rattle.core_rules.specs.declared.event.Event.{Event}
-use Rattle.core_rules.specs.declared.event.Event.TheVariants as event
-use Rattle.core_rules.specs.Assigned.{is_assigned}
-use Rattle.core_rules.specs.Doc.{Doc, doc, assignment_of, updated}
-use Rattle.core_rules.specs.Legal.{IsLegal as IsLegalList, MayFollow as MayFollowList}
-use Rattle.core_rules.specs.Standing.{has_ended, is_open}
-use Rattle.core_rules.specs.Updates.{FitsUpdate}
+use Rattle.buffer_laws.specs.buffer_rules_below.Trying.{◌>>=◌}
+use Rattle.buffer_laws.specs.buffer_rules_below.Updates.{Asked}
+use Rattle.buffer_laws.specs.buffer_rules_below.Preparing.{Buffer, prepared}
+use Rattle.buffer_laws.specs.buffer_rules_below.Preparing as buffer
+use Rattle.buffer_laws.specs.core_rules_below.declared.event.Event.{Event}
+use Rattle.buffer_laws.specs.core_rules_below.declared.event.Event.TheVariants as event
+use Rattle.buffer_laws.specs.core_rules_below.Assigned.{is_assigned}
+use Rattle.buffer_laws.specs.core_rules_below.Doc.{Doc, doc, assignment_of, updated}
+use Rattle.buffer_laws.specs.core_rules_below.Legal.{IsLegal as IsLegalList, MayFollow as MayFollowList}
+use Rattle.buffer_laws.specs.core_rules_below.Standing.{has_ended, is_open}
+use Rattle.buffer_laws.specs.core_rules_below.Updates.{FitsUpdate}
 use Rattle.session_rules.specs.Session.{Session, document, with_event}
 use Rattle.session_rules.specs.Updating.{runs_out, with_buffer, removed_by}
 use Rattle.session_rules.specs.Updating as updating

@@ -5,7 +5,7 @@ use Rattle.message_values.specs.declared.editor_message.EditorMessage.{EditorMes
 use Rattle.message_values.specs.declared.editor_message.EditorMessage.TheVariants as asks
 use Rattle.message_values.specs.declared.refusal.Refusal.{Refusal}
 use Rattle.message_values.specs.declared.refusal.Refusal.TheVariants.{UnknownFunction, ProtocolFixed}
-use Rattle.buffer_rules.specs.Trying.{◌>>=◌}
+use Rattle.buffer_laws.specs.buffer_rules_below.Trying.{◌>>=◌}
 use Rattle.session_rules.specs.declared.service.Service.{Service}
 use Rattle.session_rules.specs.Session.{Session}
 use Rattle.session_rules.specs.Updating.{updated, cancelled, removed}

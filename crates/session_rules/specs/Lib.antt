@@ -12,3 +12,4 @@ pub mod Shown
 pub mod Replies
 pub mod Small
 pub mod Worked
+pub use Rattle.buffer_laws.specs as buffer_laws_below

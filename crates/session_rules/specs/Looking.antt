@@ -2,17 +2,17 @@
 use Rattle.std.specs.Prelude.{ℕ, ◌||◌, is_some, if◌then◌else◌, List, Result, Ok, Err}
 use Rattle.std.specs.Option.{is_none}
 use Rattle.text_edits.specs.declared.edit.Edit.{Edit}
-use Rattle.doc_versions.specs.Live.{version_of}
+use Rattle.core_tables.specs.Live.{version_of}
 use Rattle.exec_rules.specs.declared.version.Version.{Version}
 use Rattle.language.specs.Lang.{Lang}
 use Rattle.message_values.specs.declared.refusal.Refusal.{Refusal}
 use Rattle.message_values.specs.declared.refusal.Refusal.TheVariants.{UnknownVersion, UnknownNode, NothingToStep, StepHeld}
 use Rattle.message_values.specs.Asked.{or_refused}
-use Rattle.buffer_rules.specs.Trying.{◌>>=◌}
-use Rattle.buffer_rules.specs.Texts.{edit_all}
-use Rattle.core_rules.specs.Standing.{held}
-use Rattle.core_rules.specs.Ready.{first_ready}
-use Rattle.core_rules.specs.Updates.{node_in}
+use Rattle.buffer_laws.specs.buffer_rules_below.Trying.{◌>>=◌}
+use Rattle.buffer_laws.specs.buffer_rules_below.Texts.{edit_all}
+use Rattle.buffer_laws.specs.core_rules_below.Standing.{held}
+use Rattle.buffer_laws.specs.core_rules_below.Ready.{first_ready}
+use Rattle.buffer_laws.specs.core_rules_below.Updates.{node_in}
 use Rattle.session_rules.specs.declared.service.Service.{Service}
 use Rattle.session_rules.specs.Services.{is_held_by_script}
 use Rattle.session_rules.specs.Session.{Session, document}

@@ -4,10 +4,10 @@ use Rattle.text_edits.specs.declared.edit.Edit.{Edit}
 use Rattle.message_values.specs.declared.editor_message.EditorMessage.TheVariants as asks
 use Rattle.message_values.specs.declared.item.Item.{Item}
 use Rattle.message_values.specs.declared.item.Change.TheVariants as change
-use Rattle.buffer_rules.specs.Examples.{all_wanted}
+use Rattle.buffer_laws.specs.buffer_rules_below.Examples.{all_wanted}
 use Rattle.text_edits.specs.declared.edit.Edit.TheVariants.{Insert}
 use Rattle.reply_writing.specs.declared.told.Told.{Told}
-use Rattle.core_rules.specs.Small.{small}
+use Rattle.buffer_laws.specs.core_rules_below.Small.{small}
 use Rattle.session_rules.specs.declared.service.Service.TheVariants.{Workers, Script}
 use Rattle.session_rules.specs.Heard.{Heard, Message}
 use Rattle.session_rules.specs.Replies.{told}

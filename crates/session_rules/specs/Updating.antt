@@ -2,18 +2,18 @@
 -- project's own; refusals stand in the order in which they are tried).
 use Rattle.std.specs.Prelude.{ℕ, Bool, nat_lt, if◌then◌else◌, List, length, Result, Ok, Err}
 use Rattle.pide_base.specs.Ids.{id_end}
-use Rattle.doc_versions.specs.declared.versions.Removing.{Removing}
-use Rattle.doc_versions.specs.declared.versions.Removing.TheVariants as answer
-use Rattle.doc_versions.specs.Removal.{removing}
+use Rattle.core_tables.specs.declared.versions.Removing.{Removing}
+use Rattle.core_tables.specs.declared.versions.Removing.TheVariants as answer
+use Rattle.core_tables.specs.Removal.{removing}
 use Rattle.language.specs.Lang.{Lang}
 use Rattle.message_values.specs.declared.refusal.Refusal.{Refusal}
 use Rattle.message_values.specs.declared.refusal.Refusal.TheVariants.{VersionNotHigher, UnknownVersion, TipVersion, UnknownExecution, Limit}
-use Rattle.buffer_rules.specs.Trying.{◌>>=◌}
-use Rattle.buffer_rules.specs.Updates.{Asked}
-use Rattle.buffer_rules.specs.Preparing.{Buffer, prepared}
-use Rattle.core_rules.specs.declared.event.Event.TheVariants as event
-use Rattle.core_rules.specs.Assigned.{is_assigned}
-use Rattle.core_rules.specs.Doc.{Doc, assignment_of}
+use Rattle.buffer_laws.specs.buffer_rules_below.Trying.{◌>>=◌}
+use Rattle.buffer_laws.specs.buffer_rules_below.Updates.{Asked}
+use Rattle.buffer_laws.specs.buffer_rules_below.Preparing.{Buffer, prepared}
+use Rattle.buffer_laws.specs.core_rules_below.declared.event.Event.TheVariants as event
+use Rattle.buffer_laws.specs.core_rules_below.Assigned.{is_assigned}
+use Rattle.buffer_laws.specs.core_rules_below.Doc.{Doc, assignment_of}
 use Rattle.session_rules.specs.Session.{Session, document, with_event}
 
 -- the update would give an execution an id past the last

@@ -14,19 +14,19 @@ use Rattle.reply_outbox.specs.declared.item.Item.TheVariants as item
 use Rattle.session_rules.specs.declared.entry.Entry.TheVariants as entry
 use Rattle.session_rules.specs.declared.service.Service.TheVariants.{Workers}
 use Rattle.session_rules.specs.Session.{Session, document}
-use Rattle.document_session.specs.jobs_below.Works.{Work}
-use Rattle.document_session.specs.lists_below.Items.{SessionItem, session_in}
+use Rattle.document_session.specs.session_replies_below.Works.{Work}
+use Rattle.document_session.specs.keeping_rules_below.Items.{SessionItem, session_in}
 use Rattle.document_session.specs.Answers.{IsClaimed}
 use Rattle.session_turns.specs.Contents.{SharedState}
 use Rattle.session_turns.specs.Ends.{IsGoing}
 use Rattle.session_turns.specs.Working.{ClaimsSo, FindsNoPart}
 use Rattle.session_turns.specs.declared.claiming.Claiming.{Claiming}
 use Rattle.session_turns.specs.declared.claiming.Claiming.TheVariants as claiming
-use Rattle.thread_views.specs.Callers.{service_of, whose, worker_count}
-use Rattle.thread_views.specs.Histories.{IsLegalLog, session_after}
-use Rattle.thread_views.specs.Idle.{HasNothingToDo}
-use Rattle.thread_views.specs.Says.{says}
-use Rattle.thread_views.specs.Works.{IsRightWork}
+use Rattle.view_laws.specs.Callers.{service_of, whose, worker_count}
+use Rattle.view_laws.specs.Histories.{IsLegalLog, session_after}
+use Rattle.view_laws.specs.Idle.{HasNothingToDo}
+use Rattle.view_laws.specs.Says.{says}
+use Rattle.view_laws.specs.Works.{IsRightWork}
 use Rattle.session_turns.proofs.Lists.{OneOf, begins, grown_by, some_legal}
 use Rattle.session_turns.proofs.Turns.{FitsView, IsTurn, caller_stays, makes, seen_is}
 

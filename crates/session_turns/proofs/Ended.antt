@@ -2,8 +2,8 @@
 use Rattle.std.proofs.Common.{◌≡◌, ◌≢◌, ℕ, ◌≤◌, List, [], ◌∷◌, ◌++◌, reverse, None, Some, inl, inr, refl, sym, ap, subst, ◌∙◌}
 use Rattle.language.specs.Lang.{Lang}
 use Rattle.pide_base.specs.declared.part.Part.{Part}
-use Rattle.prover_core.specs.declared.finishing.Finish.{Finish}
-use Rattle.prover_core.specs.declared.finishing.Finish.TheVariants as finish
+use Rattle.document_session.specs.prover_core_below.declared.finishing.Finish.{Finish}
+use Rattle.document_session.specs.prover_core_below.declared.finishing.Finish.TheVariants as finish
 use Rattle.hist_lock.specs.Entries.{own}
 use Rattle.hist_lock.specs.declared.view.View.{View}
 use Rattle.worker_loop.specs.Answers.{Makes}
@@ -13,17 +13,17 @@ use Rattle.worker_loop.specs.declared.said.Said.TheVariants as said
 use Rattle.core_rules.specs.Standing.{held}
 use Rattle.reply_outbox.specs.declared.item.Item.TheVariants as item
 use Rattle.session_rules.specs.declared.entry.Entry.TheVariants as entry
-use Rattle.document_session.specs.states_below.Works.{IsDoneWorkOf}
-use Rattle.document_session.specs.jobs_below.Works.{Work, WorkDone}
-use Rattle.document_session.specs.lists_below.Items.{SessionItem}
+use Rattle.document_session.specs.keeping_rules_below.Works.{IsDoneWorkOf}
+use Rattle.document_session.specs.session_replies_below.Works.{Work, WorkDone}
+use Rattle.document_session.specs.keeping_rules_below.Items.{SessionItem}
 use Rattle.document_session.specs.declared.working.GiveUp.{GiveUp}
 use Rattle.document_session.specs.declared.working.GiveUp.TheVariants as give_up
 use Rattle.document_session.specs.Answers.{FinishedSo, GivenUpSo}
 use Rattle.session_turns.specs.Contents.{SharedState}
-use Rattle.thread_views.specs.Callers.{service_of, whose, worker_count}
-use Rattle.thread_views.specs.Histories.{IsLegalLog, session_after}
-use Rattle.thread_views.specs.Says.{says}
-use Rattle.thread_views.specs.Works.{IsRightDone}
+use Rattle.view_laws.specs.Callers.{service_of, whose, worker_count}
+use Rattle.view_laws.specs.Histories.{IsLegalLog, session_after}
+use Rattle.view_laws.specs.Says.{says}
+use Rattle.view_laws.specs.Works.{IsRightDone}
 use Rattle.session_turns.proofs.Lists.{OneOf, grown_by, not_grown}
 use Rattle.session_turns.proofs.Turns.{FitsView, IsTurn, makes, sees_on}
 use Rattle.session_turns.proofs.Claims.{HeldLaw, holds_known}

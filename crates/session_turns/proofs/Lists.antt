@@ -3,9 +3,9 @@ use Rattle.std.proofs.Common.{◌≡◌, ◌≢◌, ◌⊎◌, ℕ, List, [], �
 use Rattle.std.proofs.lemmas.List.{append_cancel_left, reverse-reverse}
 use mathlib.Core.List.{IsPrefix, reverse-cons}
 use Rattle.language.specs.Lang.{Lang}
-use Rattle.document_session.specs.lists_below.Items.{SessionItem}
-use Rattle.thread_views.specs.Callers.{whose}
-use Rattle.thread_views.specs.Histories.{IsLegalLog}
+use Rattle.document_session.specs.keeping_rules_below.Items.{SessionItem}
+use Rattle.view_laws.specs.Callers.{whose}
+use Rattle.view_laws.specs.Histories.{IsLegalLog}
 
 -- an item that stands newest where the list is read backwards is the last one
 pub grown_by : (x : SessionItem) (old new : List SessionItem) → reverse new ≡ x ∷ reverse old → new ≡ old ++ x ∷ []

@@ -7,10 +7,10 @@ use Rattle.hist_lock.specs.Entries.{Grows}
 use Rattle.session_rules.specs.declared.service.Service.{Service}
 use Rattle.session_rules.specs.declared.service.Service.TheVariants.{Workers}
 use Rattle.session_rules.specs.Session.{Session}
-use Rattle.document_session.specs.lists_below.Items.{SessionItem, session_in}
-use Rattle.document_session.specs.lists_below.Legal.{AreLegal}
-use Rattle.thread_views.specs.Callers.{service_of, worker_count}
-use Rattle.thread_views.specs.Histories.{IsLegalLog, session_after}
+use Rattle.document_session.specs.keeping_rules_below.Items.{SessionItem, session_in}
+use Rattle.document_session.specs.keeping_rules_below.Legal.{AreLegal}
+use Rattle.view_laws.specs.Callers.{service_of, worker_count}
+use Rattle.view_laws.specs.Histories.{IsLegalLog, session_after}
 
 -- what holds of the items holds of the list
 pub on_items : (P : Service → List SessionItem → List SessionItem → Type 0) (service : Service) (old new : List SessionItem)

@@ -6,11 +6,11 @@ use Rattle.hist_lock.specs.Entries.{Grows}
 use Rattle.reply_outbox.specs.declared.item.Item.TheVariants as item
 use Rattle.reply_outbox.specs.Items.{is_lost}
 use Rattle.session_rules.specs.declared.service.Service.{Service}
-use Rattle.document_session.specs.lists_below.Items.{SessionItem, heard_in, writer_of}
-use Rattle.document_session.specs.lists_below.Pieces.{pieces, AreWaiting}
+use Rattle.document_session.specs.keeping_rules_below.Items.{SessionItem, heard_in, writer_of}
+use Rattle.document_session.specs.keeping_rules_below.Pieces.{pieces, AreWaiting}
 use Rattle.document_session.specs.Contents.{SessionState}
-use Rattle.thread_views.specs.Callers.{service_of, worker_count}
-use Rattle.thread_views.specs.Idle.{Waits}
+use Rattle.view_laws.specs.Callers.{service_of, worker_count}
+use Rattle.view_laws.specs.Idle.{Waits}
 use Rattle.session_turns.specs.Sending.{FindsNone, TakesPiece}
 use Rattle.session_turns.proofs.Logs.{grows_by, grows_not, on_log, one_more}
 

@@ -7,12 +7,12 @@ use Rattle.session_rules.specs.declared.entry.Entry.TheVariants as entry
 use Rattle.session_rules.specs.declared.service.Service.{Service}
 use Rattle.session_rules.specs.declared.service.Service.TheVariants.{Workers}
 use Rattle.session_rules.specs.Steps.{Nothing, due}
-use Rattle.document_session.specs.lists_below.Items.{SessionItem, heard_in}
+use Rattle.document_session.specs.keeping_rules_below.Items.{SessionItem, heard_in}
 use Rattle.document_session.specs.declared.taking.Taken.{Taken}
 use Rattle.document_session.specs.declared.taking.Taken.TheVariants as taken
 use Rattle.document_session.specs.Answers.{IsAnswered, IsWaiting, TakenSo}
 use Rattle.document_session.specs.Contents.{SessionState}
-use Rattle.thread_views.specs.Callers.{service_of, worker_count}
+use Rattle.view_laws.specs.Callers.{service_of, worker_count}
 use Rattle.session_turns.specs.Working.{AnswersSo}
 use Rattle.session_turns.proofs.Logs.{grows_by, grows_not, on_log, one_more}
 

@@ -13,17 +13,17 @@ use Rattle.worker_loop.specs.declared.said.Said.TheVariants as said
 use Rattle.worker_loop.proofs.KnownGathered.{prefix_then}
 use Rattle.reply_outbox.specs.declared.item.Item.TheVariants as item
 use Rattle.reply_outbox.specs.Items.{is_lost}
-use Rattle.document_session.specs.lists_below.Items.{SessionItem}
+use Rattle.document_session.specs.keeping_rules_below.Items.{SessionItem}
 use Rattle.session_turns.specs.Contents.{SharedState}
 use Rattle.session_turns.specs.Sending.{SendsSo}
 use Rattle.session_turns.specs.declared.sending.Sending.{Sending}
 use Rattle.session_turns.specs.declared.sending.Sending.TheVariants as sending
-use Rattle.thread_views.specs.Callers.{whose, worker_count}
-use Rattle.thread_views.specs.Histories.{IsLegalLog}
-use Rattle.thread_views.specs.Idle.{HasNothingToDo, Waits}
-use Rattle.thread_views.specs.Says.{says}
-use Rattle.thread_views.specs.Sent.{bytes_sent}
-use Rattle.thread_views.proofs.KnownHanded.{others_hand_nothing}
+use Rattle.view_laws.specs.Callers.{whose, worker_count}
+use Rattle.view_laws.specs.Histories.{IsLegalLog}
+use Rattle.view_laws.specs.Idle.{HasNothingToDo, Waits}
+use Rattle.view_laws.specs.Says.{says}
+use Rattle.view_laws.specs.Sent.{bytes_sent}
+use Rattle.view_laws.proofs.KnownHanded.{others_hand_nothing}
 use Rattle.session_turns.proofs.Lists.{OneOf, some_legal}
 use Rattle.session_turns.proofs.Turns.{FitsView, IsTurn, LostLaw, caller_stays, makes, seen_is}
 

@@ -10,7 +10,7 @@ use Rattle.worker_loop.specs.declared.said.Said.TheVariants as said
 use Rattle.core_rules.specs.Standing.{has_ended}
 use Rattle.reply_outbox.specs.declared.item.Item.TheVariants as item
 use Rattle.session_rules.specs.declared.entry.Entry.TheVariants as entry
-use Rattle.document_session.specs.lists_below.Items.{SessionItem}
+use Rattle.document_session.specs.keeping_rules_below.Items.{SessionItem}
 use Rattle.document_session.specs.declared.working.Claim.{Claim}
 use Rattle.document_session.specs.declared.working.Claim.TheVariants as claim
 use Rattle.document_session.specs.Answers.{ClaimedSo, IsIdle}
@@ -21,9 +21,9 @@ use Rattle.session_turns.specs.declared.claiming.Claiming.{Claiming}
 use Rattle.session_turns.specs.declared.claiming.Claiming.TheVariants as claiming
 use Rattle.session_turns.specs.declared.taking.Taking.{Taking}
 use Rattle.session_turns.specs.declared.taking.Taking.TheVariants as taking
-use Rattle.thread_views.specs.Callers.{service_of, whose, worker_count}
-use Rattle.thread_views.specs.Histories.{IsLegalLog, session_after}
-use Rattle.thread_views.specs.Says.{says}
+use Rattle.view_laws.specs.Callers.{service_of, whose, worker_count}
+use Rattle.view_laws.specs.Histories.{IsLegalLog, session_after}
+use Rattle.view_laws.specs.Says.{says}
 use Rattle.session_turns.specs.Reading.{HasClaimed, HasNoEnd, HasTaken}
 use Rattle.session_turns.proofs.Claims.{Claims, HeldLaw, SameLaw, StaysLaw, idle_so, job_made, job_right}
 use Rattle.session_turns.proofs.Lists.{OneOf, grown_by, not_grown}

@@ -3,13 +3,13 @@ use Rattle.std.proofs.Common.{◌≡◌, ◌⊎◌, ℕ, List, [], ◌∷◌, �
 use Rattle.pide_base.specs.declared.part.Part.{Part}
 use Rattle.language.specs.Lang.{Lang}
 use Rattle.hist_lock.specs.Entries.{Grows}
-use Rattle.prover_core.specs.declared.finishing.Finish.{Finish}
-use Rattle.prover_core.specs.declared.finishing.Finish.TheVariants as finish
+use Rattle.document_session.specs.prover_core_below.declared.finishing.Finish.{Finish}
+use Rattle.document_session.specs.prover_core_below.declared.finishing.Finish.TheVariants as finish
 use Rattle.reply_outbox.specs.declared.item.Item.TheVariants as item
 use Rattle.session_rules.specs.declared.entry.Entry.TheVariants as entry
 use Rattle.session_rules.specs.declared.service.Service.{Service}
-use Rattle.document_session.specs.jobs_below.Works.{Work}
-use Rattle.document_session.specs.lists_below.Items.{SessionItem}
+use Rattle.document_session.specs.session_replies_below.Works.{Work}
+use Rattle.document_session.specs.keeping_rules_below.Items.{SessionItem}
 use Rattle.document_session.specs.declared.working.Claim.{Claim}
 use Rattle.document_session.specs.declared.working.Claim.TheVariants as claim
 use Rattle.document_session.specs.declared.working.GiveUp.{GiveUp}

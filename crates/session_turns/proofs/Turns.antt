@@ -18,12 +18,12 @@ use Rattle.core_rules.specs.Standing.{has_ended}
 use Rattle.reply_outbox.specs.declared.item.Item.TheVariants as item
 use Rattle.reply_outbox.specs.Items.{is_lost}
 use Rattle.session_rules.specs.declared.entry.Entry.TheVariants as entry
-use Rattle.document_session.specs.lists_below.Items.{SessionItem}
+use Rattle.document_session.specs.keeping_rules_below.Items.{SessionItem}
 use Rattle.session_turns.specs.Contents.{SharedState}
 use Rattle.session_turns.specs.Ends.{HasEnded}
-use Rattle.thread_views.specs.Callers.{whose, worker_count}
-use Rattle.thread_views.specs.Histories.{IsLegalLog, session_after}
-use Rattle.thread_views.specs.Says.{says}
+use Rattle.view_laws.specs.Callers.{whose, worker_count}
+use Rattle.view_laws.specs.Histories.{IsLegalLog, session_after}
+use Rattle.view_laws.specs.Says.{says}
 
 abbrev pub log_of : SharedState → List SessionItem
 log_of x = x.log

@@ -2,8 +2,8 @@
 use Rattle.std.specs.Prelude.{◌≡◌, true, false, List}
 use Rattle.language.specs.Lang.{Lang}
 use Rattle.core_rules.specs.Standing.{has_ended}
-use Rattle.document_session.specs.lists_below.Items.{SessionItem}
-use Rattle.thread_views.specs.Histories.{session_after}
+use Rattle.document_session.specs.keeping_rules_below.Items.{SessionItem}
+use Rattle.view_laws.specs.Histories.{session_after}
 
 module _ {S : Type 0} (l : Lang S) (log : List SessionItem) where
   -- all has ended

@@ -4,7 +4,7 @@ pub mod Room
 pub mod Sending
 pub mod Working
 pub mod Reading
-pub use Rattle.document_session.specs as sessions_below
-pub use Rattle.document_session.specs.jobs_below as jobs_below
-pub use Rattle.document_session.specs.lists_below as lists_below
-pub use Rattle.thread_views.specs as views_below
+pub use Rattle.document_session.specs as document_session_below
+pub use Rattle.document_session.specs.keeping_rules_below as keeping_rules_below
+pub use Rattle.document_session.specs.session_replies_below as session_replies_below
+pub use Rattle.view_laws.specs as view_laws_below

@@ -9,15 +9,15 @@ use Rattle.worker_loop.specs.Stays.{SeesOn, Stays}
 use Rattle.worker_loop.specs.declared.said.Said.TheVariants as said
 use Rattle.reply_outbox.specs.declared.item.Item.TheVariants as item
 use Rattle.session_rules.specs.declared.entry.Entry.TheVariants as entry
-use Rattle.document_session.specs.lists_below.Items.{SessionItem}
+use Rattle.document_session.specs.keeping_rules_below.Items.{SessionItem}
 use Rattle.document_session.specs.declared.working.Claim.{Claim}
 use Rattle.document_session.specs.declared.working.Claim.TheVariants as claim
 use Rattle.session_turns.specs.declared.taking.Taking.{Taking}
 use Rattle.session_turns.specs.declared.taking.Taking.TheVariants as taking
-use Rattle.thread_views.specs.Histories.{IsLegalLog}
-use Rattle.thread_views.specs.Idle.{HasNothingToDo}
-use Rattle.thread_views.specs.Says.{says}
-use Rattle.thread_views.specs.Works.{IsRightWork}
+use Rattle.view_laws.specs.Histories.{IsLegalLog}
+use Rattle.view_laws.specs.Idle.{HasNothingToDo}
+use Rattle.view_laws.specs.Says.{says}
+use Rattle.view_laws.specs.Works.{IsRightWork}
 
 -- none of these items is the end
 abbrev pub HasNoEnd : List SessionItem → Type 0

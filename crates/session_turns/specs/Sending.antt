@@ -3,9 +3,9 @@ use Rattle.std.specs.Prelude.{◌≡◌, ◌≢◌, ◌⊎◌, ℕ, ◌+◌, tru
 use Rattle.language.specs.Lang.{Lang}
 use Rattle.reply_outbox.specs.declared.item.Item.TheVariants as item
 use Rattle.reply_outbox.specs.Items.{is_lost}
-use Rattle.document_session.specs.lists_below.Items.{SessionItem}
-use Rattle.thread_views.specs.Callers.{worker_count}
-use Rattle.thread_views.specs.Idle.{Waits}
+use Rattle.document_session.specs.keeping_rules_below.Items.{SessionItem}
+use Rattle.view_laws.specs.Callers.{worker_count}
+use Rattle.view_laws.specs.Idle.{Waits}
 use Rattle.session_turns.specs.declared.sending.Sending.{Sending}
 use Rattle.session_turns.specs.declared.sending.Sending.TheVariants as sending
 use Rattle.session_turns.specs.Ends.{HasEnded, IsGoing}

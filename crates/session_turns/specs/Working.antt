@@ -6,12 +6,12 @@ use Rattle.core_rules.specs.Standing.{held}
 use Rattle.reply_outbox.specs.declared.item.Item.TheVariants as item
 use Rattle.reply_outbox.specs.Items.{is_lost}
 use Rattle.session_rules.specs.declared.entry.Entry.TheVariants as entry
-use Rattle.document_session.specs.lists_below.Items.{SessionItem}
+use Rattle.document_session.specs.keeping_rules_below.Items.{SessionItem}
 use Rattle.document_session.specs.declared.taking.Taken.{Taken}
 use Rattle.document_session.specs.declared.taking.Taken.TheVariants as taken
 use Rattle.document_session.specs.Answers.{ClaimedSo, IsClaimed, IsWaiting}
-use Rattle.thread_views.specs.Callers.{service_of, worker_count}
-use Rattle.thread_views.specs.Histories.{session_after}
+use Rattle.view_laws.specs.Callers.{service_of, worker_count}
+use Rattle.view_laws.specs.Histories.{session_after}
 use Rattle.session_turns.specs.declared.claiming.Claiming.{Claiming}
 use Rattle.session_turns.specs.declared.claiming.Claiming.TheVariants as claiming
 use Rattle.session_turns.specs.declared.taking.Taking.{Taking}

@@ -2,20 +2,20 @@
 ghost use Rattle.std.specs.Prelude.{◌≤◌, reverse};
 ghost use Rattle.hist_lock.specs.Entries.{Grows};
 ghost use Rattle.document_session.specs.Answers.{ClaimedSo};
-ghost use Rattle.thread_views.specs.Callers.{service_of, worker_count};
-ghost use Rattle.thread_views.specs.Histories.{IsLegalLog};
+ghost use Rattle.view_laws.specs.Callers.{service_of, worker_count};
+ghost use Rattle.view_laws.specs.Histories.{IsLegalLog};
 ghost use Rattle.session_turns.specs.Working.{ClaimsSo};
 
 use crate::locked::Locked;
 use document_session::Claim;
-use document_session::jobs_below::SessionJob;
+use document_session::session_replies_below::SessionJob;
 use hist_lock::Turn;
 use language::Language;
 use pide_base::Flag;
 use reply_outbox::Past;
 use session_rules::{Entry, Service};
 use std::alloc::Global;
-use thread_views::list_law;
+use view_laws::list_law;
 
 /// What a claim gave.
 #[derive(Drop)]

@@ -4,7 +4,7 @@ use crate::claiming::{ClaimTurn, Claiming};
 use crate::ending::{FinishTurn, GiveUpTurn};
 use crate::locked::Locked;
 use crate::watching::look;
-use document_session::jobs_below::{SessionDone, SessionJob, SessionRan};
+use document_session::session_replies_below::{SessionDone, SessionJob, SessionRan};
 use document_session::{Finish as SessionFinish, GiveUp as SessionGiveUp};
 use hist_lock::{Pass, Shared};
 use language::Language;
@@ -13,7 +13,7 @@ use reply_outbox::Past;
 use session_rules::{Entry, Service};
 use std::alloc::Global;
 use std::sync::Wait;
-use thread_views::{handed_law, holders_law, list_law, reader_law, works_law};
+use view_laws::{handed_law, holders_law, list_law, reader_law, works_law};
 use worker_loop::{Claim, Finish, GiveUp, Ran, Work};
 
 /// Works on a session's parts: each turn is one of the session's, and a job is the language's.
@@ -25,8 +25,8 @@ pub struct Crew<'a, L> {
 
 impl<'a, L: Language, P: Past<Service, Entry> + Drop> Work<Locked<L, P>> for Crew<'a, L> {
     ghost use Rattle.core_jobs.specs.Questions.{questions_by};
-    ghost use Rattle.thread_views.specs.Says.{says};
-    ghost use Rattle.thread_views.specs.Works.{IsRightDone, IsRightWork};
+    ghost use Rattle.view_laws.specs.Says.{says};
+    ghost use Rattle.view_laws.specs.Works.{IsRightDone, IsRightWork};
 
     type Job = SessionJob<L::State>;
 

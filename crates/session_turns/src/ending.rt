@@ -2,19 +2,19 @@
 ghost use Rattle.std.specs.Prelude.{◌≡◌, ◌≤◌, reverse, Some};
 ghost use Rattle.hist_lock.specs.Entries.{Grows};
 ghost use Rattle.core_rules.specs.Standing.{held};
-ghost use Rattle.document_session.specs.states_below.Works.{IsDoneWorkOf};
+ghost use Rattle.document_session.specs.keeping_rules_below.Works.{IsDoneWorkOf};
 ghost use Rattle.document_session.specs.Answers.{FinishedSo, GivenUpSo};
-ghost use Rattle.thread_views.specs.Callers.{service_of, worker_count};
-ghost use Rattle.thread_views.specs.Histories.{IsLegalLog, session_after};
+ghost use Rattle.view_laws.specs.Callers.{service_of, worker_count};
+ghost use Rattle.view_laws.specs.Histories.{IsLegalLog, session_after};
 
 use crate::locked::Locked;
-use document_session::jobs_below::{SessionDone, SessionJob};
+use document_session::session_replies_below::{SessionDone, SessionJob};
 use document_session::{Finish, GiveUp};
 use hist_lock::Turn;
 use language::Language;
 use reply_outbox::Past;
 use session_rules::{Entry, Service};
-use thread_views::list_law;
+use view_laws::list_law;
 
 impl<L: Language, P: Past<Service, Entry> + Drop> Locked<L, P> {
     /// A worker hands in what came of the part that it holds. It takes no memory.

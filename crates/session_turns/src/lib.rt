@@ -21,12 +21,12 @@ mod writer;
 
 pub use claiming::{ClaimTurn, Claiming};
 pub use crew::Crew;
-pub use document_session as sessions_below;
-pub use document_session::lists_below as lists_below;
+pub use document_session as document_session_below;
+pub use document_session::keeping_rules_below as keeping_rules_below;
 pub use ending::{FinishTurn, GiveUpTurn};
 pub use locked::Locked;
 pub use looking::{EndTurn, LookTurn};
 pub use sending::{LoseTurn, SendTurn, Sending};
 pub use taking::{TakeTurn, Taking};
-pub use thread_views as views_below;
+pub use view_laws as view_laws_below;
 pub use writer::Writer;

@@ -1,10 +1,10 @@
 //! A session as a state that callers share.
 ghost use Rattle.std.specs.Prelude.{◌≡◌, ◌↔◌, ℕ, ◌+◌, true, reverse};
 ghost use Rattle.session_rules.specs.declared.service.Service.TheVariants.{Workers};
-ghost use Rattle.document_session.specs.lists_below.Legal.{AreLegal};
-ghost use Rattle.thread_views.specs.Callers.{service_of, whose, worker_count};
-ghost use Rattle.thread_views.specs.Histories.{IsLegalLog};
-ghost use Rattle.thread_views.specs.Idle.{HasNothingToDo};
+ghost use Rattle.document_session.specs.keeping_rules_below.Legal.{AreLegal};
+ghost use Rattle.view_laws.specs.Callers.{service_of, whose, worker_count};
+ghost use Rattle.view_laws.specs.Histories.{IsLegalLog};
+ghost use Rattle.view_laws.specs.Idle.{HasNothingToDo};
 
 use document_session::Session;
 use hist_lock::{News, State};
@@ -12,7 +12,7 @@ use language::Language;
 use reply_outbox::{Item, Past};
 use session_rules::{Entry, Service};
 use std::marker::Model;
-use thread_views::list_law;
+use view_laws::list_law;
 
 /// A session that the reader and workers serve, who take turns at it. Contracts see its items and
 /// the replies that wait, the oldest first.
@@ -29,7 +29,7 @@ pub struct Locked<L: Language, P: Past<Service, Entry>> {
 
 impl<L: Language, P: Past<Service, Entry>> Model for Locked<L, P> {
     ghost use Rattle.std.specs.Prelude.{◌≡◌, reverse};
-    ghost use Rattle.thread_views.specs.Callers.{service_of};
+    ghost use Rattle.view_laws.specs.Callers.{service_of};
     ghost use Rattle.session_turns.specs.Contents.{SharedState};
 
     ghost Value = { SharedState };

@@ -5,7 +5,7 @@ ghost use Rattle.core_rules.specs.Standing.{has_ended};
 ghost use Rattle.reply_outbox.specs.declared.item.Item.TheVariants as item;
 ghost use Rattle.reply_outbox.specs.Items.{is_lost};
 ghost use Rattle.session_rules.specs.declared.entry.Entry.TheVariants as entry;
-ghost use Rattle.thread_views.specs.Histories.{IsLegalLog, session_after};
+ghost use Rattle.view_laws.specs.Histories.{IsLegalLog, session_after};
 ghost use Rattle.session_turns.specs.Ends.{IsGoing};
 
 use crate::locked::Locked;
@@ -13,7 +13,7 @@ use hist_lock::{News, Turn};
 use language::Language;
 use reply_outbox::Past;
 use session_rules::{Entry, Service};
-use thread_views::list_law;
+use view_laws::list_law;
 
 impl<L: Language, P: Past<Service, Entry> + Drop> Locked<L, P> {
     /// Whether all has ended.

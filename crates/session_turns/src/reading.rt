@@ -6,7 +6,7 @@ ghost use Rattle.hist_lock.specs.Passes.{view, IsPassOf};
 ghost use Rattle.worker_loop.specs.Held.{held_in};
 ghost use Rattle.reply_outbox.specs.declared.item.Item.TheVariants as item;
 ghost use Rattle.session_rules.specs.declared.entry.Entry.TheVariants as entry;
-ghost use Rattle.thread_views.specs.Says.{says};
+ghost use Rattle.view_laws.specs.Says.{says};
 ghost use Rattle.session_turns.specs.Reading.{HasNoEnd, HasTaken};
 
 use crate::crew::Crew;
@@ -19,7 +19,7 @@ use language::Language;
 use reply_outbox::Past;
 use session_rules::{Entry, Service};
 use std::sync::Wait;
-use thread_views::{handed_law, holders_law, list_law, owners_law, reader_law, works_law};
+use view_laws::{handed_law, holders_law, list_law, owners_law, reader_law, works_law};
 
 impl<'a, L: Language> Crew<'a, L> {
     /// The reader has a message answered at its turn, and claims the first ready part where the

@@ -3,8 +3,8 @@ ghost use Rattle.std.specs.Prelude.{◌≡◌, ◌+◌, [], ◌∷◌, ◌++◌,
 ghost use Rattle.hist_lock.specs.Entries.{Grows};
 ghost use Rattle.reply_outbox.specs.declared.item.Item.TheVariants as item;
 ghost use Rattle.reply_outbox.specs.Items.{is_lost};
-ghost use Rattle.thread_views.specs.Callers.{worker_count};
-ghost use Rattle.thread_views.specs.Histories.{IsLegalLog};
+ghost use Rattle.view_laws.specs.Callers.{worker_count};
+ghost use Rattle.view_laws.specs.Histories.{IsLegalLog};
 ghost use Rattle.session_turns.specs.Sending.{FindsNone, SendsSo, TakesPiece};
 
 use crate::listening::news_of_sending;
@@ -13,7 +13,7 @@ use hist_lock::{News, Turn};
 use language::Language;
 use reply_outbox::Past;
 use session_rules::{Entry, Service};
-use thread_views::list_law;
+use view_laws::list_law;
 
 /// What a caller is handed.
 #[derive(Drop)]

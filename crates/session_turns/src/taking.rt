@@ -1,7 +1,7 @@
 //! How the reader has a message answered.
 ghost use Rattle.std.specs.Prelude.{◌≡◌, IfOk, OnErr};
 ghost use Rattle.hist_lock.specs.Entries.{Grows};
-ghost use Rattle.thread_views.specs.Histories.{IsLegalLog};
+ghost use Rattle.view_laws.specs.Histories.{IsLegalLog};
 ghost use Rattle.session_turns.specs.Ends.{IsGoing};
 ghost use Rattle.session_turns.specs.Room.{is_backed_up};
 ghost use Rattle.session_turns.specs.Working.{AnswersSo, MustWait, TakesSo};
@@ -14,7 +14,7 @@ use language::Language;
 use reply_outbox::Past;
 use session_rules::{Entry, Service};
 use std::alloc::{AllocError, Global};
-use thread_views::list_law;
+use view_laws::list_law;
 
 /// What became of a message.
 #[derive(Drop)]

@@ -7,9 +7,9 @@ ghost use Rattle.worker_loop.specs.Rounds.{HasSeen};
 ghost use Rattle.worker_loop.specs.Sending.{KnowsOwn};
 ghost use Rattle.worker_loop.specs.Stays.{SeesOn};
 ghost use Rattle.worker_loop.specs.declared.said.Said.TheVariants as said;
-ghost use Rattle.thread_views.specs.Callers.{whose};
-ghost use Rattle.thread_views.specs.Histories.{IsLegalLog};
-ghost use Rattle.thread_views.specs.Says.{says};
+ghost use Rattle.view_laws.specs.Callers.{whose};
+ghost use Rattle.view_laws.specs.Histories.{IsLegalLog};
+ghost use Rattle.view_laws.specs.Says.{says};
 
 use crate::locked::Locked;
 use crate::looking::LookTurn;
@@ -18,7 +18,7 @@ use language::Language;
 use reply_outbox::Past;
 use session_rules::{Entry, Service};
 use std::sync::Wait;
-use thread_views::reader_law;
+use view_laws::reader_law;
 
 /// Whether all has ended.
 pub(crate) fn look<L: Language, P: Past<Service, Entry> + Drop, R: Wait>(

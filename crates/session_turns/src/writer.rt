@@ -8,7 +8,7 @@ use language::Language;
 use reply_outbox::Past;
 use session_rules::{Entry, Service};
 use std::sync::Wait;
-use thread_views::{handed_law, owners_law, reader_law};
+use view_laws::{handed_law, owners_law, reader_law};
 use worker_loop::{Next, Outbox};
 
 /// Takes a session's replies, each of them a piece.
@@ -16,9 +16,9 @@ use worker_loop::{Next, Outbox};
 pub struct Writer;
 
 impl<L: Language, P: Past<Service, Entry> + Drop> Outbox<Locked<L, P>> for Writer {
-    ghost use Rattle.thread_views.specs.Says.{says};
-    ghost use Rattle.thread_views.specs.Sent.{bytes_sent};
-    ghost use Rattle.thread_views.proofs.KnownHanded.{others_hand_nothing};
+    ghost use Rattle.view_laws.specs.Says.{says};
+    ghost use Rattle.view_laws.specs.Sent.{bytes_sent};
+    ghost use Rattle.view_laws.proofs.KnownHanded.{others_hand_nothing};
 
     ghost says = { says };
 

@@ -6,8 +6,8 @@ use Rattle.doc_nodes.specs.declared.node.Node.{Node}
 use Rattle.doc_nodes.specs.Imports.{NodeList, is_ordered, place_of}
 use Rattle.doc_nodes.specs.Reached.{Reached}
 use Rattle.doc_nodes.specs.Wanted.{is_reached, wanted_at}
-use Rattle.doc_versions.specs.declared.versions.Live.{Live}
-use Rattle.doc_versions.specs.Live.{version_of}
+use Rattle.core_tables.specs.declared.versions.Live.{Live}
+use Rattle.core_tables.specs.Live.{version_of}
 use Rattle.exec_rules.specs.declared.version.Version.{Version}
 use Rattle.exec_rules.specs.Assigning.{entries_in}
 use Rattle.exec_rules.proofs.KnownThere.{all_at}

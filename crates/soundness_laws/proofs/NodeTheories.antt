@@ -6,7 +6,7 @@ use Rattle.std.specs.Prelude.{slice_get}
 use Rattle.std.specs.Option.{option_map, option_map_or}
 use Rattle.doc_nodes.specs.declared.node.Node.{Node}
 use Rattle.doc_nodes.specs.Imports.{order, place_of}
-use Rattle.doc_versions.specs.declared.versions.Live.{Live}
+use Rattle.core_tables.specs.declared.versions.Live.{Live}
 use Rattle.exec_rules.specs.declared.version.Version.{Version}
 use Rattle.exec_rules.specs.Assigning.{entries_at, entries_in}
 use Rattle.core_rules.specs.declared.event.Event.{Event}

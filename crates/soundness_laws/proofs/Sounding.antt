@@ -13,7 +13,7 @@ use Rattle.core_rules.specs.Scratch.{Run, Runs, begins_at, final, run_all, run_f
 use Rattle.isar_rules.specs.declared.state.State.{State}
 use Rattle.isar_rules.specs.Isar.{isar}
 use Rattle.isar_rules.specs.Kept.{errors_in}
-use Rattle.markup_lines.specs.OneText.{entries_of, markup_of, name_of, one_node, one_sheet, reported}
+use Rattle.text_check.specs.OneText.{entries_of, markup_of, name_of, one_node, one_sheet, reported}
 use Rattle.theory_laws.specs.Axioms.{IsAxiomOf}
 use Rattle.theory_laws.specs.Clean.{AreClean, told}
 use Rattle.theory_laws.specs.Facts.{FactsFollow}

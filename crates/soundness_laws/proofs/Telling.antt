@@ -4,7 +4,7 @@ use Rattle.std.specs.List.{flat_map}
 use Rattle.report_markup.specs.declared.report.Report.{Report}
 use Rattle.report_markup.specs.Sorting.{in_order}
 use Rattle.snapshots.specs.Converted.{left_by}
-use Rattle.doc_versions.specs.Live.{version_of}
+use Rattle.core_tables.specs.Live.{version_of}
 use Rattle.exec_rules.specs.declared.version.Version.{Version}
 use Rattle.message_values.specs.declared.protocol.Protocol.TheVariants.{Scalars}
 use Rattle.message_values.specs.declared.refusal.Refusal.{Refusal}

@@ -11,7 +11,7 @@ use Rattle.core_rules.specs.Scratch.{Run, final, scratch, scratch_at}
 use Rattle.isar_rules.specs.declared.state.State.{State}
 use Rattle.isar_rules.specs.Isar.{isar}
 use Rattle.isar_rules.specs.Kept.{errors_in}
-use Rattle.markup_lines.specs.OneText.{markup_of, name_of}
+use Rattle.text_check.specs.OneText.{markup_of, name_of}
 use Rattle.theory_laws.specs.Clean.{AreClean}
 use Rattle.theory_laws.specs.Imports.{AreCleanFrom, Needs, itself}
 use Rattle.theory_laws.specs.Theories.{IsStatedFrom, IsStatedIn, IsTheoryOf}

@@ -3,7 +3,7 @@ use Rattle.std.specs.Prelude.{◌≡◌, ℕ, ◌<◌, List, [], ◌∷◌, leng
 use Rattle.core_rules.specs.Scratch.{Run, final, scratch}
 use Rattle.isar_rules.specs.declared.state.State.{State}
 use Rattle.isar_rules.specs.Isar.{isar}
-use Rattle.markup_lines.specs.OneText.{name_of, one_node}
+use Rattle.text_check.specs.OneText.{name_of, one_node}
 use Rattle.theory_laws.specs.Axioms.{IsAxiomOf}
 use Rattle.theory_laws.specs.Facts.{FactsFollow}
 use Rattle.theory_laws.specs.Theories.{IsStatedIn, IsTheoryOf}

@@ -2,7 +2,7 @@
 ghost use Rattle.std.specs.Prelude.{◌≡◌, ℕ, ◌<◌, true, List, length, slice_get, Some};
 ghost use Rattle.doc_nodes.specs.declared.node.Node.{Node};
 ghost use Rattle.doc_nodes.specs.Imports.{is_ordered, place_of};
-ghost use Rattle.doc_versions.specs.Live.{version_of};
+ghost use Rattle.core_tables.specs.Live.{version_of};
 ghost use Rattle.exec_rules.specs.declared.version.Version.{Version};
 ghost use Rattle.exec_rules.specs.Assigning.{entries_in};
 ghost use Rattle.message_values.specs.declared.protocol.Protocol.TheVariants.{Scalars};

@@ -2,7 +2,7 @@
 ghost use Rattle.std.specs.Prelude.{◌≡◌, ℕ, List, []};
 ghost use Rattle.isar_rules.specs.Isar.{isar};
 ghost use Rattle.isar_rules.specs.Kept.{errors_in};
-ghost use Rattle.markup_lines.specs.OneText.{markup_of};
+ghost use Rattle.text_check.specs.OneText.{markup_of};
 ghost use Rattle.soundness_laws.specs.Sound.{IsSound, IsTheory};
 
 use theory_laws::{alone_law, facts_law};

@@ -8,7 +8,7 @@ use Rattle.outer_tokens.specs.Words.{is_in_force, is_minor_keyword, kind_of}
 use Rattle.outer_tokens.specs.declared.kind.Kind.TheVariants as kind
 use Rattle.suggest_laws.specs.Lexemes.{Lexeme, word, space, opening, closing, quoted, scalars, text_of, row_of, EndsSpace, Fitting, tokens_of}
 use Rattle.suggest_laws.proofs.LexemeTokens.{lexemes_are}
-use Rattle.inserted_commands.specs.Insertion.{is_error, EndsWell, IsCommandText}
+use Rattle.suggest_laws.specs.Insertion.{is_error, EndsWell, IsCommandText}
 
 -- the lexeme is no command and no minor keyword
 abbrev pub IsQuiet : (List ℕ → Bool) → Lexeme → Type 0

@@ -11,8 +11,8 @@ use Rattle.nj_print.specs.Prints.{Prints}
 use Rattle.nj_print.specs.Readable.{IsReadable, IsReadAgain}
 use Rattle.nj_print.proofs.KnownPrints.{some_print}
 use Rattle.nj_print.proofs.KnownReadable.{print_read_again}
-use Rattle.formula_texts.specs.Printed.{formula_text}
-use Rattle.formula_texts.proofs.KnownTexts.{text_is}
+use Rattle.nj_print.specs.Printed.{formula_text}
+use Rattle.nj_print.proofs.KnownTexts.{text_is}
 use Rattle.suggest_laws.specs.Lexemes.{IsPlain}
 use Rattle.suggest_laws.proofs.PlainTexts.{tokens_plain}
 

@@ -5,7 +5,7 @@ use Rattle.nj_syntax.specs.Answer.{formula_of}
 use Rattle.nj_kernel.specs.declared.rule.Rule.{Rule}
 use Rattle.nj_kernel.specs.RuleNames.{rule_name}
 use Rattle.outer_tokens.specs.declared.kind.Kind.TheVariants as kind
-use Rattle.formula_texts.specs.Printed.{formula_text}
+use Rattle.nj_print.specs.Printed.{formula_text}
 use Rattle.proof_terms.specs.declared.fault.TermFault.{TermFault}
 use Rattle.proof_terms.specs.declared.term.Term.{Term}
 use Rattle.proof_terms.specs.declared.term.Term.TheVariants.{Fact}

@@ -11,7 +11,7 @@ use Rattle.suggest_rules.specs.Names.{is_alias}
 use Rattle.suggest_rules.specs.Search.{suggested}
 use Rattle.suggest_rules.specs.TermText.{by_text}
 use Rattle.suggest_laws.specs.Lexemes.{text_of}
-use Rattle.inserted_commands.specs.Insertion.{IsCommandText}
+use Rattle.suggest_laws.specs.Insertion.{IsCommandText}
 use Rattle.suggest_laws.specs.Citable.{IsFree, IsCitable}
 use Rattle.suggest_laws.proofs.CommandTexts.{by_lexemes, by_command}
 use Rattle.suggest_laws.proofs.SuggestedWritten.{suggested_written}

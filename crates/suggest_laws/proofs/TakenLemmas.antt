@@ -24,7 +24,7 @@ use Rattle.isar_rules.specs.Shown.{place_text, suggested_at}
 use Rattle.isar_rules.specs.Starts.{start}
 use Rattle.isar_rules.specs.Steps.{step}
 use Rattle.theory_laws.specs.Clean.{IsClean}
-use Rattle.inserted_commands.specs.Insertion.{IsUnbroken, IsCommandText, sources_in}
+use Rattle.suggest_laws.specs.Insertion.{IsUnbroken, IsCommandText, sources_in}
 use Rattle.suggest_laws.specs.CitableStates.{alias_names, IsCitableState}
 use Rattle.suggest_laws.specs.Proving.{IsProvedBy}
 use Rattle.suggest_laws.specs.Suggesting.{Beginning, node_of, run_of, Suggests, IsTaken}

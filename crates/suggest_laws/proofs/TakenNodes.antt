@@ -22,7 +22,7 @@ use Rattle.buffer_rules.specs.declared.sheet.Sheet.{Sheet}
 use Rattle.buffer_rules.specs.Nodes.{cut, nodes_after, uncut, uncut_all}
 use Rattle.buffer_rules.specs.Numbers.{Command}
 use Rattle.buffer_rules.specs.Sheets.{SheetList}
-use Rattle.inserted_commands.specs.Insertion.{IsUnbroken}
+use Rattle.suggest_laws.specs.Insertion.{IsUnbroken}
 use Rattle.isar_rules.specs.declared.state.State.{State}
 use Rattle.isar_rules.specs.Isar.{isar}
 use Rattle.isar_rules.specs.Starts.{start}

@@ -5,7 +5,7 @@ use Rattle.nj_kernel.specs.declared.rule.Rule.{Rule}
 use Rattle.nj_kernel.specs.declared.rule.Rule.TheVariants as R
 use Rattle.nj_kernel.specs.RuleNames.{rule_name}
 use Rattle.nj_print.specs.Readable.{IsReadable}
-use Rattle.formula_texts.specs.Printed.{formula_text}
+use Rattle.nj_print.specs.Printed.{formula_text}
 use Rattle.proof_terms.specs.declared.term.Cite.{Cite}
 use Rattle.proof_terms.specs.declared.term.Term.{Term}
 use Rattle.proof_terms.specs.declared.term.Term.TheVariants.{Fact}

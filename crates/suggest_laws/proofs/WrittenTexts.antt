@@ -7,7 +7,7 @@ use Rattle.nj_kernel.specs.RuleNames.{rule_name}
 use Rattle.proof_terms.specs.declared.term.Term.{Term}
 use Rattle.proof_terms.specs.Slots.{Slot, formula, object, named, proof, slots}
 use Rattle.proof_terms.proofs.KnownTerms.{fold-Fact}
-use Rattle.formula_texts.specs.Printed.{formula_text}
+use Rattle.nj_print.specs.Printed.{formula_text}
 use Rattle.suggest_rules.specs.TermText as T
 use Rattle.suggest_rules.specs.TermText.{ruled, term_layer, term_text}
 use Rattle.suggest_laws.specs.Lexemes.{Lexeme, word, closing, text_of}

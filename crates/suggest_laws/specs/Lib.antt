@@ -1,3 +1,4 @@
+pub mod Insertion
 pub mod Lexemes
 pub mod AliasNames
 pub mod SameHeaders

@@ -10,7 +10,7 @@ ghost use Rattle.isar_rules.specs.declared.state.State.{State};
 ghost use Rattle.isar_rules.specs.Shown.{suggested_at};
 ghost use Rattle.isar_rules.specs.Starts.{start};
 ghost use Rattle.isar_rules.specs.Steps.{step};
-ghost use Rattle.inserted_commands.specs.Insertion.{IsCommandText};
+ghost use Rattle.suggest_laws.specs.Insertion.{IsCommandText};
 ghost use Rattle.suggest_laws.specs.CitableStates.{alias_names, IsCitableState};
 ghost use Rattle.suggest_laws.specs.Proving.{IsProvedBy};
 

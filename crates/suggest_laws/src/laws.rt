@@ -18,7 +18,7 @@ ghost use Rattle.buffer_rules.specs.Nodes.{nodes_after, uncut_all};
 ghost use Rattle.buffer_rules.specs.Numbers.{Command};
 ghost use Rattle.buffer_rules.specs.Sheets.{SheetList};
 ghost use Rattle.language.specs.declared.made.Imports.{Imports};
-ghost use Rattle.inserted_commands.specs.Insertion.{IsUnbroken};
+ghost use Rattle.suggest_laws.specs.Insertion.{IsUnbroken};
 ghost use Rattle.suggest_laws.specs.Edited.{NodeComesTo, IsTakenAt};
 ghost use Rattle.suggest_laws.specs.Suggesting.{Beginning, beginning_at, IsEditedAt, node_of, run_of, Suggests, IsTaken};
 
@@ -39,7 +39,7 @@ pub fn suggest_law()
         sheet.text new text k }
 {
     buffer_rules::ids_law();
-    inserted_commands::insertion_law();
+    crate::insertion::insertion_law();
     crate::commands::citable_states();
     crate::commands::suggested_by();
 }

@@ -10,7 +10,7 @@ ghost use Rattle.proof_terms.specs.declared.term.Term.{Term};
 ghost use Rattle.proof_checks.specs.Checks.{checked};
 ghost use Rattle.suggest_rules.specs.Search.{suggested};
 ghost use Rattle.suggest_rules.specs.TermText.{by_text};
-ghost use Rattle.inserted_commands.specs.Insertion.{IsCommandText};
+ghost use Rattle.suggest_laws.specs.Insertion.{IsCommandText};
 ghost use Rattle.suggest_laws.specs.Alike.{IsAlike, SayAlike};
 ghost use Rattle.suggest_laws.specs.Citable.{IsCitable};
 ghost use Rattle.suggest_laws.specs.ProofTexts.{IsProofText};

@@ -7,7 +7,7 @@ use Rattle.nj_formula.specs.declared.formula.Formula.{Formula}
 use Rattle.nj_print.specs.Primed.{with_primes}
 use Rattle.outer_tokens.specs.Words.{same}
 use Rattle.theory_ctx.specs.declared.local.Local.{Local}
-use Rattle.formula_texts.specs.Printed.{least_failing}
+use Rattle.nj_print.specs.Printed.{least_failing}
 use Rattle.suggest_rules.specs.declared.names.Names.{Names}
 
 -- the facts but for those of this name

@@ -1,7 +1,7 @@
-//! The table of executions (`exec_table`). The results are numbers here.
+//! The table of executions (`core_tables`). The results are numbers here.
 use crate::listed::put_some;
 use crate::queued::exec;
-use exec_table::{Cancelling, Done, Execs, Execution};
+use core_tables::{Cancelling, Done, Execs, Execution};
 use pide_base::{ExecId, PartKind};
 use script_lines::{Fault, number};
 use std::alloc::Global;

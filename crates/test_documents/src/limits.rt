@@ -1,5 +1,5 @@
-//! The limits of a document (`doc_limits`): whether a number is past them.
-use doc_limits::{are_too_many, are_too_many_live, is_too_long};
+//! The limits of a document (`pide_base`): whether a number is past them.
+use pide_base::{are_too_many, are_too_many_live, is_too_long};
 use script_lines::{Fault, place};
 
 pub(crate) fn answer(words: &[&str], out: &mut String) -> Result<(), Fault> {

@@ -1,6 +1,6 @@
-//! The live versions (`doc_versions`). Here version n holds ten times n, and the start nothing.
+//! The live versions (`core_tables`). Here version n holds ten times n, and the start nothing.
 use crate::listed::put_some;
-use doc_versions::{Removing, Version, Versions};
+use core_tables::{Removing, Version, Versions};
 use pide_base::VersionId;
 use script_lines::{Fault, number};
 use std::alloc::{AllocError, Global};

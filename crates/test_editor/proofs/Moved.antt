@@ -11,10 +11,10 @@ use Rattle.core_rules.specs.declared.event.Event.{Event}
 use Rattle.core_rules.specs.declared.event.Event.TheVariants as event
 use Rattle.core_rules.specs.Standing.{held}
 use Rattle.core_rules.specs.Doc.{Doc, doc}
-use Rattle.exec_table.specs.declared.execs.Cancelling.{Cancelling}
-use Rattle.exec_table.specs.declared.execs.Cancelling.TheVariants as cancelling
-use Rattle.doc_versions.specs.declared.versions.Removing.{Removing}
-use Rattle.doc_versions.specs.declared.versions.Removing.TheVariants as removing
+use Rattle.core_tables.specs.declared.execs.Cancelling.{Cancelling}
+use Rattle.core_tables.specs.declared.execs.Cancelling.TheVariants as cancelling
+use Rattle.core_tables.specs.declared.versions.Removing.{Removing}
+use Rattle.core_tables.specs.declared.versions.Removing.TheVariants as removing
 use Rattle.prover_core.specs.Answers.{CancelledSo}
 use Rattle.prover_core.specs.Removal.{with_removal}
 use Rattle.buffer_rules.specs.Preparing.{Buffer}

@@ -1,9 +1,8 @@
 //! What calls answer, as texts.
 use crate::desk::{Left, Updated};
 use crate::plain::{Checked, Said};
-use doc_versions::Removing;
+use core_tables::{Cancelling, Removing};
 use exec_assign::{ToldCommand, ToldNode};
-use exec_table::Cancelling;
 use pide_base::{ExecId, Part, PartKind};
 use prover_core::{NodeResults, PartResult, Settled};
 use report_markup::{Report, ReportKind};

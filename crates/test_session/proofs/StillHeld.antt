@@ -11,7 +11,7 @@ use Rattle.session_rules.specs.declared.service.Service.{Service}
 use Rattle.session_rules.specs.declared.service.Service.TheVariants.{Workers}
 use Rattle.session_rules.specs.Session.{Session}
 use Rattle.session_rules.specs.Steps.{Due, Nothing, Claims, Finishes, due_of}
-use Rattle.document_session.specs.lists_below.Items.{SessionItem, session_in}
+use Rattle.document_session.specs.keeping_rules_below.Items.{SessionItem, session_in}
 use Rattle.session_laws.proofs.KnownHolding.{message_same}
 use Rattle.session_laws.proofs.KnownNamed.{AskedLaw, claims_asked, finishes_asked}
 use Rattle.document_session.specs.Answers.{IsAnswered, TakenSo}

@@ -2,9 +2,9 @@
 use Rattle.std.proofs.Common.{◌≡◌, List, sym, subst}
 use Rattle.language.specs.Lang.{Lang}
 use Rattle.session_rules.specs.declared.service.Service.{Service}
-use Rattle.document_session.specs.jobs_below.Works.{Work}
-use Rattle.document_session.specs.lists_below.Items.{SessionItem, session_in}
-use Rattle.document_session.specs.states_below.Works.{IsWorkOf}
+use Rattle.document_session.specs.session_replies_below.Works.{Work}
+use Rattle.document_session.specs.keeping_rules_below.Items.{SessionItem, session_in}
+use Rattle.document_session.specs.keeping_rules_below.Works.{IsWorkOf}
 
 pub still_works : {S : Type 0} (l : Lang S) (service after : Service) (items new : List SessionItem) (work back : Work S) → after ≡ service
     → new ≡ items → back ≡ work → IsWorkOf l (session_in l service items) 1 work → IsWorkOf l (session_in l after new) 1 back

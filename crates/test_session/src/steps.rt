@@ -2,12 +2,12 @@
 ghost use Rattle.std.specs.Prelude.{◌≡◌, IfOk};
 ghost use Rattle.core_rules.specs.Standing.{held};
 ghost use Rattle.session_rules.specs.declared.service.Service.TheVariants as service_is;
-ghost use Rattle.document_session.specs.lists_below.Items.{session_in};
-ghost use Rattle.document_session.specs.states_below.Works.{IsWorkOf};
+ghost use Rattle.document_session.specs.keeping_rules_below.Items.{session_in};
+ghost use Rattle.document_session.specs.keeping_rules_below.Works.{IsWorkOf};
 
 use byte_message::Message;
 use core_jobs::job_law;
-use document_session::jobs_below::{SessionJob, SessionRan};
+use document_session::session_replies_below::{SessionJob, SessionRan};
 use document_session::{Claim, Finish, Session, Taken};
 use language::Language;
 use message_values::a_message_is_asked_where_it_is_spelled;

@@ -2,12 +2,12 @@
 ghost use Rattle.std.specs.Prelude.{◌≡◌, IfOk, Some};
 ghost use Rattle.core_rules.specs.Standing.{held};
 ghost use Rattle.session_rules.specs.declared.service.Service.TheVariants as service_is;
-ghost use Rattle.document_session.specs.lists_below.Items.{session_in};
-ghost use Rattle.document_session.specs.states_below.Works.{IsWorkOf};
+ghost use Rattle.document_session.specs.keeping_rules_below.Items.{session_in};
+ghost use Rattle.document_session.specs.keeping_rules_below.Works.{IsWorkOf};
 
 use crate::messages::{CANCEL, CANCELLED, LET_GO, PROVED, UPDATE, message};
 use crate::steps::{Past, WORKER, begun, claimed, finished, replied, told, worked};
-use document_session::jobs_below::{SessionJob, SessionRan};
+use document_session::session_replies_below::{SessionJob, SessionRan};
 use document_session::{Claim, GiveUp, Session};
 use language::Language;
 use pide_base::{Flag, PartKind};

@@ -17,7 +17,7 @@ use Rattle.buffer_rules.specs.declared.sheet.Sheet.{Sheet}
 use Rattle.buffer_rules.specs.Cuts.{command_ranges, source}
 use Rattle.buffer_rules.specs.Nodes.{cut as cut_sheet, nodes_after, ranges_in, sources, uncut, uncut_all}
 use Rattle.buffer_rules.specs.Numbers.{ids_of}
-use Rattle.markup_lines.specs.OneText.{markup_of, name_of, named, one_sheet, reported}
+use Rattle.text_check.specs.OneText.{markup_of, name_of, named, one_sheet, reported}
 use Rattle.text_check.specs.declared.heading.Heading.{Heading}
 use Rattle.text_check.specs.Headings.{begins, headed, heading_in, heading_of}
 use Rattle.node_check.specs.Walking.{LiesIn, reports_from}

@@ -9,7 +9,7 @@ use Rattle.doc_nodes.specs.Aliases.{aliases_at}
 use Rattle.language.specs.declared.made.Imports.{Imports}
 use Rattle.language.specs.declared.made.Imports.TheVariants.{Ordered, Bad}
 use Rattle.language.specs.Lang.{Lang}
-use Rattle.markup_lines.specs.OneText.{name_of}
+use Rattle.text_check.specs.OneText.{name_of}
 use Rattle.text_check.specs.declared.heading.Heading.{Heading}
 
 -- a node of a header alone

@@ -1,1 +1,4 @@
+pub mod OneText
+pub mod Lines
+pub mod Worked
 pub mod Headings

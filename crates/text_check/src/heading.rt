@@ -1,6 +1,6 @@
 //! What the commands of a text go by besides its text.
 ghost use Rattle.std.specs.Prelude.{◌≡◌, [], codes, IfOk};
-ghost use Rattle.markup_lines.specs.OneText.{named};
+ghost use Rattle.text_check.specs.OneText.{named};
 ghost use Rattle.text_check.specs.Headings.{alone, begins, bare, heading_of, headed, imports_of};
 
 use doc_headers::{Header, KeywordPair, header, one_header};

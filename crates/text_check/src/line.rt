@@ -1,7 +1,7 @@
 //! A report as a line.
 ghost use Rattle.std.specs.Prelude.{◌≡◌, ◌++◌, decimal, OnOk, string_bytes};
 ghost use Rattle.std.specs.List.{flat_map};
-ghost use Rattle.markup_lines.specs.Lines.{line, place_text, property_text, said_text, text_part};
+ghost use Rattle.text_check.specs.Lines.{line, place_text, property_text, said_text, text_part};
 
 use itoa::Buffer;
 use report_markup::{Property, Report};

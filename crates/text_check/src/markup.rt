@@ -1,7 +1,7 @@
 //! What a text reports.
 ghost use Rattle.std.specs.Prelude.{◌≡◌, map, IfOk};
 ghost use Rattle.buffer_rules.specs.Cuts.{command_ranges};
-ghost use Rattle.markup_lines.specs.OneText.{markup_of};
+ghost use Rattle.text_check.specs.OneText.{markup_of};
 ghost use Rattle.text_check.specs.Headings.{begins, heading_of};
 
 use crate::heading::Heading;

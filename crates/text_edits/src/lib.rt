@@ -24,4 +24,5 @@ pub use laws::{
 };
 pub use new_text::changed;
 pub use offsets::{convert, convert_list, convert_range, convert_range_list, revert, revert_list};
+pub use pide_base as pide_base_below;
 pub use text::Text;

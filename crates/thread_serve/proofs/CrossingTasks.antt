@@ -6,11 +6,11 @@ use Rattle.task_queue.specs.contracts.deque.PartDeque as deque
 use Rattle.task_queue.specs.contracts.waiters.Waiters as waiters
 use Rattle.task_queue.specs.contracts.task.Standing as standing
 use Rattle.task_queue.specs.contracts.queue.TaskQueue as queue
-use Rattle.exec_table.specs.contracts.execution.Progress as progress
-use Rattle.exec_table.specs.contracts.execution.Execution as execution
-use Rattle.exec_table.specs.contracts.execs.Execs as execs
-use Rattle.doc_versions.specs.contracts.version.Version as version
-use Rattle.doc_versions.specs.contracts.versions.Versions as versions
+use Rattle.core_tables.specs.contracts.execution.Progress as progress
+use Rattle.core_tables.specs.contracts.execution.Execution as execution
+use Rattle.core_tables.specs.contracts.execs.Execs as execs
+use Rattle.core_tables.specs.contracts.version.Version as version
+use Rattle.core_tables.specs.contracts.versions.Versions as versions
 use Rattle.thread_serve.proofs.CrossingLists.{lists}
 
 deque_send : IsSend deque.the_row

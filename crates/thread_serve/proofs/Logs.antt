@@ -4,11 +4,11 @@ use Rattle.std.proofs.lemmas.List.{reverse-reverse}
 use Rattle.language.specs.Lang.{Lang}
 use Rattle.session_rules.specs.declared.service.Service.{Service}
 use Rattle.session_rules.specs.declared.service.Service.TheVariants.{Workers}
-use Rattle.session_turns.specs.lists_below.Items.{SessionItem}
-use Rattle.session_turns.specs.lists_below.Legal.{AreLegal}
-use Rattle.session_turns.specs.sessions_below.Contents.{SessionState}
-use Rattle.session_turns.specs.views_below.Callers.{service_of, worker_count}
-use Rattle.session_turns.specs.views_below.Histories.{IsLegalLog}
+use Rattle.session_turns.specs.keeping_rules_below.Items.{SessionItem}
+use Rattle.session_turns.specs.keeping_rules_below.Legal.{AreLegal}
+use Rattle.session_turns.specs.document_session_below.Contents.{SessionState}
+use Rattle.session_turns.specs.view_laws_below.Callers.{service_of, worker_count}
+use Rattle.session_turns.specs.view_laws_below.Histories.{IsLegalLog}
 
 module _ {S : Type 0} (l : Lang S) where
   -- a legal list tells how many workers there are, and is legal the other way round

@@ -6,6 +6,6 @@ pub mod Closed
 pub mod Rest
 pub mod Promises
 pub mod Laws
-pub use Rattle.document_serve.specs as serving_below
-pub use Rattle.session_turns.specs.sessions_below as sessions_below
-pub use Rattle.session_turns.specs.lists_below as lists_below
+pub use Rattle.document_serve.specs as document_serve_below
+pub use Rattle.session_turns.specs.document_session_below as document_session_below
+pub use Rattle.session_turns.specs.keeping_rules_below as keeping_rules_below

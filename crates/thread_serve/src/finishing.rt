@@ -8,7 +8,7 @@ ghost use Rattle.worker_loop.specs.Sending.{AreSent};
 ghost use Rattle.worker_loop.specs.declared.writer.Written.TheVariants.{Ended};
 ghost use Rattle.reply_outbox.specs.declared.item.Item.TheVariants.{Opened};
 ghost use Rattle.session_rules.specs.declared.service.Service.TheVariants.{Workers};
-ghost use Rattle.session_turns.specs.views_below.Says.{says};
+ghost use Rattle.session_turns.specs.view_laws_below.Says.{says};
 ghost use Rattle.thread_serve.specs.Promises.{IsServed};
 ghost use Rattle.thread_serve.specs.Stopped.{HasRead, HasWritten};
 

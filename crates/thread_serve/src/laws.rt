@@ -2,8 +2,8 @@
 ghost use Rattle.thread_serve.specs.Laws.{RunLaws};
 
 use language::Language;
-use session_turns::lists_below::{history_law, sent_law};
-use session_turns::views_below::{handed_law, holders_law, list_law, owners_law, reader_law};
+use session_turns::keeping_rules_below::{history_law, sent_law};
+use session_turns::view_laws_below::{handed_law, holders_law, list_law, owners_law, reader_law};
 
 /// What lists of items tell, and what a caller's items tell of all.
 pub(crate) fn run_laws<L: Language>()

@@ -19,7 +19,7 @@ mod status;
 mod together;
 mod working;
 
-pub use document_serve as serving_below;
+pub use document_serve as document_serve_below;
 pub use run::serve;
 pub use served::Served;
-pub use session_turns::sessions_below as sessions_below;
+pub use session_turns::document_session_below as document_session_below;

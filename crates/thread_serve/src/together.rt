@@ -6,7 +6,7 @@ ghost use Rattle.pide_base.specs.Faults.{Rose};
 ghost use Rattle.hist_lock.specs.Known.{IsSameCaller};
 ghost use Rattle.hist_lock.specs.Passes.{view, IsPassOf};
 ghost use Rattle.worker_loop.specs.Crew.{AreBack, AreWorkers};
-ghost use Rattle.session_turns.specs.views_below.Says.{says};
+ghost use Rattle.session_turns.specs.view_laws_below.Says.{says};
 ghost use Rattle.thread_serve.specs.Reader.{IsAtRest, calls_made};
 ghost use Rattle.thread_serve.specs.Stopped.{HasRead, HasWritten, IsWriter};
 

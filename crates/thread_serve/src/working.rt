@@ -3,7 +3,7 @@ ghost use Rattle.std.specs.Prelude.{◌≡◌, ◌^◌, ◌<◌, vec_len, IfOk, 
 ghost use Rattle.std.specs.Thread.{IsSync};
 ghost use Rattle.hist_lock.specs.Passes.{view, IsPassOf};
 ghost use Rattle.worker_loop.specs.Crew.{AreBack, AreWorkers};
-ghost use Rattle.session_turns.specs.views_below.Says.{says};
+ghost use Rattle.session_turns.specs.view_laws_below.Says.{says};
 ghost use Rattle.thread_serve.specs.Stopped.{HasWritten, IsWriter};
 
 use hist_lock::{Pass, Shared, State};

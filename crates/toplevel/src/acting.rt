@@ -8,10 +8,10 @@ ghost use Rattle.command_reports.specs.Tries.{Tries, Refuses};
 
 use command_reports::{Halt, refusal};
 use isar_rules::{Place, Shape, Theory};
+use proof_steps::theory_steps_below::{Effect, axiom_made, begun, lemma_made, load_made, makes};
 use proof_steps::{Lemma, proof_made};
 use sqlite_items::Items;
 use std::alloc::Global;
-use theory_steps::{Effect, axiom_made, begun, lemma_made, load_made, makes};
 
 /// The command is not allowed here.
 fn not_allowed(alloc: Global) -> Halt

@@ -15,11 +15,10 @@ use language::Made;
 use nj_formula::{Formula, Name};
 use outer_tokens::Token;
 use proof_state::Proof;
-use report_markup::Report;
-use sorted_reports::in_order;
+use proof_steps::theory_steps_below::Effect;
+use report_markup::{Report, in_order};
 use sqlite_items::Items;
 use std::alloc::{AllocError, Global};
-use theory_steps::Effect;
 
 /// The place in this proof of a lemma.
 fn in_proof(

@@ -2,12 +2,11 @@
 ghost use Rattle.std.specs.Prelude.{◌≡◌, ◌++◌, IfOk, OnOk, map, codes, string_bytes};
 ghost use Rattle.isar_rules.specs.Shown.{place_text, suggested_at, suggestion, print};
 
-use command_reports::{state_report, suggest_report};
+use command_reports::{state_report, state_text, suggest_report};
 use doc_nodes::Aliases;
 use isar_rules::{Place, State};
 use nj_formula::Name;
 use nj_suggest::{by_text, suggest};
-use printed_texts::state_text;
 use proof_terms::Term;
 use report_markup::Report;
 use sqlite_items::Items;

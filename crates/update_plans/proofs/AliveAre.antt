@@ -8,7 +8,7 @@ use Rattle.std.specs.List.{list_all}
 use Rattle.import_rounds.specs.Looks.{marked}
 use Rattle.doc_nodes.specs.declared.node.Node.{Node}
 use Rattle.doc_nodes.specs.Imports.{NodeList}
-use Rattle.exec_table.specs.Rows.{Row as TableRow}
+use Rattle.core_tables.specs.Rows.{Row as TableRow}
 use Rattle.exec_rules.specs.declared.row.Row.{Row}
 use Rattle.exec_rules.specs.declared.version.Version.{Version}
 use Rattle.exec_rules.specs.Kept.{BlobList}

@@ -5,7 +5,7 @@ use Rattle.std.proofs.lemmas.List.{reverse-append, length-append, take_more}
 use Rattle.std.specs.Prelude.{◌&&◌, ◌||◌, filter_map}
 use Rattle.std.specs.List.{cons_option}
 use Rattle.std.proofs.Math.Bool.{or-false}
-use Rattle.exec_table.specs.Rows.{Row}
+use Rattle.core_tables.specs.Rows.{Row}
 use Rattle.text_words.specs.Members.{has}
 use Rattle.exec_rules.specs.declared.key.Last.{Last}
 use Rattle.exec_rules.specs.declared.home.Home.{Home}

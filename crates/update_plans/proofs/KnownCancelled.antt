@@ -4,8 +4,8 @@ use Rattle.std.proofs.lemmas.Bool.{eqb-true, false≢true, false_from_ne_true}
 use Rattle.std.specs.Prelude.{◌==◌}
 use Rattle.std.specs.Option.{option_map_or}
 use Rattle.text_words.specs.Members.{has}
-use Rattle.exec_table.specs.declared.execution.Execution.{Execution}
-use Rattle.exec_table.specs.Rows.{Row, execution_of}
+use Rattle.core_tables.specs.declared.execution.Execution.{Execution}
+use Rattle.core_tables.specs.Rows.{Row, execution_of}
 use Rattle.update_plans.specs.Cancelled.{is_cancelled, cancelled_in}
 use Rattle.update_plans.proofs.Members.{In, has_in, in_has, in_filter, filter_in}
 

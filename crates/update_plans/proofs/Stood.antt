@@ -6,7 +6,7 @@ use Rattle.std.specs.Option.{option_map_or, option_and_then}
 use Rattle.import_rounds.specs.Looks.{marked}
 use Rattle.doc_nodes.specs.declared.node.Node.{Node}
 use Rattle.pide_base.specs.Ids.{id_end}
-use Rattle.exec_table.specs.Rows.{Table}
+use Rattle.core_tables.specs.Rows.{Table}
 use Rattle.doc_nodes.specs.Imports.{NodeList, place_of}
 use Rattle.exec_rules.specs.Kept.{BlobList}
 use Rattle.exec_rules.specs.declared.row.Assigned.{Assigned}

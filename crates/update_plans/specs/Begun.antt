@@ -3,8 +3,8 @@ use Rattle.std.specs.Prelude.{◌≡◌, ℕ, suc, Bool, false, not, ◌&&◌, �
 use Rattle.std.specs.Option.{option_and_then}
 use Rattle.pide_base.specs.declared.part.PartKind.{PartKind}
 use Rattle.pide_base.specs.declared.part.PartKind.TheVariants as kind
-use Rattle.exec_table.specs.Rows.{Row, execution_of}
-use Rattle.exec_table.specs.Progress.{result_of}
+use Rattle.core_tables.specs.Rows.{Row, execution_of}
+use Rattle.core_tables.specs.Progress.{result_of}
 use Rattle.task_queue.specs.declared.task.Task.{Task}
 use Rattle.text_words.specs.Members.{has}
 use Rattle.exec_rules.specs.declared.home.Home.{Home}

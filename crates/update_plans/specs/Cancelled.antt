@@ -1,7 +1,7 @@
 -- What is cancelled, by a table of executions (this project's own).
 use Rattle.std.specs.Prelude.{◌≡◌, ℕ, Bool, true, false, List, map, filter}
 use Rattle.std.specs.Option.{option_map_or}
-use Rattle.exec_table.specs.Rows.{Row, execution_of}
+use Rattle.core_tables.specs.Rows.{Row, execution_of}
 use Rattle.exec_rules.specs.declared.version.Version.{Version}
 use Rattle.core_rules.specs.Assigned.{assigns}
 

@@ -1,7 +1,7 @@
 -- What an update makes of a version, by a table of executions (this project's own).
 use Rattle.std.specs.Prelude.{ℕ, ◌≤◌, List}
 use Rattle.pide_base.specs.Ids.{id_end}
-use Rattle.exec_table.specs.Rows.{Row}
+use Rattle.core_tables.specs.Rows.{Row}
 use Rattle.doc_nodes.specs.Imports.{NodeList}
 use Rattle.exec_rules.specs.declared.version.Version.{Version}
 use Rattle.exec_rules.specs.Kept.{BlobList}

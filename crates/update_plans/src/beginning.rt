@@ -6,9 +6,9 @@ ghost use Rattle.update_plans.specs.Begun.{first_kind, IsBegun, AreBegun, IsFirs
 
 use crate::known::Known;
 use crate::sources::unfinished;
+use core_tables::Execs;
 use doc_nodes::Shared;
 use exec_rules::{Home, Input};
-use exec_table::Execs;
 use joined_results::each_of_three;
 use pide_base::{ExecId, Flag, Part, PartKind};
 use sqlite_items::Items;

@@ -2,8 +2,8 @@
 ghost use Rattle.std.specs.Prelude.{◌≡◌};
 ghost use Rattle.update_plans.specs.Cancelled.{is_cancelled};
 
+use core_tables::Execs;
 use exec_assign::Cancelled;
-use exec_table::Execs;
 use pide_base::ExecId;
 
 /// The executions that are cancelled in a table: one that the table has not is not.

@@ -11,9 +11,9 @@ ghost use Rattle.update_plans.specs.Alive.{is_alive, lives, HaveCommands};
 
 use crate::beside::{has_mark, rows_in};
 use crate::cancelled::is_cancelled;
+use core_tables::Execs;
 use doc_nodes::Nodes;
 use exec_rules::{Row, Version};
-use exec_table::Execs;
 use pide_base::ExecId;
 use std::alloc::{AllocError, Global};
 

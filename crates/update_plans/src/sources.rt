@@ -4,8 +4,8 @@ ghost use Rattle.text_words.specs.Members.{has};
 ghost use Rattle.core_rules.specs.Parts.{made_by, lasts_of, sources_of};
 ghost use Rattle.update_plans.specs.Begun.{is_evaluated, AddsUnfinished};
 
+use core_tables::Execs;
 use exec_rules::{Input, Key, Last};
-use exec_table::Execs;
 use pide_base::{ExecId, PartKind};
 use std::alloc::{AllocError, Global};
 use task_queue::Inputs;

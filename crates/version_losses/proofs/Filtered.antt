@@ -4,9 +4,9 @@ use Rattle.std.proofs.lemmas.Bool.{false≢true, or_left, or_right, lt-ltb, le-l
 use Rattle.std.specs.Prelude.{nat_lt}
 use Rattle.text_words.specs.Members.{has}
 use Rattle.text_words.proofs.KnownMembers.{has_both, has_passing}
-use Rattle.doc_versions.specs.declared.versions.Live.{Live}
-use Rattle.doc_versions.specs.declared.versions.Removing.TheVariants as answer
-use Rattle.doc_versions.specs.Removal.{left}
+use Rattle.core_tables.specs.declared.versions.Live.{Live}
+use Rattle.core_tables.specs.declared.versions.Removing.TheVariants as answer
+use Rattle.core_tables.specs.Removal.{left}
 use Rattle.exec_rules.specs.declared.version.Version.{Version}
 use Rattle.core_rules.specs.Assigned.{assigns, is_assigned}
 use Rattle.version_losses.specs.Leaving.{is_named, below, from}

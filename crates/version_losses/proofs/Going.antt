@@ -3,7 +3,7 @@ use Rattle.std.proofs.Common.{◌≡◌, ◌⊎◌, inl, inr, ℕ, ◌<◌, ◌�
 use Rattle.std.proofs.lemmas.Bool.{false≢true, le-ltb, cases_lt, or_cases}
 use Rattle.text_words.specs.Members.{has}
 use Rattle.text_words.proofs.KnownMembers.{has_both}
-use Rattle.doc_versions.specs.declared.versions.Live.{Live}
+use Rattle.core_tables.specs.declared.versions.Live.{Live}
 use Rattle.exec_rules.specs.declared.version.Version.{Version}
 use Rattle.core_rules.specs.Assigned.{assigns, is_assigned}
 use Rattle.version_losses.specs.declared.losses.Loss.{Loss}

@@ -5,10 +5,10 @@ use Rattle.std.specs.Prelude.{◌==◌, slice_get, find}
 use Rattle.std.specs.Option.{option_map, option_map_or}
 use Rattle.std.specs.List.{list_any}
 use Rattle.text_words.specs.Members.{has}
-use Rattle.doc_versions.specs.declared.versions.Live.{Live}
-use Rattle.doc_versions.specs.declared.versions.Removing.TheVariants as answer
-use Rattle.doc_versions.specs.Live.{newest, is_live, is_tip}
-use Rattle.doc_versions.specs.Removal.{removing, answer_by}
+use Rattle.core_tables.specs.declared.versions.Live.{Live}
+use Rattle.core_tables.specs.declared.versions.Removing.TheVariants as answer
+use Rattle.core_tables.specs.Live.{newest, is_live, is_tip}
+use Rattle.core_tables.specs.Removal.{removing, answer_by}
 use Rattle.exec_rules.specs.declared.version.Version.{Version}
 use Rattle.core_rules.specs.Assigned.{is_assigned}
 use Rattle.version_losses.specs.declared.losses.Loss.{Loss}

@@ -5,7 +5,7 @@ use Rattle.std.specs.Prelude.{nat_lt}
 use Rattle.std.specs.Cmp.{second_so}
 use Rattle.text_words.specs.Members.{has}
 use Rattle.text_words.proofs.KnownMembers.{has_both}
-use Rattle.doc_versions.specs.declared.versions.Live.{Live}
+use Rattle.core_tables.specs.declared.versions.Live.{Live}
 use Rattle.exec_rules.specs.declared.version.Version.{Version}
 use Rattle.core_rules.specs.Assigned.{assigns, is_assigned}
 use Rattle.version_losses.specs.declared.losses.Loss.{Loss}

@@ -1,8 +1,8 @@
 //! What goes with versions.
 ghost use Rattle.std.specs.Prelude.{◌≡◌, ℕ, List, IfOk};
-ghost use Rattle.doc_versions.specs.declared.versions.Live.{Live};
-ghost use Rattle.doc_versions.specs.declared.versions.Removing.TheVariants as answer;
-ghost use Rattle.doc_versions.specs.Removal.{removing};
+ghost use Rattle.core_tables.specs.declared.versions.Live.{Live};
+ghost use Rattle.core_tables.specs.declared.versions.Removing.TheVariants as answer;
+ghost use Rattle.core_tables.specs.Removal.{removing};
 ghost use Rattle.exec_rules.specs.declared.version.Version.{Version};
 ghost use Rattle.version_losses.specs.Losses.{AreLosses};
 ghost use Rattle.version_losses.specs.Leaving.{Leaves};

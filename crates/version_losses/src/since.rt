@@ -1,8 +1,8 @@
 //! What a version has that newer ones lost.
 ghost use Rattle.std.specs.Prelude.{◌≡◌, ℕ, not, ◌&&◌, List, Some, flat_map, IfOk};
 ghost use Rattle.text_words.specs.Members.{has};
-ghost use Rattle.doc_versions.specs.declared.versions.Live.{Live};
-ghost use Rattle.doc_versions.specs.Live.{version_of};
+ghost use Rattle.core_tables.specs.declared.versions.Live.{Live};
+ghost use Rattle.core_tables.specs.Live.{version_of};
 ghost use Rattle.exec_rules.specs.declared.version.Version.{Version};
 ghost use Rattle.core_rules.specs.Assigned.{assigns};
 ghost use Rattle.version_losses.specs.Losses.{AreLosses};

@@ -3,24 +3,24 @@ ghost use Rattle.std.specs.Prelude.{◌≡◌, ◌++◌, ℕ, List, Some, IfOk, 
 ghost use Rattle.std.specs.Option.{option_copied};
 ghost use Rattle.report_markup.specs.declared.report.Report.{Report};
 ghost use Rattle.doc_nodes.specs.declared.node.Node.{Node};
-ghost use Rattle.doc_versions.specs.Live.{version_of};
+ghost use Rattle.core_tables.specs.Live.{version_of};
 ghost use Rattle.exec_rules.specs.declared.version.Version.{Version};
 ghost use Rattle.core_rules.specs.Assigned.{command_ids};
-ghost use Rattle.made_summary.specs.Summary.{summary};
-ghost use Rattle.made_summary.specs.Tallies.{IsTally};
+ghost use Rattle.made_document.specs.Summary.{summary};
+ghost use Rattle.made_document.specs.Tallies.{IsTally};
 ghost use Rattle.pide_program.specs.Answered.{Made};
 ghost use Rattle.pide_program.specs.Told.{IsLive, shown_reports};
 
 use crate::made::serving::List;
+use core_tables::Live;
 use doc_nodes::Nodes;
-use doc_versions::Live;
 use exec_rules::Version;
 use language::Language;
-use made_summary::{Summary, Tally, greatest_execution};
+use made_document::{Summary, Tally, greatest_execution};
 use pide_base::{NodeName, VersionId};
-use settled_laws::settled_law;
+use session_laws::settled_law;
 use std::alloc::AllocError;
-use thread_serve::sessions_below::Session;
+use thread_serve::document_session_below::Session;
 
 /// The version that is settled.
 const LAST_VERSION: u64 = 2;

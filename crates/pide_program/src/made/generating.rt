@@ -3,7 +3,7 @@ ghost use Rattle.std.specs.Prelude.{◌≡◌, ◌≤◌, ◌⊎◌, IfOk, strin
 ghost use Rattle.pide_base.specs.Faults.{Rose};
 ghost use Rattle.message_values.specs.Workers.{most_workers};
 ghost use Rattle.made_document.specs.Texts.{most_nodes};
-ghost use Rattle.made_summary.specs.Summary.{summary_lines};
+ghost use Rattle.made_document.specs.Summary.{summary_lines};
 ghost use Rattle.pide_program.specs.Generated.{IsGenerated};
 
 use crate::made::counting::summary_of;

@@ -18,8 +18,8 @@ use session_rules::{Entry, Service};
 use std::alloc::{AllocError, Global};
 use std::sync::Wait;
 use std::thread::Threads;
-use thread_serve::serving_below::Served;
-use thread_serve::sessions_below::Session;
+use thread_serve::document_serve_below::Served;
+use thread_serve::document_session_below::Session;
 
 /// The list of what happens, which nobody reads.
 pub(crate) type List = Unkept<Service, Entry>;
@@ -61,7 +61,14 @@ fn alone<L: Language>(
         status,
         session,
         sink: _,
-    } = thread_serve::serving_below::serve(alloc, lang, &mut source, Swallow {}, session, LIMIT);
+    } = thread_serve::document_serve_below::serve(
+        alloc,
+        lang,
+        &mut source,
+        Swallow {},
+        session,
+        LIMIT,
+    );
     done(status, session)
 }
 

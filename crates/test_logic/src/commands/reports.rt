@@ -1,19 +1,18 @@
 //! Reports of commands and texts of errors (`command_reports`), and the texts that they tell
-//! (`printed_texts`, `formula_texts`).
+//! (`command_reports`, `nj_print`).
 use crate::logic::reading::known;
 use crate::shared::{Told, put, scalars_of};
 use command_reports::{
     Halt, announced, def_report, error_report, formula_in, formula_report, import_report,
     loaded_report, local_report, named_refusal, numbered_refusal, refusal, state_report,
-    theory_report,
+    state_text, theory_report,
 };
-use formula_texts::formula_text;
 use isar_rules::Spot;
 use joined_results::both;
 use nj_formula::{Formula, Name};
+use nj_print::formula_text;
 use outer_tokens::lex_under;
 use pide_base::Range;
-use printed_texts::state_text;
 use proof_state::Proof;
 use report_markup::Report;
 use script_lines::{Answer, Call, Fault};

@@ -1,5 +1,5 @@
-//! Bodies that are lent from the texts that spell them (`lent_bodies`).
-use lent_bodies::{LentAttribute, LentBody, LentElement};
+//! Bodies that are lent from the texts that spell them (`data_shapes`).
+use data_shapes::{LentAttribute, LentBody, LentElement};
 use script_lines::{Answer, Fault};
 use std::alloc::{AllocError, Global};
 

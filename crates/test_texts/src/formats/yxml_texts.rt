@@ -1,4 +1,4 @@
-//! YXML: which bodies texts spell, and where the others are at fault (`yxml`, `lent_bodies`).
+//! YXML: which bodies texts spell, and where the others are at fault (`yxml`, `data_shapes`).
 use crate::formats::shown::{nested, yxml_of};
 use crate::formats::{bodies, lent};
 use crate::shared::{Told, put, put_agreed};

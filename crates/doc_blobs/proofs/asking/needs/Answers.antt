@@ -1,9 +1,9 @@
 use Rattle.std.proofs.Common.{◌≡◌, IfOk, ap, ◌∙◌, subst, List}
 use Rattle.std.specs.Option.{option_and_then}
-use Rattle.outer_tokens.specs.Headings.{proper}
-use Rattle.outer_tokens.specs.Lexing.{tokens_under}
-use Rattle.outer_tokens.specs.Words.{is_in_force}
-use Rattle.outer_tokens.specs.declared.token.Token.{Token}
+use Rattle.doc_nodes.specs.outer_tokens_below.Headings.{proper}
+use Rattle.doc_nodes.specs.outer_tokens_below.Lexing.{tokens_under}
+use Rattle.doc_nodes.specs.outer_tokens_below.Words.{is_in_force}
+use Rattle.doc_nodes.specs.outer_tokens_below.declared.token.Token.{Token}
 use Rattle.doc_blobs.specs.Needs.{asked_by, just_two, source_tokens}
 use Rattle.doc_blobs.proofs.asking.needs.Goals as goal
 

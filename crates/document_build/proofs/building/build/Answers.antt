@@ -7,7 +7,7 @@ use Rattle.std.proofs.lemmas.List.{get_or_default}
 use Rattle.std.proofs.lemmas.List.Sorted.{IsPermutation-refl}
 use Rattle.text_words.proofs.KnownMembers.{has_at}
 use Rattle.doc_nodes.specs.Imports.{order}
-use Rattle.import_batches.specs.Batches.{AreBatches}
+use Rattle.batch_runs.specs.Batches.{AreBatches}
 use Rattle.batch_check.specs.Cutting.{cut_all}
 use Rattle.batch_check.proofs.KnownCut.{as_many}
 use Rattle.document_build.proofs.AllBatches.{all_kept, all_taken, are_built, one_batch, within_batch}

@@ -1,7 +1,7 @@
 -- The message waits while parts are worked on, until it is answered.
 use Rattle.std.proofs.Common.{◌∷◌, [], arith, sym, subst}
 use Rattle.session_rules.specs.declared.service.Service.{Service}
-use Rattle.document_session.specs.lists_below.Legal.{AreLegal}
+use Rattle.document_session.specs.keeping_rules_below.Legal.{AreLegal}
 use Rattle.message_input.specs.declared.answering.Halt.TheVariants as halt
 use Rattle.document_session.specs.Answers.{TakenSo}
 use Rattle.document_session.specs.Contents.{SessionState}

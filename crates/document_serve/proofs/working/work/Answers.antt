@@ -3,9 +3,9 @@ use Rattle.std.proofs.Common.{◌≡◌, true, sym, subst}
 use Rattle.session_rules.specs.declared.service.Service.{Service}
 use Rattle.core_rules.specs.Ready.{is_wanted}
 use Rattle.session_rules.specs.Session.{document}
-use Rattle.document_session.specs.lists_below.Items.{session_in}
-use Rattle.document_session.specs.lists_below.Legal.{AreLegal}
-use Rattle.document_session.specs.states_below.Works.{IsWorkOf}
+use Rattle.document_session.specs.keeping_rules_below.Items.{session_in}
+use Rattle.document_session.specs.keeping_rules_below.Legal.{AreLegal}
+use Rattle.document_session.specs.keeping_rules_below.Works.{IsWorkOf}
 use Rattle.document_session.specs.Answers.{ClaimedSo}
 use Rattle.document_serve.proofs.Worked.{claimed_wanted, never_idle}
 use Rattle.document_serve.proofs.working.work.Goals as goal

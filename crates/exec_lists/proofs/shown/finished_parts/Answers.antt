@@ -1,7 +1,7 @@
 use Rattle.std.proofs.Common.{◌++◌, ◌<◌, ◌≤◌, map, length, sym, ap, ◌∙◌, append-nil, arith}
 use Rattle.std.specs.Prelude.{min, flat_map}
 use Rattle.text_words.proofs.KnownLists.{rest_at}
-use Rattle.exec_table.specs.Rows.{execution_of}
+use Rattle.core_tables.specs.Rows.{execution_of}
 use Rattle.exec_lists.specs.Parts.{told, parts_known}
 use Rattle.doc_nodes.specs.declared.node.Entry.{Entry}
 use Rattle.exec_rules.specs.Listed.{executions}

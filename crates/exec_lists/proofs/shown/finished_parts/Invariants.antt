@@ -1,5 +1,5 @@
 use Rattle.std.proofs.Common.{◌≡◌, ◌++◌, ◌-◌, map, drop}
-use Rattle.exec_table.specs.Rows.{execution_of}
+use Rattle.core_tables.specs.Rows.{execution_of}
 use Rattle.exec_lists.specs.Parts.{told, rows_known}
 use Rattle.exec_lists.proofs.shown.finished_parts.Given as goal
 

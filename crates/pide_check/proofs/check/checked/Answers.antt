@@ -4,11 +4,11 @@ use Rattle.std.specs.Io.KnownBytes.{Appends}
 use Rattle.std.proofs.KnownBytes.{Appends-nil}
 use Rattle.pide_base.specs.declared.status.Status.TheVariants as status
 use Rattle.pide_base.specs.Moves.{AppendsFront}
-use Rattle.markup_lines.specs.Lines.{lines}
-use Rattle.text_input.specs.Reading.{most_bytes}
-use Rattle.text_input.proofs.KnownErrors.{on_err}
+use Rattle.text_check.specs.Lines.{lines}
+use Rattle.pide_check.specs.Reading.{most_bytes}
+use Rattle.pide_check.proofs.KnownErrors.{on_err}
 use Rattle.pide_check.specs.Checked.{IsChecked}
-use Rattle.pide_check.proofs.Reading.{whole_read}
+use Rattle.pide_check.proofs.WholeText.{whole_read}
 use Rattle.pide_check.proofs.check.checked.Goals as goal
 
 pub returns-in_err-text-clause-err : goal.returns-in_err-text-clause-err

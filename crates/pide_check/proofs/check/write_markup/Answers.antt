@@ -4,7 +4,7 @@ use Rattle.std.specs.List.{flat_map}
 use Rattle.std.specs.Io.KnownBytes.{Appends}
 use Rattle.std.proofs.KnownBytes.{Appends-nil}
 use Rattle.pide_base.specs.Moves.{AppendsFront}
-use Rattle.markup_lines.specs.Lines.{line, lines}
+use Rattle.text_check.specs.Lines.{line, lines}
 use Rattle.pide_check.proofs.check.write_markup.Goals as goal
 
 pub returns-in_err-reports-clause-front : goal.returns-in_err-reports-clause-front

@@ -1,6 +1,6 @@
 -- The line waits behind what waited, and then a piece may be pushed.
 use Rattle.std.proofs.Common.{string_bytes}
-use Rattle.markup_lines.specs.Lines.{line}
+use Rattle.text_check.specs.Lines.{line}
 use Rattle.pide_check.specs.Writing.{AreOnTheirWay}
 use Rattle.pide_check.proofs.Pushing.{either, there, wait_too}
 use Rattle.pide_check.proofs.lines.add_line.Goals as goal

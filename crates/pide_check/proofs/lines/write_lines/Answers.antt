@@ -2,7 +2,7 @@
 use Rattle.std.proofs.Common.{List, ℕ, drop, string_bytes, subst}
 use Rattle.std.specs.List.{flat_map}
 use Rattle.pide_base.specs.Moves.{AppendsFront}
-use Rattle.markup_lines.specs.Lines.{line}
+use Rattle.text_check.specs.Lines.{line}
 use Rattle.pide_check.specs.Writing.{AreOnTheirWay}
 use Rattle.pide_check.proofs.FirstLine.{first_line}
 use Rattle.pide_check.proofs.Pushing.{pushed_front}

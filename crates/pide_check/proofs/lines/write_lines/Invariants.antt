@@ -1,7 +1,7 @@
 -- All lines are on their way, those of the reports that are left behind the others.
 use Rattle.std.proofs.Common.{◌≤◌, length, string_bytes}
 use Rattle.std.specs.List.{flat_map}
-use Rattle.markup_lines.specs.Lines.{line}
+use Rattle.text_check.specs.Lines.{line}
 use Rattle.pide_check.specs.Writing.{AreOnTheirWay}
 use Rattle.pide_check.proofs.lines.write_lines.Given as goal
 

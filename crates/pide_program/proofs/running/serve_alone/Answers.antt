@@ -4,8 +4,8 @@ use Rattle.pide_base.specs.declared.status.Status.{Status}
 use Rattle.reply_outbox.specs.Items.{entries}
 use Rattle.isar_rules.specs.Isar.{isar}
 use Rattle.session_rules.specs.Services.{free_workers}
-use Rattle.thread_serve.specs.lists_below.Items.{heard_in}
-use Rattle.thread_serve.specs.serving_below.Headline.{AloneSo}
+use Rattle.thread_serve.specs.keeping_rules_below.Items.{heard_in}
+use Rattle.thread_serve.specs.document_serve_below.Headline.{AloneSo}
 use Rattle.pide_program.proofs.running.serve_alone.Goals as goal
 
 pub returns-clause-headline : goal.returns-clause-headline

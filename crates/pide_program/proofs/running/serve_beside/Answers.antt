@@ -3,7 +3,7 @@
 use denote.Param.Send.{sendable}
 use Rattle.std.proofs.Common.{ap, sym, ◌∙◌}
 use Rattle.session_rules.specs.Services.{free_workers}
-use Rattle.thread_serve.specs.lists_below.Items.{heard_in}
+use Rattle.thread_serve.specs.keeping_rules_below.Items.{heard_in}
 use Rattle.toplevel.proofs.Crossing.{crosses}
 use Rattle.pide_program.proofs.running.serve_beside.Goals as goal
 

@@ -1,7 +1,7 @@
 use Rattle.std.proofs.Common.{◌++◌, sym, ap, ◌∙◌, arith, reverse, length, List}
 use Rattle.std.specs.Prelude.{flat_map}
 use Rattle.std.specs.Option.{option_to_list}
-use Rattle.exec_table.specs.Rows.{execution_of}
+use Rattle.core_tables.specs.Rows.{execution_of}
 use Rattle.task_queue.specs.Tasks.{standing}
 use Rattle.task_queue.specs.Changes.{waiting}
 use Rattle.update_plans.specs.declared.beginning.Fresh.{Fresh}

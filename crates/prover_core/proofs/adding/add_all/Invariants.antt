@@ -1,7 +1,7 @@
 use Rattle.std.proofs.Common.{◌≡◌, ℕ, ◌+◌, ◌≤◌, length, reverse}
 use Rattle.std.specs.Prelude.{flat_map}
 use Rattle.std.specs.HashMap.{spare}
-use Rattle.exec_table.specs.Rows.{execution_of}
+use Rattle.core_tables.specs.Rows.{execution_of}
 use Rattle.task_queue.specs.Tasks.{standing}
 use Rattle.task_queue.specs.Changes.{waiting}
 use Rattle.prover_core.specs.Looked.{looked}

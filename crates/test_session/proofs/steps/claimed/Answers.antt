@@ -1,8 +1,8 @@
 -- The worker holds the part that it takes.
 use Rattle.std.proofs.Common.{sym, subst}
 use Rattle.session_rules.specs.declared.service.Service.{Service}
-use Rattle.document_session.specs.lists_below.Items.{session_in}
-use Rattle.document_session.specs.states_below.Works.{IsWorkOf}
+use Rattle.document_session.specs.keeping_rules_below.Items.{session_in}
+use Rattle.document_session.specs.keeping_rules_below.Works.{IsWorkOf}
 use Rattle.document_session.specs.Answers.{ClaimedSo}
 use Rattle.test_session.proofs.steps.claimed.Goals as goal
 

@@ -1,7 +1,7 @@
 -- The job that came back is the one that was taken.
 use Rattle.std.proofs.Common.{sym, subst}
-use Rattle.document_session.specs.lists_below.Items.{session_in}
-use Rattle.document_session.specs.states_below.Works.{IsWorkOf}
+use Rattle.document_session.specs.keeping_rules_below.Items.{session_in}
+use Rattle.document_session.specs.keeping_rules_below.Works.{IsWorkOf}
 use Rattle.test_session.proofs.stopped.goes_on.Goals as goal
 
 pub still_wanted-requires-clause-job : goal.still_wanted-requires-clause-job

@@ -1,7 +1,7 @@
 -- The commands are run in the text.
 use Rattle.std.proofs.Common.{[], sym, ap₂, ◌∙◌}
 use Rattle.report_markup.specs.Sorting.{in_order}
-use Rattle.markup_lines.specs.OneText.{one_sheet}
+use Rattle.text_check.specs.OneText.{one_sheet}
 use Rattle.node_check.specs.Walking.{reports_from}
 use Rattle.text_check.proofs.OneMarkup.{Numbered, lie_so, markup_so}
 use Rattle.text_check.proofs.markup.markup_of.Goals as goal

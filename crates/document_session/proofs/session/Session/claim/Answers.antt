@@ -5,8 +5,8 @@ use Rattle.reply_outbox.specs.declared.item.Item.TheVariants.{Made}
 use Rattle.reply_writing.specs.declared.told.Told.TheVariants as tells
 use Rattle.session_rules.specs.declared.entry.Entry.TheVariants as entry
 use Rattle.session_rules.specs.Services.{free_workers}
-use Rattle.session_states.specs.replies_below.Spelling.{spelling}
-use Rattle.session_states.specs.lists_below.Items.{SessionItem}
+use Rattle.keeping_rules.specs.session_replies_below.Spelling.{spelling}
+use Rattle.keeping_rules.specs.Items.{SessionItem}
 use Rattle.document_session.specs.Answers.{IsIdle}
 use Rattle.document_session.specs.Contents.{SessionState}
 use Rattle.document_session.proofs.Claims.{the_part, claimed_kept, claimed_so}

@@ -1,7 +1,7 @@
 use Rattle.std.proofs.Common.{List, sym, subst}
 use Rattle.core_rules.specs.declared.event.Event.{Event}
 use Rattle.prover_core.specs.Looked.{looked}
-use Rattle.session_states.specs.Kept.{session_of, IsKept}
+use Rattle.keeping_rules.specs.Kept.{session_of, IsKept}
 use Rattle.document_session.proofs.Inside.{going_on}
 use Rattle.document_session.proofs.Rooms.{state_kept}
 use Rattle.document_session.proofs.session.Session.end.Goals as goal

@@ -1,7 +1,7 @@
 use Rattle.std.proofs.Common.{◌≤◌, subst, arith}
 use Rattle.session_rules.specs.Services.{free_workers}
-use Rattle.session_states.specs.Kept.{session_of}
-use Rattle.session_states.specs.Works.{IsDoneWorkOf}
+use Rattle.keeping_rules.specs.Kept.{session_of}
+use Rattle.keeping_rules.specs.Works.{IsDoneWorkOf}
 use Rattle.document_session.specs.Contents.{SessionState}
 use Rattle.document_session.specs.Answers.{FinishedSo}
 use Rattle.document_session.proofs.Holding.{one_held}

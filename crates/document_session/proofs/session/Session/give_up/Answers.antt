@@ -3,7 +3,7 @@ use Rattle.core_jobs.specs.Jobs.{JobContent}
 use Rattle.core_rules.specs.Standing.{held}
 use Rattle.prover_core.specs.Looked.{looked}
 use Rattle.session_rules.specs.Services.{free_workers}
-use Rattle.session_states.specs.Kept.{session_of}
+use Rattle.keeping_rules.specs.Kept.{session_of}
 use Rattle.document_session.proofs.Drops.{dropped_kept, dropped_so, goes_on_so}
 use Rattle.document_session.proofs.Holding.{one_held}
 use Rattle.document_session.proofs.Inside.{known_inside}

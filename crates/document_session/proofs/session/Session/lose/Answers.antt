@@ -2,8 +2,8 @@ use Rattle.std.proofs.Common.{◌≡◌, ◌∷◌, false, ap, sym, subst, ◌�
 use Rattle.prover_core.specs.Looked.{looked}
 use Rattle.reply_outbox.specs.declared.item.Item.TheVariants.{Lost}
 use Rattle.reply_outbox.specs.Items.{is_lost}
-use Rattle.session_states.specs.lists_below.Items.{writer_of}
-use Rattle.session_states.specs.Kept.{session_of}
+use Rattle.keeping_rules.specs.Items.{writer_of}
+use Rattle.keeping_rules.specs.Kept.{session_of}
 use Rattle.document_session.specs.Contents.{SessionState}
 use Rattle.document_session.proofs.Rooms.{state}
 use Rattle.document_session.proofs.session.Session.lose.Goals as goal

@@ -10,7 +10,7 @@ use Rattle.prover_core.specs.Plans.{PlanState, IsPlanOf}
 use Rattle.session_rules.specs.Services.{mode_of}
 use Rattle.session_rules.specs.Session.{Session, document}
 use Rattle.session_rules.specs.Accepting.{taken}
-use Rattle.session_states.specs.Kept.{session_of}
+use Rattle.keeping_rules.specs.Kept.{session_of}
 use Rattle.document_session.specs.Makes.{IsMade}
 use Rattle.document_session.proofs.Inside.{going_on, known_inside}
 use Rattle.document_session.proofs.Making.{plan_fits, plan_changed, plan_commands, plan_limit, made_kept}

@@ -3,8 +3,8 @@ use Rattle.exec_lists.specs.declared.results.NodeResults.{NodeResults}
 use Rattle.message_values.specs.declared.editor_message.EditorMessage.TheVariants as asks
 use Rattle.core_rules.specs.Legal.{IsLegal}
 use Rattle.session_rules.specs.Session.{Session}
-use Rattle.session_states.specs.Kept.{session_of}
-use Rattle.session_states.specs.Looks.{IsLook}
+use Rattle.keeping_rules.specs.Kept.{session_of}
+use Rattle.keeping_rules.specs.Looks.{IsLook}
 use Rattle.document_session.specs.Looks.{IsSeen}
 use Rattle.document_session.proofs.Inside.{known_inside, known_outside}
 use Rattle.document_session.proofs.Looked.{shown}

@@ -1,6 +1,6 @@
 use Rattle.std.proofs.Common.{◌≡◌, subst}
 use Rattle.session_rules.specs.Steps.{Nothing, due}
-use Rattle.session_states.specs.lists_below.Items.{heard_in}
+use Rattle.keeping_rules.specs.Items.{heard_in}
 use Rattle.document_session.specs.Contents.{SessionState}
 use Rattle.document_session.proofs.session.Session.none_due.Goals as goal
 

@@ -1,7 +1,7 @@
 use Rattle.std.proofs.Common.{rules, ◌≡◌, ℕ, true, false, List, ◌∷◌, Ok, ap, sym, subst, ◌∙◌}
-use Rattle.doc_versions.specs.declared.versions.Removing.{Removing}
-use Rattle.doc_versions.specs.declared.versions.Removing.TheVariants as answer
-use Rattle.doc_versions.specs.Removal.{removing}
+use Rattle.core_tables.specs.declared.versions.Removing.{Removing}
+use Rattle.core_tables.specs.declared.versions.Removing.TheVariants as answer
+use Rattle.core_tables.specs.Removal.{removing}
 use Rattle.message_values.specs.declared.editor_message.EditorMessage.TheVariants as asks
 use Rattle.message_values.specs.Asked.{asked}
 use Rattle.core_rules.specs.declared.event.Event.{Event}
@@ -14,9 +14,9 @@ use Rattle.prover_core.specs.Removal.{with_removal}
 use Rattle.prover_core.specs.States.{CoreState}
 use Rattle.session_rules.specs.Services.{mode_of}
 use Rattle.session_rules.specs.Replies.{live_among}
-use Rattle.session_states.specs.replies_below.Removed.{IsRisen}
-use Rattle.session_states.specs.lists_below.Items.{SessionItem, session_in}
-use Rattle.session_states.specs.Kept.{session_of, IsKept}
+use Rattle.keeping_rules.specs.session_replies_below.Removed.{IsRisen}
+use Rattle.keeping_rules.specs.Items.{SessionItem, session_in}
+use Rattle.keeping_rules.specs.Kept.{session_of, IsKept}
 use Rattle.document_session.specs.Contents.{SessionState}
 use Rattle.document_session.proofs.Inside.{going_on, known_inside}
 use Rattle.document_session.proofs.Rooms.{state, replied_by, room_kept}

@@ -1,9 +1,9 @@
 use Rattle.std.proofs.Common.{ap, subst, ◌∙◌}
 use Rattle.prover_core.specs.Looked.{looked}
 use Rattle.reply_outbox.specs.Waiting.{IsSent}
-use Rattle.session_states.specs.lists_below.Items.{heard_in, writer_of}
-use Rattle.session_states.specs.lists_below.Pieces.{pieces, AreWaiting}
-use Rattle.session_states.specs.Kept.{session_of, IsKept}
+use Rattle.keeping_rules.specs.Items.{heard_in, writer_of}
+use Rattle.keeping_rules.specs.Pieces.{pieces, AreWaiting}
+use Rattle.keeping_rules.specs.Kept.{session_of, IsKept}
 use Rattle.document_session.specs.Contents.{SessionState}
 use Rattle.document_session.proofs.Rooms.{state}
 use Rattle.document_session.proofs.SentTold.{sent_or_still, sent_told}

@@ -3,7 +3,7 @@ use Rattle.message_values.specs.declared.editor_message.EditorMessage.TheVariant
 use Rattle.message_values.specs.declared.refusal.Refusal.TheVariants.{ProtocolFixed}
 use Rattle.message_values.specs.Asked.{asked}
 use Rattle.session_rules.specs.Services.{mode_of}
-use Rattle.session_states.specs.Kept.{session_of}
+use Rattle.keeping_rules.specs.Kept.{session_of}
 use Rattle.document_session.proofs.Inside.{going_on, known_inside}
 use Rattle.document_session.proofs.Refusals.{protocol_fixed}
 use Rattle.document_session.proofs.Refusing.{refused_outside}

@@ -2,7 +2,7 @@ use Rattle.std.proofs.Common.{rules, ◌≡◌, false, sym, ◌∙◌}
 use Rattle.pide_base.specs.declared.part.Part.{Part}
 use Rattle.prover_core.specs.declared.settling.Settled.TheVariants as answer
 use Rattle.session_rules.specs.Services.{is_held_by_script}
-use Rattle.session_states.specs.Kept.{session_of}
+use Rattle.keeping_rules.specs.Kept.{session_of}
 use Rattle.document_session.specs.Looks.{SettlesSo}
 use Rattle.document_session.specs.declared.looking.Settling.TheVariants as settling
 use Rattle.document_session.proofs.Inside.{known_inside, known_outside}

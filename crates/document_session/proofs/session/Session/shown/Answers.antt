@@ -2,7 +2,7 @@ use Rattle.std.proofs.Common.{ℕ, List, Ok, sym, ap, ◌∙◌}
 use Rattle.std.specs.Prelude.{Vec}
 use Rattle.std.specs.declared.alloc.Global.{Global}
 use Rattle.message_values.specs.declared.editor_message.EditorMessage.TheVariants as asks
-use Rattle.session_states.specs.lists_below.Items.{session_in}
+use Rattle.keeping_rules.specs.Items.{session_in}
 use Rattle.document_session.proofs.Looked.{not_edited}
 use Rattle.document_session.proofs.Passed.{passed_look}
 use Rattle.document_session.proofs.session.Session.shown.Goals as goal

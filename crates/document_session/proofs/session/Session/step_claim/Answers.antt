@@ -7,7 +7,7 @@ use Rattle.reply_writing.specs.declared.told.Told.TheVariants as tells
 use Rattle.session_rules.specs.declared.entry.Entry.TheVariants as entry
 use Rattle.session_rules.specs.Services.{mode_of}
 use Rattle.session_rules.proofs.KnownScript.{script_claims}
-use Rattle.session_states.specs.replies_below.Spelling.{spelling}
+use Rattle.keeping_rules.specs.session_replies_below.Spelling.{spelling}
 use Rattle.document_session.proofs.Claims.{the_part}
 use Rattle.document_session.proofs.Idle.{nothing_claimed}
 use Rattle.document_session.proofs.Inside.{going_on}

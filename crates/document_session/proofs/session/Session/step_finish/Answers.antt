@@ -4,10 +4,10 @@ use Rattle.message_values.specs.declared.editor_message.EditorMessage.TheVariant
 use Rattle.prover_core.specs.Looked.{looked}
 use Rattle.session_rules.specs.Services.{mode_of}
 use Rattle.session_rules.proofs.KnownScript.{script_finishes}
-use Rattle.session_states.specs.jobs_below.Works.{Work}
-use Rattle.session_states.specs.replies_below.Spelling.{spelling}
-use Rattle.session_states.specs.Turns.{entry_of, told_of}
-use Rattle.session_states.specs.Works.{IsDoneWorkOf}
+use Rattle.keeping_rules.specs.session_replies_below.Works.{Work}
+use Rattle.keeping_rules.specs.session_replies_below.Spelling.{spelling}
+use Rattle.keeping_rules.specs.Turns.{entry_of, told_of}
+use Rattle.keeping_rules.specs.Works.{IsDoneWorkOf}
 use Rattle.document_session.proofs.Holding.{one_held}
 use Rattle.document_session.proofs.Idle.{nothing_finished}
 use Rattle.document_session.proofs.Inside.{going_on}

@@ -1,7 +1,7 @@
 use Rattle.std.proofs.Common.{refl}
 use Rattle.message_values.specs.Asked.{asked}
 use Rattle.session_rules.specs.Services.{mode_of}
-use Rattle.session_states.specs.Looks.{IsLook}
+use Rattle.keeping_rules.specs.Looks.{IsLook}
 use Rattle.document_session.proofs.Inside.{going_on, known_inside}
 use Rattle.document_session.proofs.Rooms.{state_kept, replied_by}
 use Rattle.document_session.proofs.session.Session.tell.Goals as goal

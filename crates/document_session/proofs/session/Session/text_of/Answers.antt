@@ -4,8 +4,8 @@ use Rattle.message_values.specs.declared.editor_message.EditorMessage.TheVariant
 use Rattle.message_values.specs.declared.refusal.Refusal.TheVariants.{UnknownNode}
 use Rattle.core_rules.specs.Updates.{node_in}
 use Rattle.session_rules.specs.Accepting.{taken}
-use Rattle.session_states.specs.lists_below.Legal.{AreLegal}
-use Rattle.session_states.specs.Kept.{session_of}
+use Rattle.keeping_rules.specs.Legal.{AreLegal}
+use Rattle.keeping_rules.specs.Kept.{session_of}
 use Rattle.document_session.specs.Contents.{SessionState}
 use Rattle.document_session.specs.Looks.{IsFound}
 use Rattle.document_session.proofs.Inside.{known_outside}

@@ -8,7 +8,7 @@ use Rattle.editor_buffer.specs.Preparation.{Preparation}
 use Rattle.sheet_edits.specs.declared.fault.PrepareError.TheVariants.{Refused}
 use Rattle.session_rules.specs.Services.{mode_of}
 use Rattle.session_rules.specs.Session.{document}
-use Rattle.session_states.specs.Kept.{session_of}
+use Rattle.keeping_rules.specs.Kept.{session_of}
 use Rattle.document_session.specs.Contents.{SessionState}
 use Rattle.document_session.specs.Makes.{IsMade}
 use Rattle.document_session.proofs.Inside.{known_outside}

@@ -1,7 +1,7 @@
 -- What is told is what is shown.
 use Rattle.std.proofs.Common.{◌++◌, ◌∙◌, ap, subst}
 use Rattle.prover_core.specs.Results.{AreResults}
-use Rattle.made_summary.specs.Tallies.{IsTally, results_reports}
+use Rattle.made_document.specs.Tallies.{IsTally, results_reports}
 use Rattle.pide_program.specs.Told.{after}
 use Rattle.std.proofs.lemmas.Result.{on_ok_weaker}
 use Rattle.pide_program.proofs.Shown.{found_reports}

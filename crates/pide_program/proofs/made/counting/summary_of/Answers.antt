@@ -1,12 +1,12 @@
 -- What is counted is the summary.
 use Rattle.std.proofs.Common.{◌≡◌, ◌∙◌, ap, sym, List}
 use Rattle.std.specs.Option.{option_copied}
-use Rattle.doc_versions.specs.declared.versions.Live.{Live}
-use Rattle.doc_versions.specs.Live.{version_of}
+use Rattle.core_tables.specs.declared.versions.Live.{Live}
+use Rattle.core_tables.specs.Live.{version_of}
 use Rattle.exec_rules.specs.declared.version.Version.{Version}
 use Rattle.session_rules.specs.Session.{document}
 use Rattle.made_document.specs.Messages.{last_version}
-use Rattle.made_summary.specs.Summary.{greatest_execution}
+use Rattle.made_document.specs.Summary.{greatest_execution}
 use Rattle.pide_program.specs.Told.{IsLive, after}
 use Rattle.pide_program.proofs.Summing.{SettledLaws, none_is, some_is}
 use Rattle.pide_program.proofs.made.counting.summary_of.Goals as goal

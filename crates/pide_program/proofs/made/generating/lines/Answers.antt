@@ -1,6 +1,6 @@
 -- The lines are those of the summary.
 use Rattle.std.proofs.Common.{◌≡◌, string_bytes}
-use Rattle.made_summary.specs.Summary.{lines_of, summary_lines}
+use Rattle.made_document.specs.Summary.{lines_of, summary_lines}
 use Rattle.pide_program.proofs.Asking.{ok_on}
 use Rattle.pide_program.proofs.Summing.{no_lines, some_lines}
 use Rattle.pide_program.proofs.made.generating.lines.Goals as goal

@@ -2,8 +2,8 @@ use Rattle.std.proofs.Common.{◌≡◌, ◌∷◌, ℕ, List, None, cond, false
 use Rattle.std.specs.Prelude.{◌==◌}
 use Rattle.std.specs.List.{list_any}
 use Rattle.text_words.specs.Members.{has}
-use Rattle.doc_versions.specs.Removal.{left}
-use Rattle.exec_table.specs.Rows.{execution_of}
+use Rattle.core_tables.specs.Removal.{left}
+use Rattle.core_tables.specs.Rows.{execution_of}
 use Rattle.core_rules.specs.Standing.{has_ended}
 use Rattle.core_rules.specs.declared.event.Event.TheVariants.{Remove}
 use Rattle.prover_core.specs.States.{CoreState}

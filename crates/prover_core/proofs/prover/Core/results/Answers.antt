@@ -1,8 +1,8 @@
 use Rattle.std.proofs.Common.{◌≡◌, ℕ, rules, ap, sym, subst, ◌∙◌}
 use Rattle.std.specs.Prelude.{Some}
-use Rattle.exec_table.specs.Rows.{execution_of}
+use Rattle.core_tables.specs.Rows.{execution_of}
 use Rattle.doc_nodes.specs.Imports.{place_of}
-use Rattle.doc_versions.specs.Live.{version_of}
+use Rattle.core_tables.specs.Live.{version_of}
 use Rattle.exec_lists.specs.declared.results.NodeResults.{NodeResults}
 use Rattle.prover_core.specs.States.{CoreState}
 use Rattle.prover_core.specs.Results.{AreResultsIn}

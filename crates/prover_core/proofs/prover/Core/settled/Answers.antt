@@ -2,10 +2,10 @@ use Rattle.std.proofs.Common.{◌≡◌, ◌≤◌, ◌<◌, ℕ, false, Some, N
 use Rattle.std.specs.Prelude.{is_some}
 use Rattle.text_words.specs.Members.{has}
 use Rattle.pide_base.specs.declared.part.Part.{Part}
-use Rattle.exec_table.specs.Rows.{execution_of}
+use Rattle.core_tables.specs.Rows.{execution_of}
 use Rattle.task_queue.specs.Tasks.{standing}
 use Rattle.task_queue.specs.Ready.{IsReadyPart}
-use Rattle.doc_versions.specs.Live.{version_of}
+use Rattle.core_tables.specs.Live.{version_of}
 use Rattle.exec_rules.specs.declared.version.Version.{Version}
 use Rattle.core_rules.specs.Doc.{doc}
 use Rattle.core_rules.specs.Stuck.{stuck_in}

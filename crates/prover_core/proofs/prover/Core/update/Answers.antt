@@ -8,7 +8,7 @@ use Rattle.std.specs.Option.{option_map}
 use Rattle.std.specs.List.{AllByRecursion}
 use Rattle.text_words.specs.Members.{has}
 use Rattle.task_queue.specs.Tasks.{standing}
-use Rattle.doc_versions.specs.Live.{version_of}
+use Rattle.core_tables.specs.Live.{version_of}
 use Rattle.core_rules.specs.declared.event.Event.{Event}
 use Rattle.core_rules.specs.Doc.{doc}
 use Rattle.core_rules.specs.Legal.{IsLegal}

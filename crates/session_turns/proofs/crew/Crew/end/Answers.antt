@@ -5,8 +5,8 @@ use Rattle.worker_loop.proofs.KnownGathered.{prefix_then}
 use Rattle.worker_loop.proofs.KnownTurns.{turned_one}
 use Rattle.reply_outbox.specs.declared.item.Item.TheVariants as item
 use Rattle.session_rules.specs.declared.entry.Entry.TheVariants as entry
-use Rattle.thread_views.specs.Callers.{whose}
-use Rattle.thread_views.specs.Histories.{IsLegalLog}
+use Rattle.view_laws.specs.Callers.{whose}
+use Rattle.view_laws.specs.Histories.{IsLegalLog}
 use Rattle.session_turns.proofs.Lists.{its_own}
 use Rattle.session_turns.proofs.Takes.{EndsSo, still_going}
 use Rattle.session_turns.proofs.Turns.{log_of}

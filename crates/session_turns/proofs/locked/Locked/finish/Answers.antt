@@ -1,7 +1,7 @@
 -- The part that is ended is one item more.
 use Rattle.std.proofs.Common.{ap, subst}
 use Rattle.session_rules.specs.Session.{Session}
-use Rattle.document_session.specs.states_below.Works.{IsDoneWorkOf}
+use Rattle.document_session.specs.keeping_rules_below.Works.{IsDoneWorkOf}
 use Rattle.session_turns.specs.Contents.{SharedState}
 use Rattle.session_turns.proofs.Logs.{session_is}
 use Rattle.session_turns.proofs.Turned.{finished_grows}

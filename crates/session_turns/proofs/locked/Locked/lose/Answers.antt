@@ -1,7 +1,7 @@
 -- The loss of the sink is one item more.
 use Rattle.std.proofs.Common.{ap}
 use Rattle.reply_outbox.specs.declared.item.Item.TheVariants as item
-use Rattle.document_session.specs.lists_below.Items.{writer_of}
+use Rattle.document_session.specs.keeping_rules_below.Items.{writer_of}
 use Rattle.session_turns.specs.Contents.{SharedState}
 use Rattle.session_turns.proofs.Logs.{grows_by}
 use Rattle.session_turns.proofs.locked.Locked.lose.Goals as goal

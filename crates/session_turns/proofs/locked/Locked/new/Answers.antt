@@ -1,7 +1,7 @@
 -- The list tells how the session is served.
 use Rattle.std.proofs.Common.{◌≡◌, reverse, sym, ap, subst, ◌∙◌}
 use Rattle.session_rules.specs.declared.service.Service.TheVariants.{Workers}
-use Rattle.document_session.specs.lists_below.Legal.{AreLegal}
+use Rattle.document_session.specs.keeping_rules_below.Legal.{AreLegal}
 use Rattle.session_turns.proofs.locked.Locked.new.Goals as goal
 
 pub invariant_of-result : goal.invariant_of-result

@@ -3,7 +3,7 @@ use Rattle.std.proofs.Common.{inr, sym, ◌∙◌}
 use Rattle.std.specs.Prelude.{◌+◌}
 use Rattle.hist_lock.specs.Passes.{view}
 use Rattle.reply_outbox.specs.declared.item.Item.TheVariants as item
-use Rattle.thread_views.specs.Callers.{worker_count}
+use Rattle.view_laws.specs.Callers.{worker_count}
 use Rattle.session_turns.proofs.Lists.{its_own}
 use Rattle.session_turns.proofs.Sends.{loses, not_lost, writer_is}
 use Rattle.session_turns.proofs.writer.WriterOutboxLocked.lose.Goals as goal

@@ -5,8 +5,8 @@ use Rattle.hist_lock.specs.Passes.{view}
 use Rattle.hist_lock.specs.declared.view.View.{View}
 use Rattle.reply_outbox.specs.declared.item.Item.TheVariants as item
 use Rattle.session_turns.specs.declared.sending.Sending.TheVariants as sending
-use Rattle.document_session.specs.lists_below.Items.{SessionItem}
-use Rattle.thread_views.specs.Callers.{worker_count}
+use Rattle.document_session.specs.keeping_rules_below.Items.{SessionItem}
+use Rattle.view_laws.specs.Callers.{worker_count}
 use Rattle.session_turns.proofs.Lists.{its_own}
 use Rattle.session_turns.proofs.Turns.{makes, seen_ended, sees_on}
 use Rattle.session_turns.proofs.Sends.{Sends, hands, hands_nothing, idle_so, sees_then, sends_own, still_unhanded}

@@ -2,7 +2,7 @@
 use Rattle.std.proofs.Common.{◌≡◌, Some, IfOk, ap, subst, ◌∙◌, rules}
 use Rattle.doc_headers.specs.Headers.{HasHeader}
 use Rattle.doc_headers.specs.Reading.{header_in}
-use Rattle.markup_lines.specs.OneText.{named}
+use Rattle.text_check.specs.OneText.{named}
 use Rattle.text_check.specs.declared.heading.Heading.{Heading}
 use Rattle.text_check.specs.Headings.{headed, heading_of}
 use Rattle.text_check.proofs.OneMarkup.{heading_some}

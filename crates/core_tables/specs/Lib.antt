@@ -1,0 +1,5 @@
+pub mod Live
+pub mod Removal
+pub mod Progress
+pub mod Rows
+pub mod Finish

@@ -1,4 +1,0 @@
-use Rattle.exec_table.proofs.execs.Execs.finish.Goals as goal
-
-pub returns-clause-finished : goal.returns-clause-finished
-returns-clause-finished g c = rw (← c.self.view_is, ← c.number.ensures.value) c.finish_at.ensures.finished

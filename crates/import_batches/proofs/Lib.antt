@@ -1,4 +1,0 @@
-mod Rounds
-mod Cuts
-mod Joined
-mod Steps

@@ -1,9 +1,0 @@
-mod AttributePieces
-mod Bodies
-mod Chunks
-mod Faults
-mod Filled
-mod Inside
-mod Merged
-mod Texts
-mod Whole

@@ -1,4 +1,0 @@
-pub mod Attributes
-pub mod Chunks
-pub mod Inside
-pub mod LentMarks

@@ -1,3 +1,0 @@
-pub mod OneText
-pub mod Lines
-pub mod Worked

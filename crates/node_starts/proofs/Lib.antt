@@ -1,2 +1,0 @@
-mod Handing
-pub mod KnownBegins

@@ -1,5 +1,0 @@
-use Rattle.plain_laws.proofs.HeaderNames.{header_named}
-use Rattle.plain_laws.proofs.laws.header_law.Goals as goal
-
-pub returns : goal.returns
-returns c = header_named c.one_header.ensures.just

@@ -1,0 +1,4 @@
+pub mod Headed
+pub mod PlainReports
+pub mod OddSources
+pub mod Placed

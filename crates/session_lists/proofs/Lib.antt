@@ -1,2 +1,0 @@
-mod Heard
-mod Sent

@@ -1,9 +1,0 @@
-mod Unmarked
-mod Finished
-mod Documents
-mod Sessions
-mod Kept
-mod Histories
-mod Reached
-mod Reports
-mod Settled

@@ -1,2 +1,0 @@
-pub mod KnownErrors
-mod Pulling

@@ -1,6 +1,0 @@
-use Rattle.thread_views.proofs.KnownHanded.{waiting_grows}
-use Rattle.thread_views.proofs.handing.waiting_law.Goals as goal
-
-pub returns : goal.returns
-returns g c = λ seen log before now are_seen are p same w v.
-    waiting_grows g.L.Language.lang seen log before now are_seen are p same w v

@@ -1,9 +1,0 @@
-use Rattle.thread_views.specs.Callers.{whose}
-use Rattle.thread_views.proofs.Own.{own_has, own_history, own_within}
-use Rattle.thread_views.proofs.laws.owners_law.Goals as goal
-
-pub returns-clause-own : goal.returns-clause-own
-returns-clause-own c = λ log one. (own_has log one, own_within (whose one) log one)
-
-pub returns-clause-entries : goal.returns-clause-entries
-returns-clause-entries c = λ log who. own_history log who
