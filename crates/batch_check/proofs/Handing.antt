@@ -10,7 +10,7 @@ use Rattle.doc_nodes.specs.Graph.{Graph}
 use Rattle.doc_nodes.specs.Graphs.{IsGraphOf}
 use Rattle.doc_nodes.specs.declared.inherited.NodeAliases.{NodeAliases}
 use Rattle.doc_nodes.specs.Aliases.{aliases_at}
-use Rattle.doc_nodes.specs.Imports.{NodeList, aims_of, is_bad, ordered, place_of}
+use Rattle.doc_nodes.specs.Imports.{NodeList, aims_of, is_bad, ordered_places, place_of}
 use Rattle.language.specs.declared.made.Imports.{Imports}
 use Rattle.language.specs.declared.made.Imports.TheVariants.{Ordered}
 use Rattle.language.specs.Lang.{Lang}
@@ -31,8 +31,8 @@ pub aims_are : (nodes : NodeList) (graph : Graph) (p : ℕ) (pair : List ℕ × 
     → aims_at graph.aims p ≡ map (place_of nodes) pair.1.imports
 aims_are nodes graph p pair is e = ap (λ rows. aims_at rows p) is.aims_are ∙ aims_there nodes nodes p pair e
 
-module _ (nodes : NodeList) (marks : List Bool) (are : AreMarks marks (ordered nodes)) where
-  met_is : (aim : Option ℕ) → met_by marks aim ≡ is_known (ordered nodes) aim
+module _ (nodes : NodeList) (marks : List Bool) (are : AreMarks marks (ordered_places nodes)) where
+  met_is : (aim : Option ℕ) → met_by marks aim ≡ is_known (ordered_places nodes) aim
   met_is None = refl
   met_is (Some p) = are p
 
@@ -40,7 +40,7 @@ module _ (nodes : NodeList) (marks : List Bool) (are : AreMarks marks (ordered n
   bad_is [] = refl
   bad_is (name ∷ names) =
       ap (λ b. cond b (bad_by marks (zip names (map (place_of nodes) names))) (Some name)) (met_is (place_of nodes name))
-      ∙ go (is_known (ordered nodes) (place_of nodes name)) (bad_is names)
+      ∙ go (is_known (ordered_places nodes) (place_of nodes name)) (bad_is names)
     where
       go : (b : Bool) → bad_by marks (zip names (map (place_of nodes) names)) ≡ find (is_bad nodes) names
           → cond b (bad_by marks (zip names (map (place_of nodes) names))) (Some name) ≡ cond (not b) (Some name) (find (is_bad nodes) names)
@@ -66,7 +66,8 @@ module _ {S : Type 0} (l : Lang S) (nodes : NodeList) (runs : Runs S) (behind : 
   with_bad names None = ap Ordered (imported_is names)
   with_bad names (Some name) = refl
 
-  pub imports_are : (marks : List Bool) → AreMarks marks (ordered nodes) → (names : List (List ℕ))
+  pub imports_are : (marks : List Bool) → AreMarks marks (ordered_places nodes)
+      → (names : List (List ℕ))
       → imports_by marks behind (zip names (map (place_of nodes) names)) ≡ imports_run l nodes runs names (find (is_bad nodes) names)
   imports_are marks are names =
       ap (imports_with behind (zip names (map (place_of nodes) names))) (bad_is nodes marks are names)

@@ -2,7 +2,7 @@
 use Rattle.std.proofs.Common.{◌≡◌, ℕ, List, [], find, IfOk, Option, Some, Result, Ok, sym, ap, ap₂, subst, ◌∙◌}
 use Rattle.std.specs.Prelude.{slice_get}
 use Rattle.report_markup.specs.declared.report.Report.{Report}
-use Rattle.report_markup.specs.Sorting.{in_order}
+use Rattle.report_markup.specs.Sorting.{ordered_reports}
 use Rattle.doc_nodes.specs.declared.node.Node.{Node}
 use Rattle.doc_nodes.specs.Aliases.{aliases_at}
 use Rattle.doc_nodes.specs.Imports.{NodeList, is_bad}
@@ -34,7 +34,8 @@ module _ {S : Type 0} (l : Lang S) (node : Node) where
   -- what its commands report under these aliases, and the state behind them
   abbrev pub reported : S → AliasList → ℕ → List Report
   reported begins pairs next =
-      let one = cut_under node pairs next in in_order (reports_of l one.entries (run_node l one [] begins).commands)
+      let one = cut_under node pairs next in ordered_reports
+      (reports_of l one.entries (run_node l one [] begins).commands)
 
   abbrev pub handed_on : S → AliasList → ℕ → S
   handed_on begins pairs next = final l (run_node l (cut_under node pairs next) [] begins)

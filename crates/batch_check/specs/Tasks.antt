@@ -1,7 +1,7 @@
 -- What the nodes of a batch ask for, and what they make (this project's own).
 use Rattle.std.specs.Prelude.{◌≡◌, ℕ, ◌<◌, List, [], length, slice_get, Option, Some}
 use Rattle.std.specs.List.{All}
-use Rattle.report_markup.specs.Sorting.{in_order}
+use Rattle.report_markup.specs.Sorting.{ordered_reports}
 use Rattle.doc_nodes.specs.declared.node.Node.{Node}
 use Rattle.doc_nodes.specs.declared.inherited.NodeAliases.{NodeAliases}
 use Rattle.doc_nodes.specs.Graph.{Graph}
@@ -27,7 +27,7 @@ pub record IsReady (nodes : NodeList) (graph : Graph) (aliases : List NodeAliase
 -- a node with what this run of it reports, in report order
 abbrev pub built_by : {S : Type 0} → Lang S → List ℕ × Node → Run S → BuiltNode
 built_by l pair run =
-    record { node = pair.0; reports = in_order (reports_of l pair.1.entries run.commands) }
+    record { node = pair.0; reports = ordered_reports (reports_of l pair.1.entries run.commands) }
 
 module _ {S M : Type 0} (l : Lang S) (told : BuiltNode → M) where
   -- what comes of a node is what is told of the run, and what the run hands on

@@ -11,7 +11,7 @@ use Rattle.import_rounds.specs.Rounds.{is_known}
 use Rattle.import_rounds.specs.Looks.{aims_at}
 use Rattle.text_words.proofs.KnownMembers.{cut_at, has_both, has_itself, has_tail}
 use Rattle.doc_nodes.specs.declared.node.Node.{Node}
-use Rattle.doc_nodes.specs.Imports.{NodeList, aims, aims_of, is_bad, is_ordered, order, place_of, placed}
+use Rattle.doc_nodes.specs.Imports.{NodeList, aims, aims_of, is_bad, is_ordered, order, place_of, placed_node}
 use Rattle.exec_rules.specs.Kept.{BlobList}
 use Rattle.language.specs.Lang.{Lang}
 use Rattle.core_rules.specs.Scratch.{Runs, begins_at, run_all, run_node, run_one, scratch}
@@ -31,7 +31,7 @@ module _ {S : Type 0} (l : Lang S) (nodes : NodeList) (blobs : BlobList)
     (behind : (front rest : List (List ℕ)) (batch : List ℕ) (p : ℕ) → AreBatches nodes (front ++ batch ∷ rest) → has batch p ≡ true
     → is_ordered nodes p ≡ true → list_all (is_known (concat front)) (aims_at (aims nodes) p) ≡ true)
     (once : (front rest : List ℕ) (p : ℕ) → order nodes ≡ front ++ p ∷ rest → has front p ≡ false)
-    (ordered : (p : ℕ) (pair : List ℕ × Node) → slice_get nodes p ≡ Some pair → (placed nodes pair).bad ≡ None → is_ordered nodes p ≡ true) where
+    (ordered : (p : ℕ) (pair : List ℕ × Node) → slice_get nodes p ≡ Some pair → (placed_node nodes pair).bad ≡ None → is_ordered nodes p ≡ true) where
   -- what stands before a batch doesn't stand in it
   apart : (front rest : List (List ℕ)) (batch : List ℕ) (q : ℕ) → AreBatches nodes (front ++ batch ∷ rest)
       → has (concat front) q ≡ true → has batch q ≡ false

@@ -9,7 +9,7 @@ use Rattle.import_rounds.specs.Looks.{aims_at}
 use Rattle.import_rounds.proofs.KnownRounds.{cut}
 use Rattle.import_rounds.proofs.KnownOrdered.{stuck}
 use Rattle.import_rounds.proofs.KnownFiltered.{has_passes}
-use Rattle.doc_nodes.specs.Imports.{NodeList, aims, is_ordered, order, others}
+use Rattle.doc_nodes.specs.Imports.{NodeList, aims, is_ordered, order, other_places}
 use Rattle.batch_runs.specs.Batches.{AreBatches, AreRounds}
 use Rattle.batch_runs.proofs.Rounds.{fit, no_more}
 
@@ -35,10 +35,10 @@ module _ (rows : List (List (Option ℕ))) where
 module _ (nodes : NodeList) where
   pub joins : (batches : List (List ℕ)) → AreBatches nodes batches → concat batches ≡ order nodes
   joins batches are =
-      ap concat are.all ∙ concat-append are.rounds (others nodes ∷ []) ∙ ap (λ xs. xs ++ (others nodes ++ [])) (joined (aims nodes) are.rounds are.are)
-      ∙ ap (λ xs. in_rounds (aims nodes) ++ xs) (append-nil (others nodes))
+      ap concat are.all ∙ concat-append are.rounds (other_places nodes ∷ []) ∙ ap (λ xs. xs ++ (other_places nodes ++ [])) (joined (aims nodes) are.rounds are.are)
+      ∙ ap (λ xs. in_rounds (aims nodes) ++ xs) (append-nil (other_places nodes))
 
-  pub unordered : (p : ℕ) → has (others nodes) p ≡ true → is_ordered nodes p ≡ false
+  pub unordered : (p : ℕ) → has (other_places nodes) p ≡ true → is_ordered nodes p ≡ false
   unordered p h = by (is_ordered nodes p) (has_passes (λ q. not (is_ordered nodes q)) (length nodes) 0 p h)
     where
       by : (b : Bool) → not b ≡ true → b ≡ false
@@ -47,15 +47,18 @@ module _ (nodes : NodeList) where
 
   pub before : (front rest : List (List ℕ)) (batch : List ℕ) (p : ℕ) → AreBatches nodes (front ++ batch ∷ rest) → has batch p ≡ true
       → is_ordered nodes p ≡ true → list_all (is_known (concat front)) (aims_at (aims nodes) p) ≡ true
-  before front rest batch p are here ordered = go (cut are.rounds (others nodes ∷ []) front batch rest (sym are.all))
+  before front rest batch p are here ordered = go
+      (cut are.rounds (other_places nodes ∷ []) front batch rest (sym are.all))
     where
-      last : (f : List (List ℕ)) → others nodes ∷ [] ≡ f ++ batch ∷ rest → batch ≡ others nodes
+      last : (f : List (List ℕ)) → other_places nodes ∷ [] ≡ f ++ batch ∷ rest
+          → batch ≡ other_places nodes
       last [] e = cc
       last (x ∷ []) e = let none : ⊥ = cc in absurd none
       last (x ∷ y ∷ f) e = let none : ⊥ = cc in absurd none
 
       go : ((r : List (List ℕ)) × (are.rounds ≡ front ++ batch ∷ r))
-          ⊎ ((f : List (List ℕ)) × (front ≡ are.rounds ++ f) × (others nodes ∷ [] ≡ f ++ batch ∷ rest))
+          ⊎ ((f : List (List ℕ)) × (front ≡ are.rounds ++ f) ×
+          (other_places nodes ∷ [] ≡ f ++ batch ∷ rest))
           → list_all (is_known (concat front)) (aims_at (aims nodes) p) ≡ true
       go (inl c) =
           let is = round_after (aims nodes) front batch c.0 [] (subst (AreRounds (aims nodes) []) c.1 are.are) in

@@ -2,7 +2,7 @@
 use Rattle.std.specs.Prelude.{◌≡◌, ℕ, ◌<◌, Bool, false, List, [], ◌∷◌, ◌++◌, length, Option}
 use Rattle.import_rounds.specs.Rounds.{round}
 use Rattle.import_rounds.specs.Looks.{marked}
-use Rattle.doc_nodes.specs.Imports.{NodeList, aims, others}
+use Rattle.doc_nodes.specs.Imports.{NodeList, aims, other_places}
 
 -- the rounds after these ordered nodes: each is the next one and has a node, until no node is left
 -- whose imports are all ordered
@@ -15,7 +15,7 @@ AreRounds rows ordered (now ∷ later) =
 pub record AreBatches (nodes : NodeList) (batches : List (List ℕ)) : Type 0 where
   pub rounds : List (List ℕ)
   pub are : AreRounds (aims nodes) [] rounds
-  pub all : batches ≡ rounds ++ others nodes ∷ []
+  pub all : batches ≡ rounds ++ other_places nodes ∷ []
 
 -- the first of these places is marked
 abbrev pub begins_by : List Bool → List ℕ → Bool

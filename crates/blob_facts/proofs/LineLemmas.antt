@@ -5,7 +5,7 @@ use Rattle.std.specs.List.{list_all, slice_split, position_or_len}
 use Rattle.std.proofs.lemmas.Bool.{cond-true, cond-false, eqb-true, false_from_ne_true}
 use Rattle.std.proofs.lemmas.List.Splits.{slice_split_first, slice_split_none, length-slice_split}
 use Rattle.std.proofs.lemmas.List.Sums.{fails_before_first}
-use Rattle.isar_rules.specs.BlobLines.{Listed, is_gap, without_cr, lines_from, lines_of, fact_in, before}
+use Rattle.isar_rules.specs.BlobLines.{Listed, is_gap, without_cr, lines_from, lines_of, fact_in, listed_before}
 use Rattle.blob_facts.specs.Listing.{with_line, joined}
 
 -- a CR at the end is left out
@@ -61,15 +61,16 @@ lines_last text n first past =
 -- a blank line tells nothing
 pub blank_told : (old : List Listed) (number : ℕ) (line : List ℕ) → list_all is_gap line ≡ true
     → (later : Result (List Listed) ℕ) → joined old (with_line number line later) ≡ joined old later
-blank_told old number line blank later = ap (joined old) (cond-true (list_all is_gap line) later (before number (fact_in line) later) blank)
+blank_told old number line blank later = ap (joined old) (cond-true (list_all is_gap line) later (listed_before number (fact_in line) later) blank)
 
 unblank : (number : ℕ) (line : List ℕ) (found : Option Listed) → list_all is_gap line ≡ false → found ≡ fact_in line
-    → (later : Result (List Listed) ℕ) → with_line number line later ≡ before number found later
+    → (later : Result (List Listed) ℕ)
+    → with_line number line later ≡ listed_before number found later
 unblank number line found other is later =
-    cond-false (list_all is_gap line) later (before number (fact_in line) later) other ∙ ap (λ f. before number f later) (sym is)
+    cond-false (list_all is_gap line) later (listed_before number (fact_in line) later) other ∙ ap (λ f. listed_before number f later) (sym is)
 
 joined_more : (old : List Listed) (number : ℕ) (fact : Listed) (later : Result (List Listed) ℕ)
-    → joined old (before number (Some fact) later) ≡ joined (old ++ fact ∷ []) later
+    → joined old (listed_before number (Some fact) later) ≡ joined (old ++ fact ∷ []) later
 joined_more old number fact (Ok more) = ap Ok (sym (append_assoc old (fact ∷ []) more))
 joined_more old number fact (Err line) = refl
 

@@ -3,7 +3,7 @@ use Rattle.std.specs.Prelude.{◌≡◌, ⊤, ℕ, if◌then◌else◌, List, �
 use Rattle.std.specs.List.{list_all}
 use Rattle.nj_formula.specs.declared.formula.Formula.{Formula}
 use Rattle.nj_syntax.specs.declared.fault.FormulaFault.{FormulaFault}
-use Rattle.isar_rules.specs.BlobLines.{Listed, is_gap, fact_in, before}
+use Rattle.isar_rules.specs.BlobLines.{Listed, is_gap, fact_in, listed_before}
 use Rattle.blob_facts.specs.declared.fault.BlobFault.{BlobFault}
 use Rattle.blob_facts.specs.declared.fault.BlobFault.TheVariants.{BadLine, NoMemory}
 
@@ -15,7 +15,7 @@ good (Err fault) = None
 -- what a line of this number and the lines behind it tell
 abbrev pub with_line : ℕ → List ℕ → Result (List Listed) ℕ → Result (List Listed) ℕ
 with_line number line later =
-    if list_all is_gap line then later else before number (fact_in line) later
+    if list_all is_gap line then later else listed_before number (fact_in line) later
 
 -- facts, and what later lines tell
 abbrev pub joined : List Listed → Result (List Listed) ℕ → Result (List Listed) ℕ

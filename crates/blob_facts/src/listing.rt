@@ -1,5 +1,5 @@
 //! The facts of a blob.
-ghost use Rattle.isar_rules.specs.BlobLines.{facts_of};
+ghost use Rattle.isar_rules.specs.BlobLines.{listed_facts};
 ghost use Rattle.blob_facts.specs.Listing.{Takes, Tells};
 
 use crate::fact::{ListedFact, fact_in};
@@ -32,7 +32,7 @@ fn take_line(
 /// The facts that a blob of this text lists, in its order; blank lines are skipped. BadLine tells
 /// the first line that is neither, from 1; NoMemory comes where memory runs out.
 pub fn facts_of(alloc: Global, text: &[char]) -> Result<Items<ListedFact>, BlobFault>
-    ensures { Tells (facts_of text.now) result }
+    ensures { Tells (listed_facts text.now) result }
 {
     let mut facts = Items::new(alloc);
     let mut number = 1;

@@ -15,7 +15,7 @@ use Rattle.core_rules.specs.Assigned.{command_ids}
 use Rattle.core_rules.specs.Updates.{AllDiffer}
 use Rattle.buffer_rules.specs.declared.sheet.Sheet.{Sheet}
 use Rattle.buffer_rules.specs.Cuts.{source}
-use Rattle.buffer_rules.specs.Numbers.{Command, kept, ids_of, new_count, IsLongestKept, IsNumbered}
+use Rattle.buffer_rules.specs.Numbers.{Command, kept_runs, ids_of, new_count, IsLongestKept, IsNumbered}
 use Rattle.buffer_rules.specs.Sheets.{SheetList}
 use Rattle.buffer_rules.specs.Nodes.{entry, ranges_in, sources, before_in, cut, nodes_from}
 use Rattle.buffer_laws.specs.Known.{AreBelow}
@@ -38,10 +38,11 @@ commands_made sheet aliases [] ranges = refl
 commands_made sheet aliases (i ∷ ids) [] = refl
 commands_made sheet aliases (i ∷ ids) (r ∷ ranges) = ap (λ xs. (i, source sheet.text r) ∷ xs) (commands_made sheet aliases ids ranges)
 
-module _ (kept_so : (before now : List (List ℕ)) → IsLongestKept before now (kept before now))
+module _ (kept_so : (before now : List (List ℕ)) → IsLongestKept before now (kept_runs before now))
     (ids_so : (before : List Command) (now : List (List ℕ)) (next : ℕ) → IsNumbered
-    (kept (map (λ c. c.1) before) now) (map (λ c. c.0) before) (length now) next (ids_of before now next)) where
-  abbrev so : (before : List Command) (now : List (List ℕ)) → IsLongestKept (map (λ c. c.1) before) now (kept (map (λ c. c.1) before) now)
+    (kept_runs (map (λ c. c.1) before) now) (map (λ c. c.0) before) (length now) next
+    (ids_of before now next)) where
+  abbrev so : (before : List Command) (now : List (List ℕ)) → IsLongestKept (map (λ c. c.1) before) now (kept_runs (map (λ c. c.1) before) now)
   so before now = kept_so (map (λ c. c.1) before) now
 
   -- the ids of a node, as it is cut

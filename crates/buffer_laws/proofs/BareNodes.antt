@@ -10,7 +10,7 @@ use Rattle.doc_nodes.specs.Aliases.{aliases_at}
 use Rattle.doc_blobs.specs.Needs.{AliasList}
 use Rattle.buffer_rules.specs.declared.sheet.Sheet.{Sheet}
 use Rattle.buffer_rules.specs.Cuts.{source, command_ranges}
-use Rattle.buffer_rules.specs.Numbers.{Command, kept, ids_of, new_count, IsNumbered}
+use Rattle.buffer_rules.specs.Numbers.{Command, kept_runs, ids_of, new_count, IsNumbered}
 use Rattle.buffer_rules.specs.Sheets.{SheetList}
 use Rattle.buffer_rules.specs.Nodes.{entry, ranges_in, sources, before_in, cut, nodes_from}
 use Rattle.buffer_laws.specs.Known.{IsBare}
@@ -22,7 +22,8 @@ none_zipped sheet aliases [] (r ∷ rs) long none = absurd (omega arith)
 none_zipped sheet aliases (i ∷ ids) (r ∷ rs) long none = absurd (cc)
 
 module _ (ids_so : (before : List Command) (now : List (List ℕ)) (next : ℕ) → IsNumbered
-    (kept (map (λ c. c.1) before) now) (map (λ c. c.0) before) (length now) next (ids_of before now next))
+    (kept_runs (map (λ c. c.1) before) now) (map (λ c. c.0) before) (length now) next
+    (ids_of before now next))
     (bare : (text : List ℕ) (aliases : List (List ℕ)) → command_ranges text aliases ≡ [] → header_in text ≡ None) where
   node_bare : (sheet : Sheet) (aliases : AliasList) (before : List Command) (next : ℕ) → IsBare (cut sheet aliases before next)
   node_bare sheet aliases before next none =

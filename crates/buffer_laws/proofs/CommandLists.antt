@@ -4,7 +4,7 @@ use Rattle.std.proofs.lemmas.List.{length-append, length-take-le, length-drop, l
 use Rattle.std.proofs.lemmas.List.FromFn.{length-range_with_len}
 use Rattle.std.specs.List.{zip, range_with_len, take-map, drop-map}
 use Rattle.text_words.proofs.KnownLists.{zip_append, take_reverse}
-use Rattle.buffer_rules.specs.Numbers.{Command, Kept, kept, ids_of, IsLongestKept}
+use Rattle.buffer_rules.specs.Numbers.{Command, Kept, kept_runs, ids_of, IsLongestKept}
 
 zip_parts : (cs : List Command) → zip (map (λ c. c.0) cs) (map (λ c. c.1) cs) ≡ cs
 zip_parts [] = refl
@@ -36,9 +36,9 @@ same_back xs ys f b in_xs in_ys same le lf =
     ∙ reverse-reverse (drop (length (drop f ys) - b) (drop f ys)) ∙ other
 
 module _ (before : List Command) (now : List (List ℕ)) (next : ℕ)
-    (so : IsLongestKept (map (λ c. c.1) before) now (kept (map (λ c. c.1) before) now)) where
+    (so : IsLongestKept (map (λ c. c.1) before) now (kept_runs (map (λ c. c.1) before) now)) where
   abbrev pub k : Kept
-  k = kept (map (λ c. c.1) before) now
+  k = kept_runs (map (λ c. c.1) before) now
 
   abbrev pub fresh : ℕ
   fresh = length now - k.front - k.back

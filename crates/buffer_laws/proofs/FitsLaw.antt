@@ -12,7 +12,7 @@ use Rattle.doc_nodes.specs.Aliases.{aliases_at}
 use Rattle.doc_nodes.specs.Imports.{NodeList}
 use Rattle.core_rules.specs.exec_rules_below.Assigning.{greater}
 use Rattle.core_rules.specs.Assigned.{command_ids}
-use Rattle.core_rules.specs.Doc.{Doc, greatest, assignment_of, updated}
+use Rattle.core_rules.specs.Doc.{Doc, greatest, assignment_of, updated_doc}
 use Rattle.core_rules.specs.Updates.{AllDiffer, AreRising, FitsUpdate}
 use Rattle.buffer_rules.specs.Numbers.{new_count}
 use Rattle.buffer_rules.specs.Sheets.{SheetList}
@@ -96,7 +96,7 @@ module _ (laws : NodeLaws) (b b' : Buffer) (d : Doc) (live id : ℕ) (asked : As
       }
 
   -- and both documents agree after it
-  pub kept : (opened : ℕ → Bool) → Agrees b' (updated opened d id b'.nodes b'.document.blobs (assignment_of d b'.nodes b'.document.blobs))
+  pub kept : (opened : ℕ → Bool) → Agrees b' (updated_doc opened d id b'.nodes b'.document.blobs (assignment_of d b'.nodes b'.document.blobs))
   kept opened =
       let back : made ≡ b'.nodes = sym prep.nodes in
       let below : AreBelow b'.next (command_ids b'.nodes) =

@@ -9,7 +9,7 @@ use Rattle.doc_nodes.specs.Aliases.{aliases_at}
 use Rattle.doc_blobs.specs.Needs.{AliasList}
 use Rattle.buffer_rules.specs.declared.sheet.Sheet.{Sheet}
 use Rattle.buffer_rules.specs.Cuts.{commands_of}
-use Rattle.buffer_rules.specs.Numbers.{Command, kept, ids_of, new_count, IsLongestKept}
+use Rattle.buffer_rules.specs.Numbers.{Command, kept_runs, ids_of, new_count, IsLongestKept}
 use Rattle.buffer_rules.specs.Sheets.{SheetList}
 use Rattle.buffer_rules.specs.Nodes.{ranges_in, sources, before_in, cut, nodes_from}
 use Rattle.buffer_laws.specs.Known.{IsNewOr, AreKnown}
@@ -28,7 +28,7 @@ new_each first n zero before now le = tt
 new_each first n (suc m) before [] le = tt
 new_each first n (suc m) before (x ∷ now) le = (inl le, new_each first (n + 1) m before now (omega (arith, le)))
 
-module _ (kept_so : (before now : List (List ℕ)) → IsLongestKept before now (kept before now)) (tip all : NodeList) (first : ℕ) where
+module _ (kept_so : (before now : List (List ℕ)) → IsLongestKept before now (kept_runs before now)) (tip all : NodeList) (first : ℕ) where
   known_node : (sheet : Sheet) (aliases : AliasList) (before : List Command) (next : ℕ) → first ≤ next
       → AllByRecursion (IsNewOr first before) (commands_of (cut sheet aliases before next))
   known_node sheet aliases before next le =

@@ -6,21 +6,21 @@ use Rattle.text_words.specs.Members.{has}
 use Rattle.text_words.proofs.KnownMembers.{has_left}
 use Rattle.core_rules.specs.Updates.{AllDiffer}
 use Rattle.core_rules.proofs.KnownCommands.{differ_front, differ_back}
-use Rattle.buffer_rules.specs.Numbers.{Command, kept, ids_of, new_count, IsLongestKept}
+use Rattle.buffer_rules.specs.Numbers.{Command, kept_runs, ids_of, new_count, IsLongestKept}
 use Rattle.buffer_laws.specs.Known.{AreBelow}
 use Rattle.buffer_laws.proofs.CommandLists.{room_old, in_three}
 use Rattle.buffer_laws.proofs.Members.{AreApart, has_cases, has_take, has_drop, differ_join, apart_of, in_range, range_differs, below_of}
 
 module _ (before : List Command) (now : List (List ℕ)) (next : ℕ)
-    (so : IsLongestKept (map (λ c. c.1) before) now (kept (map (λ c. c.1) before) now)) where
+    (so : IsLongestKept (map (λ c. c.1) before) now (kept_runs (map (λ c. c.1) before) now)) where
   abbrev olds : List ℕ
   olds = map (λ c. c.0) before
 
   abbrev f : ℕ
-  f = (kept (map (λ c. c.1) before) now).front
+  f = (kept_runs (map (λ c. c.1) before) now).front
 
   abbrev b : ℕ
-  b = (kept (map (λ c. c.1) before) now).back
+  b = (kept_runs (map (λ c. c.1) before) now).back
 
   abbrev count : ℕ
   count = length now - f - b

@@ -4,7 +4,7 @@ use Rattle.std.specs.List.{AllByRecursion}
 use Rattle.shared_map.specs.Pairs.{IsSorted}
 use Rattle.doc_nodes.specs.Names.{in_order}
 use Rattle.core_rules.specs.Assigned.{command_ids}
-use Rattle.core_rules.specs.Doc.{Doc, empty}
+use Rattle.core_rules.specs.Doc.{Doc, empty_doc}
 use Rattle.core_rules.specs.Updates.{AllDiffer}
 use Rattle.buffer_rules.specs.Preparing.{Buffer}
 use Rattle.buffer_laws.specs.Known.{AreBelow, HasOwnHeader}
@@ -21,4 +21,4 @@ pub record Agrees (b : Buffer) (d : Doc) : Type 0 where
 
 -- the core's document before anything happened
 abbrev pub start_doc : Doc
-start_doc = empty
+start_doc = empty_doc

@@ -9,9 +9,9 @@ ghost use Rattle.doc_nodes.specs.Imports.{NodeList};
 ghost use Rattle.buffer_rules.specs.Sheets.{SheetList};
 ghost use Rattle.buffer_rules.specs.Nodes.{nodes_after};
 ghost use Rattle.core_rules.specs.Assigned.{command_ids};
-ghost use Rattle.buffer_rules.specs.Preparing.{Buffer, prepared, empty};
+ghost use Rattle.buffer_rules.specs.Preparing.{Buffer, prepared, empty_buffer};
 ghost use Rattle.buffer_rules.specs.Updates.{Asked};
-ghost use Rattle.core_rules.specs.Doc.{Doc, assignment_of, updated};
+ghost use Rattle.core_rules.specs.Doc.{Doc, assignment_of, updated_doc};
 ghost use Rattle.core_rules.specs.Updates.{AllDiffer, AreRising, FitsUpdate};
 ghost use Rattle.buffer_laws.specs.Fitting.{Agrees, start_doc};
 ghost use Rattle.buffer_laws.specs.Known.{AreBelow, AreKnown, HasOwnHeader, IsBare};
@@ -92,9 +92,9 @@ pub fn fits_law()
         → FitsUpdate d id b'.nodes b'.document.blobs }
     ensures kept { (b b' : Buffer) (d : Doc) (live id : ℕ) (asked : Asked) (opened : ℕ → Bool)
         → Agrees b d → prepared b live asked ≡ Ok b' → Agrees b'
-        (updated opened d id b'.nodes b'.document.blobs
+        (updated_doc opened d id b'.nodes b'.document.blobs
         (assignment_of d b'.nodes b'.document.blobs)) }
-    ensures begins { Agrees empty start_doc }
+    ensures begins { Agrees empty_buffer start_doc }
 {
     names_law();
     numbers_law();

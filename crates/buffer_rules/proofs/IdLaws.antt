@@ -4,7 +4,7 @@ use Rattle.std.specs.List.{range_with_len}
 use Rattle.std.proofs.lemmas.List.{length-map, length-reverse, length-drop, length-take-le, length-append, take-append-le, drop-append-le}
 use Rattle.std.proofs.Math.Seq.{drop-append_seam, take-append_seam}
 use Rattle.std.proofs.lemmas.List.FromFn.{length-range_with_len}
-use Rattle.buffer_rules.specs.Numbers.{Command, Kept, kept, with_kept, ids_of, IsLongestKept, IsNumbered}
+use Rattle.buffer_rules.specs.Numbers.{Command, Kept, kept_runs, with_kept, ids_of, IsLongestKept, IsNumbered}
 use Rattle.buffer_rules.proofs.NumberLaws.{kept_so}
 
 -- the ids of a front, of what is new and of a back
@@ -33,10 +33,11 @@ numbered k ids count next within room =
 
 -- the same of the commands of a node
 pub ids_so : (before : List Command) (now : List (List ℕ)) (next : ℕ) → IsNumbered
-    (kept (map (λ c. c.1) before) now) (map (λ c. c.0) before) (length now) next (ids_of before now next)
+    (kept_runs (map (λ c. c.1) before) now) (map (λ c. c.0) before) (length now) next
+    (ids_of before now next)
 ids_so before now next =
     let sources = map (λ c. c.1) before in
-    let k = kept sources now in
+    let k = kept_runs sources now in
     let so : IsLongestKept sources now k = kept_so sources now in
     let olds : length sources ≡ length before = length-map before (λ c. c.1) in
     let ids : length (map (λ c. c.0) before) ≡ length before = length-map before (λ c. c.0) in

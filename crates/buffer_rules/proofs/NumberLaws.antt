@@ -3,7 +3,7 @@ use Rattle.std.proofs.Common.{◌≡◌, ℕ, zero, suc, ◌≤◌, Bool, true, 
 use Rattle.std.proofs.lemmas.Bool.{both_ways, cond-true, cond-false}
 use Rattle.message_values.specs.doc_nodes_below.Names.{equal}
 use Rattle.doc_nodes.proofs.KnownNames.{name_is, name_itself}
-use Rattle.buffer_rules.specs.Numbers.{equal_front, kept, IsLongestFront, IsLongestKept}
+use Rattle.buffer_rules.specs.Numbers.{equal_front, kept_runs, IsLongestFront, IsLongestKept}
 
 abbrev head_of : List ℕ → List (List ℕ) → List ℕ
 head_of d [] = d
@@ -65,7 +65,7 @@ longest (x ∷ xs) (y ∷ ys) = go (longest xs ys) (equal x y) refl where
       (no_more x y xs ys here)
 
 -- so is what is kept at the front and at the back
-pub kept_so : (before now : List (List ℕ)) → IsLongestKept before now (kept before now)
+pub kept_so : (before now : List (List ℕ)) → IsLongestKept before now (kept_runs before now)
 kept_so before now = record {
   front = longest before now;
   back = longest (reverse (drop (equal_front before now) before)) (reverse (drop (equal_front before now) now));

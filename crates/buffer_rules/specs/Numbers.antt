@@ -23,8 +23,8 @@ pub record Kept : Type 0 where
   pub back : ℕ
 
 -- the longest front, and then the longest back of what is left
-abbrev pub kept : List (List ℕ) → List (List ℕ) → Kept
-kept before now =
+abbrev pub kept_runs : List (List ℕ) → List (List ℕ) → Kept
+kept_runs before now =
     let front = equal_front before now in
     record { front = front; back = equal_back (drop front before) (drop front now) }
 
@@ -36,12 +36,12 @@ with_kept k ids count next = take k.front ids
 -- the ids of the commands with these sources, when the next one is this
 abbrev pub ids_of : List Command → List (List ℕ) → ℕ → List ℕ
 ids_of before now next =
-    with_kept (kept (map (λ c. c.1) before) now) (map (λ c. c.0) before) (length now) next
+    with_kept (kept_runs (map (λ c. c.1) before) now) (map (λ c. c.0) before) (length now) next
 
 -- how many of them are new
 abbrev pub new_count : List Command → List (List ℕ) → ℕ
 new_count before now =
-    let k = kept (map (λ c. c.1) before) now in
+    let k = kept_runs (map (λ c. c.1) before) now in
     length now - k.front - k.back
 
 -- two lists are equal up to so many, and no further (this project's own)

@@ -42,5 +42,5 @@ prepared buffer live asked = document_after asked buffer.document >>= λ documen
     within_limits live document (nodes_after buffer.nodes document.sheets buffer.next)
 
 -- the buffer before any update
-abbrev pub empty : Buffer
-empty = record { document = record { sheets = []; blobs = [] }; nodes = []; next = 1 }
+abbrev pub empty_buffer : Buffer
+empty_buffer = record { document = record { sheets = []; blobs = [] }; nodes = []; next = 1 }

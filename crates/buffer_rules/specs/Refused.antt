@@ -7,7 +7,7 @@ use Rattle.message_values.specs.declared.item.Item.{Item}
 use Rattle.message_values.specs.declared.item.BlobChange.{BlobChange}
 use Rattle.message_values.specs.declared.refusal.Refusal.{Refusal}
 use Rattle.message_values.specs.declared.refusal.Refusal.TheVariants.{NodeTwice, UnknownNode, EditOutOfRange, RemoveDiffers, PerspectiveOutOfRange, Limit, BlobTwice, UnknownBlob}
-use Rattle.buffer_rules.specs.Preparing.{Buffer, prepared, empty}
+use Rattle.buffer_rules.specs.Preparing.{Buffer, prepared, empty_buffer}
 use Rattle.buffer_rules.specs.Examples.{opens, edits, shows, closes, sees, range, then, accepted, refusal_of, refused}
 use Rattle.buffer_rules.specs.Worked.{three_axioms, one_lemma}
 
@@ -55,18 +55,20 @@ of_blobs buffer items blobs =
 
 -- blobs come behind the items, in their own order
 pub record BlobsRefused : Type 0 where
-  pub twice : of_blobs empty [] (set (codes "x") ∷ set (codes "x") ∷ []) ≡ Some BlobTwice
-  pub unknown : of_blobs empty [] (removed (codes "z") ∷ []) ≡ Some UnknownBlob
-  pub unknown_first : of_blobs empty [] (removed (codes "z") ∷ removed (codes "z") ∷ [])
+  pub twice : of_blobs empty_buffer [] (set (codes "x") ∷ set (codes "x") ∷ []) ≡ Some BlobTwice
+  pub unknown : of_blobs empty_buffer [] (removed (codes "z") ∷ []) ≡ Some UnknownBlob
+  pub unknown_first : of_blobs empty_buffer [] (removed (codes "z") ∷ removed (codes "z") ∷ [])
       ≡ Some UnknownBlob
-  pub twice_first : of_blobs empty [] (set (codes "z") ∷ removed (codes "z") ∷ []) ≡ Some BlobTwice
-  pub items_first : of_blobs empty (closes (codes "Z") ∷ []) (removed (codes "z") ∷ [])
+  pub twice_first : of_blobs empty_buffer [] (set (codes "z") ∷ removed (codes "z") ∷ []) ≡ Some
+      BlobTwice
+  pub items_first : of_blobs empty_buffer (closes (codes "Z") ∷ []) (removed (codes "z") ∷ [])
       ≡ Some UnknownNode
 
 -- the limit on live versions comes last
 pub record TooManyVersions : Type 0 where
-  pub one_less : refusal_of (prepared empty 63 (record { items = []; blobs = [] })) ≡ None
-  pub limit : refusal_of (prepared empty 64 (record { items = []; blobs = [] })) ≡ Some Limit
+  pub one_less : refusal_of (prepared empty_buffer 63 (record { items = []; blobs = [] })) ≡ None
+  pub limit : refusal_of (prepared empty_buffer 64 (record { items = []; blobs = [] })) ≡ Some
+      Limit
   pub last : refusal_of (prepared one_lemma 64 (record { items = far ∷ []; blobs = [] }))
       ≡ Some EditOutOfRange
 
@@ -95,7 +97,7 @@ pub record Perspectives : Type 0 where
 
 -- a node that loads a blob
 abbrev pub loading : Buffer
-loading = accepted empty (prepared empty 0
+loading = accepted empty_buffer (prepared empty_buffer 0
     (record {
       items = opens (codes "A") (codes "theory A begin load \"x\" end") ∷ [];
       blobs = set (codes "x") ∷ [];

@@ -1,13 +1,13 @@
 -- What updates of small documents make of ids, computed (this project's own).
 use Rattle.std.specs.Prelude.{◌≡◌, [], ◌∷◌, codes}
 use Rattle.text_edits.specs.declared.edit.Edit.TheVariants.{Insert, Remove}
-use Rattle.buffer_rules.specs.Preparing.{Buffer, empty}
+use Rattle.buffer_rules.specs.Preparing.{Buffer, empty_buffer}
 use Rattle.buffer_rules.specs.Examples.{opens, edits, closes, then, ids_in, places_in}
 
 -- a theory of three axioms
 abbrev pub three_axioms : Buffer
 three_axioms =
-    then empty (opens (codes "A")
+    then empty_buffer (opens (codes "A")
     (codes "theory A begin axiom a: \"P\" axiom b: \"Q\" axiom c: \"R\" end") ∷ [])
 
 -- one command changes: it has a new id, and those around it keep theirs; the node is closed and
@@ -23,7 +23,7 @@ pub record AChangedText : Type 0 where
 
 -- a theory of one lemma
 abbrev pub one_lemma : Buffer
-one_lemma = then empty
+one_lemma = then empty_buffer
     (opens (codes "A") (codes "theory A begin lemma l: \"P --> P\" by (impI h h) end") ∷ [])
 
 -- the same inside a comment that doesn't end
@@ -44,14 +44,14 @@ pub record AnOpenComment : Type 0 where
 
 -- equal commands: the front is taken before the back
 pub record EqualCommands : Type 0 where
-  pub front : ids_in (then (then empty
+  pub front : ids_in (then (then empty_buffer
       (opens (codes "A") (codes "theory A begin axiom a: \"P\" axiom a: \"P\" end") ∷ []))
       (edits (codes "A") (Insert 15 (codes "axiom a: \"P\" ") ∷ []) ∷ []))
       ≡ (codes "A", 1 ∷ 2 ∷ 3 ∷ 5 ∷ 4 ∷ []) ∷ []
 
 -- two nodes of which the second imports the first
 abbrev pub importing : Buffer
-importing = then empty
+importing = then empty_buffer
     (opens (codes "A") (codes "theory A begin axiom a: \"P\" end")
     ∷ opens (codes "B") (codes "theory B imports A begin lemma b: \"P\" by a end") ∷ [])
 
@@ -68,7 +68,7 @@ pub record TwoNodes : Type 0 where
 
 -- a node whose header names a command, and one that imports it and uses the name
 abbrev pub aliased : Buffer
-aliased = then empty
+aliased = then empty_buffer
     (opens (codes "A") (codes "theory A keywords claim = \"lemma\" begin end")
     ∷ opens (codes "B")
     (codes "theory B imports A begin claim l: \"P --> P\" by (impI h h) end") ∷ [])

@@ -4,7 +4,7 @@ ghost use Rattle.std.specs.Prelude.{◌≡◌, ◌↔◌, ℕ, List, length, map
 ghost use Rattle.text_edits.specs.declared.edit.Edit.{Edit};
 ghost use Rattle.text_edits.specs.Edits.{AppliesList};
 ghost use Rattle.buffer_rules.specs.Texts.{edit_all};
-ghost use Rattle.buffer_rules.specs.Numbers.{Command, kept, ids_of, IsLongestKept, IsNumbered};
+ghost use Rattle.buffer_rules.specs.Numbers.{Command, kept_runs, ids_of, IsLongestKept, IsNumbered};
 ghost use Rattle.buffer_rules.specs.Worked.{AChangedText, AnOpenComment, EqualCommands, TwoNodes, AnAlias};
 ghost use Rattle.buffer_rules.specs.Refused.{ItemsRefused, BlobsRefused, TooManyVersions, Perspectives, ALoad};
 
@@ -25,14 +25,14 @@ pub fn worked_examples()
 /// The commands that keep their ids are the longest front of equal sources, and then the longest
 /// back of what is left.
 pub fn kept_law()
-    ensures { (before now : List (List ℕ)) → IsLongestKept before now (kept before now) }
+    ensures { (before now : List (List ℕ)) → IsLongestKept before now (kept_runs before now) }
 {}
 
 /// Commands that keep their ids have those that they had; the others have the next ones, in the
 /// order of their places.
 pub fn ids_law()
     ensures { (before : List Command) (now : List (List ℕ)) (next : ℕ) → IsNumbered
-        (kept (map (λ c. c.1) before) now) (map (λ c. c.0) before) (length now) next
+        (kept_runs (map (λ c. c.1) before) now) (map (λ c. c.0) before) (length now) next
         (ids_of before now next) }
 {}
 

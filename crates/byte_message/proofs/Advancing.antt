@@ -4,7 +4,7 @@ use Rattle.std.proofs.lemmas.List.{append-nil}
 use Rattle.std.specs.Prelude.{OnOk}
 use Rattle.byte_message.specs.Heading.{heading}
 use Rattle.byte_message.specs.Heading.Heading.{Faulty}
-use Rattle.byte_message.specs.Stream.{IsSpelling, IsShort, told, placed}
+use Rattle.byte_message.specs.Stream.{IsSpelling, IsShort, told_place, placed_fault}
 use Rattle.byte_message.specs.Feeding.{Continues}
 use Rattle.byte_message.specs.declared.line_fault.LineFault.{LineFault}
 use Rattle.byte_message.specs.declared.frame_fault.FrameFault.{FrameFault}
@@ -38,7 +38,7 @@ keeps-all old piece rest n e short = record {
 }
 
 -- a line is at fault
-pub turns-bad : (old : Framing) (piece : List ℕ) (wrong : LineFault) (fault : FrameFault) → old.at < 2 ^ 64 → heading (old.rest ++ piece) ≡ Faulty wrong → fault ≡ placed old.at wrong
+pub turns-bad : (old : Framing) (piece : List ℕ) (wrong : LineFault) (fault : FrameFault) → old.at < 2 ^ 64 → heading (old.rest ++ piece) ≡ Faulty wrong → fault ≡ placed_fault old.at wrong
     → Advances old piece (record { waiting = old.waiting; at = old.at; rest = []; fault = Some fault })
 turns-bad old piece wrong fault n bad at = record {
   made = [];
@@ -50,12 +50,13 @@ turns-bad old piece wrong fault n bad at = record {
 
 -- the message in progress is whole, and what follows was read
 pub reads-on : (old new : Framing) (piece front after rest : List ℕ) (m : List (List ℕ)) (before made : List (List (List ℕ))) (from to : ℕ) (kept : List ℕ) (fault : Option FrameFault)
-    → old.rest ++ piece ≡ front ++ after → IsSpelling front m → from ≡ told (old.at + length front) → before ≡ m ∷ []
+    → old.rest ++ piece ≡ front ++ after → IsSpelling front m
+    → from ≡ told_place (old.at + length front) → before ≡ m ∷ []
     → Reached before from after made to rest → KeepsRest fault to rest kept
     → new.waiting ≡ old.waiting ++ made → new.at ≡ to → new.rest ≡ kept → new.fault ≡ fault
     → Advances old piece new
 reads-on old new piece front after rest m before made from to kept fault split one place first reached keeps waiting at same bad =
-    let step : Reached [] old.at (front ++ after) (m ∷ []) (told (old.at + length front)) after = reached-one [] old.at front after m one in
+    let step : Reached [] old.at (front ++ after) (m ∷ []) (told_place (old.at + length front)) after = reached-one [] old.at front after m one in
     let here : Reached [] old.at (old.rest ++ piece) (m ∷ []) from after = rw (split, place) step in
     let there : Reached (m ∷ []) from after made new.at rest = rw at (rw first at reached) in
     record {

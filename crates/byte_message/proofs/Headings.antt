@@ -2,7 +2,7 @@
 use Rattle.std.proofs.Common.{◌≡◌, ℕ, ◌<◌, ◌≤◌, Bool, true, false, cond, nat_lt, List, [], ◌∷◌, ◌++◌, length, Option, Some, None, refl, ap, ◌∙◌, arith, Result, Ok, Err, append_assoc}
 use Rattle.std.proofs.lemmas.List.{length-append, append-nil}
 use Rattle.byte_message.specs.Line.{judge}
-use Rattle.byte_message.specs.Heading.{heading, heading_of, judged, line_of, after_line}
+use Rattle.byte_message.specs.Heading.{heading, heading_of, judged_heading, line_of, after_line}
 use Rattle.byte_message.specs.Heading.Heading.{Fit, Faulty, Unended}
 use Rattle.byte_message.specs.declared.line_fault.LineFault.{LineFault}
 use Rattle.byte_message.specs.declared.line_fault.LineFault.TheVariants.{BadHeader}
@@ -33,7 +33,8 @@ pub after-found : (a b x : List ℕ) → after_line a ≡ Some b → after_line 
 after-found [] b x e = cc
 after-found (c ∷ a) b x e = let ih = after-found a b x in grind (arith, ih)
 
-judged_ended : (r : Result (List ℕ) LineFault) (body : List ℕ) → judged r body ≡ Unended → ⊥
+judged_ended : (r : Result (List ℕ) LineFault) (body : List ℕ) → judged_heading r body ≡ Unended
+    → ⊥
 judged_ended (Ok ls) body e = cc
 judged_ended (Err f) body e = cc
 
@@ -67,7 +68,7 @@ judge_over line n = let f : nat_lt 200 (length line) ≡ true = grind arith in r
 
 over_of : (line : List ℕ) (o : Option (List ℕ)) → 200 < length line → heading_of line o ≡ Faulty BadHeader
 over_of line None n = let f : nat_lt 200 (length line) ≡ true = grind arith in rw f refl
-over_of line (Some body) n = ap (λ r. judged r body) (judge_over line n)
+over_of line (Some body) n = ap (λ r. judged_heading r body) (judge_over line n)
 
 -- more than 200 bytes without a newline
 pub heading-over : (h x : List ℕ) → after_line h ≡ None → 200 < length h → heading (h ++ x) ≡ Faulty BadHeader
@@ -77,23 +78,23 @@ heading-over h x e n =
     over_of (line_of (h ++ x)) (after_line (h ++ x)) (omega arith)
 
 -- a line that goes on to its newline
-pub heading-newline : (h p b : List ℕ) → after_line h ≡ None → after_line p ≡ Some b → heading (h ++ p) ≡ judged (judge (h ++ line_of p)) b
+pub heading-newline : (h p b : List ℕ) → after_line h ≡ None → after_line p ≡ Some b → heading (h ++ p) ≡ judged_heading (judge (h ++ line_of p)) b
 heading-newline h p b e f = ap (λ l. heading_of l (after_line (h ++ p))) (line-on h p e) ∙ ap (λ o. heading_of (h ++ line_of p) o) (after-on h p e ∙ f)
 
 -- a line and its newline, whatever follows
-pub heading-line : (line body : List ℕ) → after_line line ≡ None → heading ((line ++ 10 ∷ []) ++ body) ≡ judged (judge line) body
+pub heading-line : (line body : List ℕ) → after_line line ≡ None → heading ((line ++ 10 ∷ []) ++ body) ≡ judged_heading (judge line) body
 heading-line line body e =
-    rw (append_assoc line (10 ∷ []) body) (heading-newline line (10 ∷ body) body e refl ∙ ap (λ l. judged (judge l) body) (append-nil line))
+    rw (append_assoc line (10 ∷ []) body) (heading-newline line (10 ∷ body) body e refl ∙ ap (λ l. judged_heading (judge l) body) (append-nil line))
 
-judged_more : (r : Result (List ℕ) LineFault) (ls b c x : List ℕ) → judged r b ≡ Fit ls c → judged r (b ++ x) ≡ Fit ls (c ++ x)
+judged_more : (r : Result (List ℕ) LineFault) (ls b c x : List ℕ) → judged_heading r b ≡ Fit ls c → judged_heading r (b ++ x) ≡ Fit ls (c ++ x)
 judged_more (Ok ms) ls b c x e = cc
 judged_more (Err f) ls b c x e = cc
 
-judged_faulty : (r : Result (List ℕ) LineFault) (f : LineFault) (b x : List ℕ) → judged r b ≡ Faulty f → judged r x ≡ Faulty f
+judged_faulty : (r : Result (List ℕ) LineFault) (f : LineFault) (b x : List ℕ) → judged_heading r b ≡ Faulty f → judged_heading r x ≡ Faulty f
 judged_faulty (Ok ms) f b x e = cc
 judged_faulty (Err g) f b x e = cc
 
-more_of : (a x : List ℕ) (o : Option (List ℕ)) (b : List ℕ) → after_line a ≡ Some b → heading (a ++ x) ≡ judged (judge (line_of a)) (b ++ x)
+more_of : (a x : List ℕ) (o : Option (List ℕ)) (b : List ℕ) → after_line a ≡ Some b → heading (a ++ x) ≡ judged_heading (judge (line_of a)) (b ++ x)
 more_of a x o b e = ap (λ l. heading_of l (after_line (a ++ x))) (line-found a b x e) ∙ ap (λ q. heading_of (line_of a) q) (after-found a b x e)
 
 pub never_fit : (q : Bool) (ls c : List ℕ) → cond q (Faulty BadHeader) Unended ≡ Fit ls c → ⊥

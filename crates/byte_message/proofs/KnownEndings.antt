@@ -7,7 +7,7 @@ use Rattle.byte_message.specs.Chunks.{cut}
 use Rattle.byte_message.specs.Heading.{Heading, heading}
 use Rattle.byte_message.specs.Heading.Heading.{Fit, Faulty, Unended}
 use Rattle.byte_message.specs.Kept.{Framing, KeepsRest, Stands}
-use Rattle.byte_message.specs.Stream.{IsSpelling, AreSpelled, IsShort, IsReadAs, EndsAs, Ending, told, placed}
+use Rattle.byte_message.specs.Stream.{IsSpelling, AreSpelled, IsShort, IsReadAs, EndsAs, Ending, told_place, placed_fault}
 use Rattle.byte_message.specs.Stream.Ending.{Whole, Bad, Short}
 use Rattle.byte_message.specs.Feeding.{ending_by, ending_of}
 use Rattle.byte_message.specs.declared.line_fault.LineFault.{LineFault}
@@ -15,13 +15,13 @@ use Rattle.byte_message.specs.declared.frame_fault.FrameFault.{FrameFault}
 use Rattle.byte_message.proofs.Headings.{heading-more}
 use Rattle.byte_message.proofs.Cutting.{cut-concat, sum-lengths}
 
-ends_by : (fault : Option FrameFault) (at place : ℕ) (rest kept : List ℕ) → at ≡ told place → KeepsRest fault at rest kept → EndsAs place rest (ending_by fault at kept)
-ends_by (Some fault) at place rest kept e k = (k.0, k.1, k.2 ∙ ap (λ p. placed p k.0) e)
+ends_by : (fault : Option FrameFault) (at place : ℕ) (rest kept : List ℕ) → at ≡ told_place place → KeepsRest fault at rest kept → EndsAs place rest (ending_by fault at kept)
+ends_by (Some fault) at place rest kept e k = (k.0, k.1, k.2 ∙ ap (λ p. placed_fault p k.0) e)
 ends_by None at place rest [] e k = k.0
 ends_by None at place rest (b ∷ kept) e k = let l : length rest ≡ length (b ∷ kept) = ap length k.0 in (omega arith, k.1, e)
 
 pub reads : (stream : List ℕ) (taken : List (List (List ℕ))) (now : Framing) → Stands stream taken now → IsReadAs stream (taken ++ now.waiting) (ending_of now)
-reads stream taken now s = let p = s.reached.place in let at : now.at ≡ told (length s.reached.front) = omega arith in record {
+reads stream taken now s = let p = s.reached.place in let at : now.at ≡ told_place (length s.reached.front) = omega arith in record {
   front = s.reached.front;
   rest = s.rest;
   whole = s.reached.whole;
@@ -105,7 +105,7 @@ endings_same place rest (Bad f) Whole (w, bad, p) y = absurd (empty_bad rest w y
 endings_same place rest (Bad f) (Bad g) (w, bad, p) (v, wrong, q) =
     let both : Faulty w ≡ Faulty v = sym bad ∙ wrong in
     let same : w ≡ v = cc in
-    ap (λ z. Bad z) (p ∙ ap (λ z. placed (told place) z) same ∙ sym q)
+    ap (λ z. Bad z) (p ∙ ap (λ z. placed_fault (told_place place) z) same ∙ sym q)
 endings_same place rest (Bad f) (Short at) (w, bad, p) (some, short, q) = absurd (bad_short rest w bad short)
 endings_same place rest (Short at) Whole (some, short, p) y = absurd (empty_short rest y some)
 endings_same place rest (Short at) (Bad f) (some, short, p) (w, bad, q) = absurd (bad_short rest w bad short)

@@ -4,9 +4,9 @@ use Rattle.std.proofs.lemmas.List.{length-append, take-append-drop, length-take-
 use Rattle.std.proofs.lemmas.Bool.{cases_lt}
 use Rattle.byte_message.specs.Chunks.{cut}
 use Rattle.byte_message.specs.Line.{judge}
-use Rattle.byte_message.specs.Heading.{Heading, heading, heading_of, judged, line_of, after_line}
+use Rattle.byte_message.specs.Heading.{Heading, heading, heading_of, judged_heading, line_of, after_line}
 use Rattle.byte_message.specs.Heading.Heading.{Fit, Faulty, Unended}
-use Rattle.byte_message.specs.Stream.{IsSpelling, AreSpelled, IsShort, IsReadAs, EndsAs, Ending, told, placed}
+use Rattle.byte_message.specs.Stream.{IsSpelling, AreSpelled, IsShort, IsReadAs, EndsAs, Ending, told_place, placed_fault}
 use Rattle.byte_message.specs.Stream.Ending.{Whole, Bad, Short}
 use Rattle.byte_message.specs.declared.line_fault.LineFault.{LineFault}
 use Rattle.byte_message.specs.declared.frame_fault.FrameFault.{FrameFault}
@@ -15,7 +15,8 @@ use Rattle.byte_message.proofs.KnownSpelled.{spelled-append}
 use Rattle.byte_message.proofs.Spelled.{spelled-by}
 use Rattle.byte_message.proofs.Newlines.{newline_at}
 
-judged_ok : (r : Result (List ℕ) LineFault) (ls b c : List ℕ) → judged r b ≡ Fit ls c → (r ≡ Ok ls) × (b ≡ c)
+judged_ok : (r : Result (List ℕ) LineFault) (ls b c : List ℕ) → judged_heading r b ≡ Fit ls c
+    → (r ≡ Ok ls) × (b ≡ c)
 judged_ok (Ok ms) ls b c e = (cc, cc)
 judged_ok (Err f) ls b c e = absurd (let no : ⊥ = cc in no)
 
@@ -28,7 +29,7 @@ headed_of bytes ls body (Some after) e f =
     let whole : bytes ≡ (line_of bytes ++ 10 ∷ []) ++ body =
     newline_at bytes after e ∙ ap (λ (x : List ℕ). line_of bytes ++ 10 ∷ x) p.1 ∙ sym (append_assoc (line_of bytes) (10 ∷ []) body) in
     let long = length-append (line_of bytes) (10 ∷ []) in
-    (line_of bytes ++ 10 ∷ [], whole, omega arith, λ other. heading-line (line_of bytes) other (after-line bytes) ∙ ap (λ (r : Result (List ℕ) LineFault). judged r other) p.0)
+    (line_of bytes ++ 10 ∷ [], whole, omega arith, λ other. heading-line (line_of bytes) other (after-line bytes) ∙ ap (λ (r : Result (List ℕ) LineFault). judged_heading r other) p.0)
 
 -- messages from a place on, and how what follows them ends
 record Reads (place : ℕ) (bytes : List ℕ) : Type 0 where
@@ -47,7 +48,8 @@ reads-none place bytes ending e =
 
 reads-short : (place : ℕ) (bytes : List ℕ) → IsShort bytes → Reads place bytes
 reads-short place [] s = reads-none place [] Whole refl
-reads-short place (b ∷ bytes) s = reads-none place (b ∷ bytes) (Short (told place)) (omega arith, s, refl)
+reads-short place (b ∷ bytes) s = reads-none place (b ∷ bytes) (Short (told_place place))
+    (omega arith, s, refl)
 
 reads-more : (place : ℕ) (bytes first after : List ℕ) (m : List (List ℕ)) → bytes ≡ first ++ after → IsSpelling first m → Reads (place + length first) after → Reads place bytes
 reads-more place bytes first after m e one r =
@@ -86,7 +88,8 @@ reads-within (suc most) place bytes few = by_heading (λ at after less. reads-wi
 
     by_heading : ((at : ℕ) (after : List ℕ) → length after < most → Reads at after) → (h : Heading) → heading bytes ≡ h → Reads place bytes
     by_heading on (Fit ls body) e = by_body on ls body e (cases_lt (length body) (sum ls))
-    by_heading on (Faulty wrong) e = reads-none place bytes (Bad (placed (told place) wrong)) (wrong, e, refl)
+    by_heading on (Faulty wrong) e = reads-none place bytes
+        (Bad (placed_fault (told_place place) wrong)) (wrong, e, refl)
     by_heading on Unended e = reads-short place bytes (inl e)
 
 reads-all : (place : ℕ) (bytes : List ℕ) → Reads place bytes

@@ -3,7 +3,7 @@ use Rattle.std.proofs.Common.{◌≡◌, ℕ, ◌+◌, ◌<◌, ◌≤◌, List,
 use Rattle.std.proofs.lemmas.List.{length-append, take-append-drop, length-take-le, take-append-le, drop-append-le}
 use Rattle.std.proofs.Math.Seq.{take-append_seam}
 use Rattle.byte_message.specs.Line.{judge}
-use Rattle.byte_message.specs.Heading.{heading, judged, line_of, after_line}
+use Rattle.byte_message.specs.Heading.{heading, judged_heading, line_of, after_line}
 use Rattle.byte_message.specs.Heading.Heading.{Fit, Faulty, Unended}
 use Rattle.byte_message.specs.declared.line_fault.LineFault.{LineFault}
 use Rattle.byte_message.specs.declared.line_fault.LineFault.TheVariants.{BadHeader}
@@ -30,12 +30,12 @@ found-after n p k h g f =
 pub headed : (h p ls : List ℕ) (k : ℕ) → heading h ≡ Unended → line_of p ≡ take k p → judge (h ++ take k p) ≡ Ok ls → (body : List ℕ) → heading (((h ++ take k p) ++ 10 ∷ []) ++ body) ≡ Fit ls body
 headed h p ls k e f g body =
     let none : after_line (h ++ take k p) ≡ None = after-on h (take k p) (unended-after h e) ∙ ap after_line (sym f) ∙ after-line p in
-    heading-line (h ++ take k p) body none ∙ ap (λ r. judged r body) g
+    heading-line (h ++ take k p) body none ∙ ap (λ r. judged_heading r body) g
 
 -- a line at fault
 pub at_fault : (h p : List ℕ) (k : ℕ) (g : LineFault) → heading h ≡ Unended → line_of p ≡ take k p → after_line p ≡ Some (drop (k + 1) p) → judge (h ++ take k p) ≡ Err g → heading (h ++ p) ≡ Faulty g
 at_fault h p k g e f a r =
-    heading-newline h p (drop (k + 1) p) (unended-after h e) a ∙ ap (λ l. judged (judge (h ++ l)) (drop (k + 1) p)) f ∙ ap (λ q. judged q (drop (k + 1) p)) r
+    heading-newline h p (drop (k + 1) p) (unended-after h e) a ∙ ap (λ l. judged_heading (judge (h ++ l)) (drop (k + 1) p)) f ∙ ap (λ q. judged_heading q (drop (k + 1) p)) r
 
 -- no newline in the whole piece, or in its first bytes
 pub still_unended : (h p : List ℕ) → heading h ≡ Unended → after_line p ≡ None → length h + length p ≤ 200 → heading (h ++ p) ≡ Unended

@@ -6,7 +6,7 @@ use Rattle.std.proofs.lemmas.Str.Parse.{IsNumeralModel, numerals_by_fold}
 use Rattle.std.specs.Fmt.{decimal}
 use Rattle.std.specs.List.{AllByRecursion, join_with_byte, list_all}
 use Rattle.std.proofs.lemmas.Bool.{and_parts}
-use Rattle.byte_message.specs.Line.{is_digit, is_numeral, value_on, onto_first, between_commas, numbers}
+use Rattle.byte_message.specs.Line.{is_digit, is_numeral, value_on, onto_first, between_commas, comma_numbers}
 
 own : IsNumeralModel (λ ds. list_all is_digit ds ≡ true) (value_on 0)
 own = numerals_by_fold _ (search rules) value_on (search rules)
@@ -67,7 +67,8 @@ values : (ns : List ℕ) → Fine ns → map (λ numeral. value_on 0 numeral) (m
 values [] f = refl
 values (n ∷ ns) (h, f) = let v = digits_value-decimal own n (small n h) in rw v (ap (λ x. n ∷ x) (values ns f))
 
-pub numbers-line : (n : ℕ) (ns : List ℕ) → Fine (n ∷ ns) → numbers (line_for (n ∷ ns)) ≡ Some (n ∷ ns)
+pub numbers-line : (n : ℕ) (ns : List ℕ) → Fine (n ∷ ns)
+    → comma_numbers (line_for (n ∷ ns)) ≡ Some (n ∷ ns)
 numbers-line n ns f =
     let e = fields n ns f in
     let a = all_numerals (n ∷ ns) f in

@@ -4,7 +4,7 @@ use Rattle.std.proofs.lemmas.List.{length-map}
 use Rattle.std.specs.List.{list_all}
 use Rattle.std.specs.Option.{unwrap_or}
 use Rattle.text_words.proofs.KnownLists.{sum_cons}
-use Rattle.byte_message.specs.Line.{is_digit, is_numeral, value_on, onto_first, between_commas, numbers, too_long, judge_lengths, judge_numbers, judge, without_cr}
+use Rattle.byte_message.specs.Line.{is_digit, is_numeral, value_on, onto_first, between_commas, comma_numbers, too_long, judge_lengths, judge_numbers, judge, without_cr}
 use Rattle.byte_message.specs.Scan.{clamp, grown, scan}
 use Rattle.byte_message.specs.declared.line_fault.LineFault.TheVariants.{BadHeader, TooMany}
 
@@ -73,7 +73,7 @@ all_numbers : (fields : List (List ℕ)) → numbers_on None fields ≡ cond (li
 all_numbers [] = refl
 all_numbers (first ∷ others) = refl
 
-pub scan-numbers : (text : List ℕ) → scan None text ≡ clamped (numbers text)
+pub scan-numbers : (text : List ℕ) → scan None text ≡ clamped (comma_numbers text)
 scan-numbers text = scan_is text None ∙ ap clamped (all_numbers (between_commas text))
 
 -- lengths that are too long are told as such
@@ -137,13 +137,14 @@ fit_line true o ls f = cc
 fit_line false o ls f = fit_numbers o ls f
 
 pub judge-small : (line ls : List ℕ) → judge line ≡ Ok ls → sum ls < 2 ^ 30
-judge-small line ls f = fit_line (nat_lt 200 (length line)) (numbers (without_cr line)) ls f
+judge-small line ls f = fit_line (nat_lt 200 (length line)) (comma_numbers (without_cr line)) ls f
 
-pub scan_judged : (text : List ℕ) → judge_numbers (scan None text) ≡ judge_numbers (numbers text)
-scan_judged text = ap judge_numbers (scan-numbers text) ∙ judge-clamped (numbers text)
+pub scan_judged : (text : List ℕ)
+    → judge_numbers (scan None text) ≡ judge_numbers (comma_numbers text)
+scan_judged text = ap judge_numbers (scan-numbers text) ∙ judge-clamped (comma_numbers text)
 
 -- a line is judged by its numbers
 pub judge_by : (line text : List ℕ) (o : Option (List ℕ)) → length line ≤ 200 → text ≡ without_cr line → o ≡ scan None text → judge_numbers o ≡ judge line
 judge_by line text o n e f =
     let q : nat_lt 200 (length line) ≡ false = grind arith in
-    rw q (ap judge_numbers f ∙ scan_judged text ∙ ap (λ t. judge_numbers (numbers t)) e)
+    rw q (ap judge_numbers f ∙ scan_judged text ∙ ap (λ t. judge_numbers (comma_numbers t)) e)

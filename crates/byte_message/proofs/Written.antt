@@ -5,7 +5,7 @@ use Rattle.std.specs.Fmt.{decimal}
 use Rattle.std.specs.List.{AllByRecursion, concat, join_with_byte, list_all, slice_index_or}
 use Rattle.std.proofs.lemmas.Bool.{and_parts}
 use Rattle.byte_message.specs.Line.{is_digit, too_long, judge, judge_numbers}
-use Rattle.byte_message.specs.Heading.{heading, judged, after_line}
+use Rattle.byte_message.specs.Heading.{heading, judged_heading, after_line}
 use Rattle.byte_message.specs.Stream.{IsMessage, IsSpelling, plain_spelling}
 use Rattle.byte_message.proofs.Headings.{heading-line}
 use Rattle.byte_message.proofs.Numbers.{IsPlain, digit_range, line_for, Fine, digits, numbers-line, line_len}
@@ -76,7 +76,7 @@ written (chunk ∷ chunks) m =
     let line = line_for (map length all) in
     let split : plain_spelling all ≡ (line ++ 10 ∷ []) ++ body = ap (λ x. join_with_byte 44 x ++ (10 ∷ body)) (in_decimal all) ∙ sym (append_assoc line (10 ∷ []) body) in
     ap heading split ∙ heading-line line body (no_newline line (plain_line (map length all) f))
-    ∙ ap (λ r. judged r body) (fit-line (length chunk) (map length chunks) f count)
+    ∙ ap (λ r. judged_heading r body) (fit-line (length chunk) (map length chunks) f count)
 
 short_length : (chunks : List (List ℕ)) → AllByRecursion (λ chunk. length chunk ≤ 16777216) chunks → length (concat chunks) ≤ length chunks * 16777216
 short_length [] h = omega arith

@@ -3,7 +3,7 @@ use Rattle.std.specs.Prelude.{◌≡◌, ◌⊎◌, ℕ, ◌+◌, ◌≤◌, ◌
 use Rattle.byte_message.specs.Heading.{heading}
 use Rattle.byte_message.specs.Heading.Heading.{Faulty}
 use Rattle.byte_message.specs.Kept.{Framing}
-use Rattle.byte_message.specs.Stream.{IsSpelling, IsShort, told, placed}
+use Rattle.byte_message.specs.Stream.{IsSpelling, IsShort, told_place, placed_fault}
 use Rattle.byte_message.specs.declared.line_fault.LineFault.{LineFault}
 use Rattle.byte_message.specs.declared.frame_fault.FrameFault.{FrameFault}
 use Rattle.byte_message.specs.declared.fault.FeedError.{FeedError}
@@ -15,7 +15,7 @@ pub record MakesWhole (old : Framing) (front : List ℕ) (new : Framing) : Type 
   pub message : List (List ℕ)
   pub spelled : IsSpelling (old.rest ++ front) message
   pub waiting : new.waiting ≡ old.waiting ++ message ∷ []
-  pub at : new.at ≡ told (old.at + length (old.rest ++ front))
+  pub at : new.at ≡ told_place (old.at + length (old.rest ++ front))
   pub rest : new.rest ≡ []
   pub fault : new.fault ≡ None
 
@@ -33,7 +33,7 @@ pub record TurnsBad (old : Framing) (piece : List ℕ) (new : Framing) : Type 0 
   pub faulty : heading (old.rest ++ piece) ≡ Faulty wrong
   pub waiting : new.waiting ≡ old.waiting
   pub at : new.at ≡ old.at
-  pub fault : new.fault ≡ Some (placed old.at wrong)
+  pub fault : new.fault ≡ Some (placed_fault old.at wrong)
 
 -- so many bytes of the piece are taken, which are all where they make no message
 abbrev pub LeadsOn : Framing → List ℕ → Framing → ℕ → Type 0

@@ -22,14 +22,14 @@ after_line [] = None
 after_line (b ∷ bs) = cond (b == 10) (Some bs) (after_line bs)
 
 -- by what came of judging the line, with the bytes after its newline
-abbrev pub judged : Result (List ℕ) LineFault → List ℕ → Heading
-judged (Ok lengths) body = Fit lengths body
-judged (Err fault) body = Faulty fault
+abbrev pub judged_heading : Result (List ℕ) LineFault → List ℕ → Heading
+judged_heading (Ok lengths) body = Fit lengths body
+judged_heading (Err fault) body = Faulty fault
 
 -- by the bytes before the first newline and those after it, if there is one
 abbrev pub heading_of : List ℕ → Option (List ℕ) → Heading
 heading_of line None = cond (nat_lt longest_line (length line)) (Faulty BadHeader) Unended
-heading_of line (Some body) = judged (judge line) body
+heading_of line (Some body) = judged_heading (judge line) body
 
 -- a line is judged when its newline is there, or when one byte too many without one is (this
 -- project's own)

@@ -2,7 +2,7 @@
 use Rattle.std.specs.Prelude.{◌≡◌, ℕ, ◌+◌, List, [], ◌++◌, length, Option, Some, None}
 use Rattle.byte_message.specs.Heading.{heading}
 use Rattle.byte_message.specs.Heading.Heading.{Faulty}
-use Rattle.byte_message.specs.Stream.{AreSpelled, told, placed, IsShort}
+use Rattle.byte_message.specs.Stream.{AreSpelled, told_place, placed_fault, IsShort}
 use Rattle.byte_message.specs.declared.line_fault.LineFault.{LineFault}
 use Rattle.byte_message.specs.declared.frame_fault.FrameFault.{FrameFault}
 
@@ -22,13 +22,13 @@ pub record Reached (before : List (List (List ℕ))) (from : ℕ) (bytes : List 
   pub whole : bytes ≡ front ++ rest
   pub spelled : AreSpelled front more
   pub made : after ≡ before ++ more
-  pub place : to ≡ told (from + length front)
+  pub place : to ≡ told_place (from + length front)
 
 -- a rest is kept, less than a message, or judged as a fault
 abbrev pub KeepsRest : Option FrameFault → ℕ → List ℕ → List ℕ → Type 0
 KeepsRest None at rest kept = (rest ≡ kept) × IsShort rest
 KeepsRest (Some fault) at rest kept =
-    (wrong : LineFault) × (heading rest ≡ Faulty wrong) × (fault ≡ placed at wrong)
+    (wrong : LineFault) × (heading rest ≡ Faulty wrong) × (fault ≡ placed_fault at wrong)
 
 -- the decoder has read this stream, and handed out the messages that were taken: those that
 -- wait come next (this project's own)

@@ -30,8 +30,8 @@ between_commas [] = [] ∷ []
 between_commas (b ∷ bs) = cond (b == 44) ([] ∷ between_commas bs) (onto_first b (between_commas bs))
 
 -- the decimal numbers that a text is, joined by commas
-abbrev pub numbers : List ℕ → Option (List ℕ)
-numbers text = cond (list_all is_numeral (between_commas text))
+abbrev pub comma_numbers : List ℕ → Option (List ℕ)
+comma_numbers text = cond (list_all is_numeral (between_commas text))
     (Some (map (λ numeral. value_on 0 numeral) (between_commas text))) None
 
 -- a line without the CR at its end (this project's own leniency)
@@ -62,4 +62,4 @@ judge_numbers (Some lengths) = cond (nat_lt most_chunks (length lengths))
 abbrev pub judge : List ℕ → Result (List ℕ) LineFault
 judge line =
     cond (nat_lt longest_line (length line)) (Err BadHeader)
-    (judge_numbers (numbers (without_cr line)))
+    (judge_numbers (comma_numbers (without_cr line)))

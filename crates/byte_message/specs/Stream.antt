@@ -21,14 +21,14 @@ AreSpelled bytes (message ∷ messages) = (front : List ℕ) × (rest : List ℕ
     × (bytes ≡ front ++ rest) × IsSpelling front message × AreSpelled rest messages
 
 -- a place in a stream, as a number of 64 bits tells it
-abbrev pub told : ℕ → ℕ
-told place = min place (2 ^ 64 - 1)
+abbrev pub told_place : ℕ → ℕ
+told_place place = min place (2 ^ 64 - 1)
 
 -- a line's fault, with the place where its message begins
-abbrev pub placed : ℕ → LineFault → FrameFault
-placed at BadHeader = frame.BadHeader at
-placed at (TooMany count) = frame.TooMany at count
-placed at (TooLong chunk) = frame.TooLong at chunk
+abbrev pub placed_fault : ℕ → LineFault → FrameFault
+placed_fault at BadHeader = frame.BadHeader at
+placed_fault at (TooMany count) = frame.TooMany at count
+placed_fault at (TooLong chunk) = frame.TooLong at chunk
 
 -- how a stream ends: between messages, at a judged line that isn't fit, or within a message
 pub data Ending : Type 0 where
@@ -46,8 +46,9 @@ IsShort rest = (heading rest ≡ Unended)
 abbrev pub EndsAs : ℕ → List ℕ → Ending → Type 0
 EndsAs place rest Whole = rest ≡ []
 EndsAs place rest (Bad fault) =
-    (wrong : LineFault) × (heading rest ≡ Faulty wrong) × (fault ≡ placed (told place) wrong)
-EndsAs place rest (Short at) = (0 < length rest) × IsShort rest × (at ≡ told place)
+    (wrong : LineFault) × (heading rest ≡ Faulty wrong) ×
+    (fault ≡ placed_fault (told_place place) wrong)
+EndsAs place rest (Short at) = (0 < length rest) × IsShort rest × (at ≡ told_place place)
 
 -- these are the messages of the stream, and this is its ending
 pub record IsReadAs (stream : List ℕ) (messages : List (List (List ℕ)))

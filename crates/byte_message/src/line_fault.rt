@@ -12,11 +12,11 @@ pub enum LineFault {
 
 impl LineFault {
     ghost use Rattle.std.specs.Prelude.{◌≡◌};
-    ghost use Rattle.byte_message.specs.Stream.{placed};
+    ghost use Rattle.byte_message.specs.Stream.{placed_fault};
 
     /// The fault of the message that begins at this byte.
     pub(crate) fn placed(self, at: u64) -> FrameFault
-        ensures { result ≡ placed at self }
+        ensures { result ≡ placed_fault at self }
     {
         match self {
             LineFault::BadHeader => FrameFault::BadHeader { at },

@@ -6,7 +6,7 @@ ghost use Rattle.byte_message.specs.Parts.{rest_of, fault_of};
 ghost use Rattle.byte_message.specs.Begun.{BeginsAs};
 ghost use Rattle.byte_message.specs.Chunks.{cut};
 ghost use Rattle.byte_message.specs.First.{LeadsOn};
-ghost use Rattle.byte_message.specs.Stream.{told};
+ghost use Rattle.byte_message.specs.Stream.{told_place};
 
 use crate::begin::{Begun, begin};
 use crate::message::Message;
@@ -187,7 +187,7 @@ impl State {
     /// many came with the piece.
     fn go_on(&mut self, alloc: Global, held: usize, used: usize)
         ensures waiting { self.new.waiting ≡ self.old.waiting }
-        ensures at { self.new.at ≡ told (self.old.at + (held + used)) }
+        ensures at { self.new.at ≡ told_place (self.old.at + (held + used)) }
         ensures rest { rest_of self.new.part ≡ [] }
         ensures fault { fault_of self.new.part ≡ None }
     {

@@ -2,74 +2,75 @@
 use Rattle.std.proofs.Common.{◌≡◌, [], ◌∷◌, codes, refl}
 use Rattle.std.specs.Prelude.{None}
 use Rattle.clap.proofs.OnLiterals.{clap_on_literals}
-use Rattle.command_words.specs.Asked.{asked}
+use Rattle.command_words.specs.Asked.{words_request}
 use Rattle.command_words.specs.Forms.{AreNotTaken}
 
-none : asked ([]) ≡ None
+none : words_request ([]) ≡ None
 unfolding clap_on_literals
 none = refl
 
-other : asked (codes "server" ∷ []) ≡ None
+other : words_request (codes "server" ∷ []) ≡ None
 unfolding clap_on_literals
 other = refl
 
-many : asked (codes "serve" ∷ codes "--workers" ∷ codes "17" ∷ []) ≡ None
+many : words_request (codes "serve" ∷ codes "--workers" ∷ codes "17" ∷ []) ≡ None
 unfolding clap_on_literals
 many = refl
 
-missing : asked (codes "serve" ∷ codes "--workers" ∷ []) ≡ None
+missing : words_request (codes "serve" ∷ codes "--workers" ∷ []) ≡ None
 unfolding clap_on_literals
 missing = refl
 
-letters : asked (codes "serve" ∷ codes "--workers" ∷ codes "two" ∷ []) ≡ None
+letters : words_request (codes "serve" ∷ codes "--workers" ∷ codes "two" ∷ []) ≡ None
 unfolding clap_on_literals
 letters = refl
 
-twice : asked (codes "serve" ∷ codes "--workers" ∷ codes "1" ∷ codes "--workers" ∷ codes "1" ∷ []) ≡ None
+twice : words_request (codes "serve" ∷ codes "--workers" ∷ codes "1" ∷ codes "--workers" ∷ codes
+    "1" ∷ []) ≡ None
 unfolding clap_on_literals
 twice = refl
 
-more : asked (codes "check" ∷ codes "A.thy" ∷ []) ≡ None
+more : words_request (codes "check" ∷ codes "A.thy" ∷ []) ≡ None
 unfolding clap_on_literals
 more = refl
 
-help : asked (codes "--help" ∷ []) ≡ None
+help : words_request (codes "--help" ∷ []) ≡ None
 unfolding clap_on_literals
 help = refl
 
-zeros : asked (codes "serve" ∷ codes "--workers" ∷ codes "00" ∷ []) ≡ None
+zeros : words_request (codes "serve" ∷ codes "--workers" ∷ codes "00" ∷ []) ≡ None
 unfolding clap_on_literals
 zeros = refl
 
-plus : asked (codes "serve" ∷ codes "--workers" ∷ codes "+0" ∷ []) ≡ None
+plus : words_request (codes "serve" ∷ codes "--workers" ∷ codes "+0" ∷ []) ≡ None
 unfolding clap_on_literals
 plus = refl
 
-numberless : asked (codes "gen" ∷ []) ≡ None
+numberless : words_request (codes "gen" ∷ []) ≡ None
 unfolding clap_on_literals
 numberless = refl
 
-few_nodes : asked (codes "gen" ∷ codes "0" ∷ []) ≡ None
+few_nodes : words_request (codes "gen" ∷ codes "0" ∷ []) ≡ None
 unfolding clap_on_literals
 few_nodes = refl
 
-many_nodes : asked (codes "gen" ∷ codes "1001" ∷ []) ≡ None
+many_nodes : words_request (codes "gen" ∷ codes "1001" ∷ []) ≡ None
 unfolding clap_on_literals
 many_nodes = refl
 
-many_makers : asked (codes "gen" ∷ codes "3" ∷ codes "--workers" ∷ codes "17" ∷ []) ≡ None
+many_makers : words_request (codes "gen" ∷ codes "3" ∷ codes "--workers" ∷ codes "17" ∷ []) ≡ None
 unfolding clap_on_literals
 many_makers = refl
 
-plus_nodes : asked (codes "gen" ∷ codes "+3" ∷ []) ≡ None
+plus_nodes : words_request (codes "gen" ∷ codes "+3" ∷ []) ≡ None
 unfolding clap_on_literals
 plus_nodes = refl
 
-zeros_nodes : asked (codes "gen" ∷ codes "03" ∷ []) ≡ None
+zeros_nodes : words_request (codes "gen" ∷ codes "03" ∷ []) ≡ None
 unfolding clap_on_literals
 zeros_nodes = refl
 
-two_numbers : asked (codes "gen" ∷ codes "1" ∷ codes "2" ∷ []) ≡ None
+two_numbers : words_request (codes "gen" ∷ codes "1" ∷ codes "2" ∷ []) ≡ None
 unfolding clap_on_literals
 two_numbers = refl
 

@@ -57,6 +57,6 @@ unless_faulty [] request = request
 unless_faulty (kind ∷ kinds) request = None
 
 -- what the words ask for, where `clap` takes them
-abbrev pub asked : List Text → Option Request
-asked words = unless_faulty (fault_of program words)
+abbrev pub words_request : List Text → Option Request
+words_request words = unless_faulty (fault_of program words)
     (option_and_then request_of (subcommand_of program words))

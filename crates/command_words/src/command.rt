@@ -3,7 +3,7 @@ ghost use Rattle.std.specs.Prelude.{◌≡◌, false, map, codes, option_and_the
 ghost use Rattle.clap.specs.Words.{app_of, found_of, rows_of, rule_of, subcommand_rows_of};
 ghost use Rattle.clap.specs.declared.builder.command.Command.TheViews.{out-Command};
 ghost use Rattle.command_words.specs.Program.{nodes, program, with_workers, workers};
-ghost use Rattle.command_words.specs.Asked.{asked, gen_in, nodes_in, request_of, workers_in};
+ghost use Rattle.command_words.specs.Asked.{words_request, gen_in, nodes_in, request_of, workers_in};
 
 use crate::number::number;
 use crate::request::Request;
@@ -14,7 +14,7 @@ use std::alloc::{AllocError, Global};
 /// What the words ask for, those of the command line after the program's name: None exactly where
 /// they are none of its forms.
 pub fn asked(alloc: Global, words: &[&str]) -> Result<Option<Request>, AllocError>
-    ensures { IfOk result (λ request. request ≡ asked (map (λ w. w.now) words.now)) }
+    ensures { IfOk result (λ request. request ≡ words_request (map (λ w. w.now) words.now)) }
 {
     let command = command(alloc)?;
     match command.try_get_matches_from(words) {

@@ -6,7 +6,7 @@ use Rattle.pide_base.specs.declared.part.Part.{Part}
 use Rattle.language.specs.Lang.{Lang}
 use Rattle.core_rules.specs.declared.event.Event.{Event}
 use Rattle.core_rules.specs.declared.event.Event.TheVariants.{Claimed, Finished}
-use Rattle.core_rules.specs.Standing.{standing, is_done, is_free, is_finished, held, has_ended}
+use Rattle.core_rules.specs.Standing.{standing, is_done, is_unclaimed, is_finished, held, has_ended}
 use Rattle.core_rules.specs.Doc.{Doc, doc}
 use Rattle.core_rules.specs.Ready.{is_part, is_wanted, has_inputs, IsFirst, all_parts, first_ready}
 use Rattle.core_rules.specs.Legal.{IsLegal}
@@ -31,7 +31,7 @@ module _ {S : Type 0} (l : Lang S) (who : ℕ) where
   listed : (h : List Event) (p : Part) → IsFirst l h p → among (all_parts l (doc l h).homes) p ≡ true
   listed h p first = is_made l (doc l h).homes p
       (and_parts (is_part l (doc l h).homes p) (is_wanted (doc l h) p.exec
-      && (is_free (standing h p) && has_inputs h (doc l h).homes p)) first.ready).0
+      && (is_unclaimed (standing h p) && has_inputs h (doc l h).homes p)) first.ready).0
 
   module _ (h : List Event) where
     abbrev parts : List Part
@@ -78,9 +78,10 @@ module _ {S : Type 0} (l : Lang S) (who : ℕ) where
     step_legal k None e so = so
     step_legal k (Some p) e so =
         let first = given_first l k p e in
-        let wanted = and_parts (is_wanted (doc l k) p.exec) (is_free (standing k p) && has_inputs k (doc l k).homes p)
+        let wanted = and_parts (is_wanted (doc l k) p.exec)
+        (is_unclaimed (standing k p) && has_inputs k (doc l k).homes p)
         (and_parts (is_part l (doc l k).homes p) (is_wanted (doc l k) p.exec
-        && (is_free (standing k p) && has_inputs k (doc l k).homes p)) first.ready).1 in
+        && (is_unclaimed (standing k p) && has_inputs k (doc l k).homes p)) first.ready).1 in
         let mine : (who == who) ≡ true = eq-eqb who who refl in (
           (
             (so.0, (so.2, so.1, first)),

@@ -10,7 +10,7 @@ use Rattle.doc_nodes.specs.declared.node.Node.{Node}
 use Rattle.exec_rules.specs.declared.row.Row.{Row}
 use Rattle.exec_rules.specs.declared.row.Assigned.{Assigned}
 use Rattle.exec_rules.specs.declared.version.Version.{Version}
-use Rattle.exec_rules.specs.Keys.{nothing}
+use Rattle.exec_rules.specs.Keys.{nothing_assigned}
 use Rattle.exec_rules.specs.Listed.{executions, print_list}
 use Rattle.exec_rules.proofs.KnownListed.{in_print}
 use Rattle.exec_rules.proofs.KnownThere.{get_there}
@@ -105,7 +105,8 @@ assigned_at_row v e long is =
       node = node.1;
       index = row.0;
       row = row.1;
-      at = ap (λ o. slice_get (option_map_or (λ (a : Assigned). a) o nothing).rows row.0) found.2 ∙ row.2;
+      at = ap (λ o. slice_get (option_map_or (λ (a : Assigned). a) o nothing_assigned).rows row.0)
+          found.2 ∙ row.2;
       is = row.3;
     }
 
@@ -121,7 +122,8 @@ row_in (r ∷ rows) (suc i) row e at is =
     has_both (executions r) (flat_map executions rows) e ∙ or_right _ _ (row_in rows i row e at is)
 
 pub node_in : (all : List Assigned) (q i : ℕ) (row : Row) (e : ℕ)
-    → slice_get (option_map_or (λ (a : Assigned). a) (slice_get all q) nothing).rows i ≡ Some row
+    → slice_get (option_map_or (λ (a : Assigned). a) (slice_get all q) nothing_assigned).rows i ≡
+    Some row
     → has (executions row) e ≡ true → has (flat_map executions (flat_map (λ (a : Assigned). a.rows) all)) e ≡ true
 node_in [] q i row e at is = absurd (cc)
 node_in (a ∷ all) zero i row e at is =

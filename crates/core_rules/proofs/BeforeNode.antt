@@ -13,7 +13,7 @@ use Rattle.exec_rules.specs.declared.row.Row.{Row}
 use Rattle.exec_rules.specs.declared.row.Assigned.{Assigned}
 use Rattle.exec_rules.specs.declared.home.Home.{Home}
 use Rattle.exec_rules.specs.declared.version.Version.{Version}
-use Rattle.exec_rules.specs.Kept.{BlobList, Times, keeps, same_blob, kept}
+use Rattle.exec_rules.specs.Kept.{BlobList, Times, keeps, same_blob, kept_count}
 use Rattle.core_rules.specs.FromScratch.{assigned_to, key_from, has_open, head_in}
 use Rattle.core_rules.specs.Updates.{HaveHeader}
 use Rattle.core_rules.proofs.Tables.{AreOlder}
@@ -24,16 +24,18 @@ use Rattle.core_rules.proofs.Sound.{IsSound, imports_stand}
 
 -- where some evaluation is kept, both nodes begin with the same command
 first_by : (t : Times) (e b : Entry) (es bs : List Entry) (r : Row) (rs : List Row) (k : Bool) → keeps t e b r ≡ k
-    → 0 < cond k (suc (kept t es bs rs)) 0 → e.command ≡ b.command
+    → 0 < cond k (suc (kept_count t es bs rs)) 0 → e.command ≡ b.command
 first_by t e b es bs r rs false same lt = absurd (omega arith)
 first_by t e b es bs r rs true same lt = eqb-true e.command b.command
     (and_parts (e.command == b.command) (not (has t.cancelled r.evaluation) && same_blob t e.needs b.needs) same).0
 
 pub same_header : (t : Times) (node old : Node) (rs : List Row) → HaveHeader node old
-    → 0 < kept t node.entries old.entries rs → (node.imports ≡ old.imports) × (node.keywords ≡ old.keywords)
+    → 0 < kept_count t node.entries old.entries rs
+    → (node.imports ≡ old.imports) × (node.keywords ≡ old.keywords)
 same_header t node old rs header lt = go node.entries old.entries rs refl refl lt
   where
-    go : (es bs : List Entry) (rs : List Row) → node.entries ≡ es → old.entries ≡ bs → 0 < kept t es bs rs
+    go : (es bs : List Entry) (rs : List Row) → node.entries ≡ es → old.entries ≡ bs
+        → 0 < kept_count t es bs rs
         → (node.imports ≡ old.imports) × (node.keywords ≡ old.keywords)
     go [] bs rs p q lt = absurd (omega arith)
     go (e ∷ es) [] rs p q lt = absurd (omega arith)

@@ -8,7 +8,7 @@ use Rattle.language.specs.Lang.{Lang}
 use Rattle.core_rules.specs.declared.event.Event.{Event}
 use Rattle.core_rules.specs.Assigned.{is_assigned}
 use Rattle.core_rules.specs.Parts.{waits_for}
-use Rattle.core_rules.specs.Standing.{Standing, Free, Held, Done, standing, is_done, is_free, is_finished, held}
+use Rattle.core_rules.specs.Standing.{Standing, Free, Held, Done, standing, is_done, is_unclaimed, is_finished, held}
 use Rattle.core_rules.specs.Doc.{Doc, doc}
 use Rattle.core_rules.specs.Legal.{IsLegal}
 use Rattle.core_rules.specs.Ready.{is_part, is_wanted, has_inputs, is_ready}
@@ -28,7 +28,8 @@ module _ {S : Type 0} (l : Lang S) (h : List Event) (legal : IsLegal l h) (nothi
   abbrev pub IsOver : ℕ → Type 0
   IsOver e = OverBy h marked e
 
-  is_free_by : (p : Part) (s : Standing) → standing h p ≡ s → is_done s ≡ false → is_free s ≡ true
+  is_free_by : (p : Part) (s : Standing) → standing h p ≡ s → is_done s ≡ false
+      → is_unclaimed s ≡ true
   is_free_by p Free e open_ = refl
   is_free_by p (Held w) e open_ = let mine = (tells_all l h legal w p).1 e in let none = idle w in absurd (cc)
   is_free_by p Done e open_ = absurd (cc)
@@ -49,5 +50,6 @@ module _ {S : Type 0} (l : Lang S) (h : List Event) (legal : IsLegal l h) (nothi
       go true e b f = refl
       go false e true f = refl
       go false e false f = one_stuck h marked (waits_for d.homes p) all
-          (waits_by (is_part l d.homes p) (is_wanted d p.exec) (is_free (standing h p)) (has_inputs h d.homes p) part
+          (waits_by (is_part l d.homes p) (is_wanted d p.exec) (is_unclaimed (standing h p))
+          (has_inputs h d.homes p) part
           (ap (λ b. b && not (has d.cancelled p.exec)) live ∙ ap not f) (is_free_by p (standing h p) refl e) (nothing p))

@@ -14,7 +14,7 @@ use Rattle.core_rules.specs.Numbered.{numbered, grown}
 use Rattle.core_rules.specs.Assigned.{assigns}
 use Rattle.core_rules.specs.Parts.{forks, kinds_by}
 use Rattle.core_rules.specs.Standing.{is_finished, is_open}
-use Rattle.core_rules.specs.Doc.{Doc, dropped, assignment_of, version_of, doc}
+use Rattle.core_rules.specs.Doc.{Doc, dropped, assignment_of, assigned_version, doc}
 use Rattle.core_rules.proofs.KnownNumbers.{numbered_within, length_grown}
 use Rattle.core_rules.proofs.Tables.{AtMost, at_most_more}
 use Rattle.text_words.proofs.KnownMembers.{has_both}
@@ -46,9 +46,9 @@ module _ {S : Type 0} (l : Lang S) where
       let d : Doc = doc l h in
       let new = assignment_of d nodes blobs in
       each-both (λ x. x ≤ length (grown d.homes new.homes))
-      (dropped (is_open l h d.homes) d.tip (version_of nodes blobs new)) d.cancelled
-      (filter_within (length (grown d.homes new.homes)) (λ e. is_open l h d.homes e && not (assigns (version_of nodes blobs new) e)) _
-      (λ e is. let le = opened_within l h d.homes e (and_parts (is_open l h d.homes e) (not (assigns (version_of nodes blobs new) e)) is).0 in
+      (dropped (is_open l h d.homes) d.tip (assigned_version nodes blobs new)) d.cancelled
+      (filter_within (length (grown d.homes new.homes)) (λ e. is_open l h d.homes e && not (assigns (assigned_version nodes blobs new) e)) _
+      (λ e is. let le = opened_within l h d.homes e (and_parts (is_open l h d.homes e) (not (assigns (assigned_version nodes blobs new) e)) is).0 in
       omega (arith, le, length_grown d.homes new.homes)))
       (at_most_more (length d.homes) (length (grown d.homes new.homes)) d.cancelled
       (omega (arith, length_grown d.homes new.homes)) (cancelled_within h))
@@ -69,7 +69,8 @@ module _ {S : Type 0} (l : Lang S) where
       → has (doc l (x ∷ h)).cancelled e ≡ true
   stays_cancelled (event.Update id nodes blobs) h e is =
       has_both (dropped (is_open l h (doc l h).homes) (doc l h).tip
-      (version_of nodes blobs (assignment_of (doc l h) nodes blobs))) (doc l h).cancelled e ∙ or_right _ _ is
+      (assigned_version nodes blobs (assignment_of (doc l h) nodes blobs))) (doc l h).cancelled e
+      ∙ or_right _ _ is
   stays_cancelled (event.Cancel x) h e is = go (is_open l h (doc l h).homes x)
     where
       go : (b : Bool) → has (cond b (x ∷ (doc l h).cancelled) (doc l h).cancelled) e ≡ true

@@ -6,7 +6,7 @@ use Rattle.text_words.specs.Members.{has}
 use Rattle.import_rounds.specs.Rounds.{is_known}
 use Rattle.doc_nodes.specs.declared.node.Entry.{Entry}
 use Rattle.doc_nodes.specs.declared.node.Node.{Node}
-use Rattle.doc_nodes.specs.Imports.{NodeList, place_of, is_ordered, order, placed}
+use Rattle.doc_nodes.specs.Imports.{NodeList, place_of, is_ordered, order, placed_node}
 use Rattle.doc_nodes.specs.Aliases.{no_aliases, folded, own_at, aliases_at}
 use Rattle.doc_nodes.specs.HandedDown.{handed_down}
 use Rattle.doc_nodes.specs.Prefix.{wanted_prefix, IsWantedPrefix}
@@ -23,7 +23,7 @@ pub record NodeFacts (nodes : NodeList) : Type 0 where
       → slice_get nodes p ≡ Some pair → is_ordered nodes p ≡ true
       → list_all (λ name. is_known front (place_of nodes name)) pair.1.imports ≡ true
   pub ordered : (p : ℕ) (pair : List ℕ × Node) → slice_get nodes p ≡ Some pair
-      → (is_ordered nodes p ≡ true) ↔ ((placed nodes pair).bad ≡ None)
+      → (is_ordered nodes p ≡ true) ↔ ((placed_node nodes pair).bad ≡ None)
   pub reached : (p : ℕ) → (is_reached nodes p ≡ true) ↔ Reached nodes p
   pub fold : (p : ℕ) → p < length nodes
       → aliases_at nodes p ≡ folded no_aliases (handed_down nodes p ++ own_at nodes p)
@@ -40,7 +40,7 @@ pub facts_from : ((ns : NodeList) (p : ℕ) → (has (order ns) p ≡ true) ↔ 
     → slice_get ns p ≡ Some pair → is_ordered ns p ≡ true
     → list_all (λ name. is_known front (place_of ns name)) pair.1.imports ≡ true)
     → ((ns : NodeList) (p : ℕ) (pair : List ℕ × Node) → slice_get ns p ≡ Some pair
-    → (is_ordered ns p ≡ true) ↔ ((placed ns pair).bad ≡ None))
+    → (is_ordered ns p ≡ true) ↔ ((placed_node ns pair).bad ≡ None))
     → ((ns : NodeList) (p : ℕ) → (is_reached ns p ≡ true) ↔ Reached ns p)
     → ((ns : NodeList) (p : ℕ) → p < length ns
     → aliases_at ns p ≡ folded no_aliases (handed_down ns p ++ own_at ns p))

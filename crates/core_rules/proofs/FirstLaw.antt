@@ -10,7 +10,7 @@ use Rattle.language.specs.Lang.{Lang}
 use Rattle.core_rules.specs.declared.event.Event.{Event}
 use Rattle.core_rules.specs.Numbered.{numbered}
 use Rattle.core_rules.specs.Parts.{same_part, forks, kinds_by, parts_of}
-use Rattle.core_rules.specs.Standing.{standing, is_free}
+use Rattle.core_rules.specs.Standing.{standing, is_unclaimed}
 use Rattle.core_rules.specs.Doc.{doc}
 use Rattle.core_rules.specs.Ready.{is_part, is_wanted, has_inputs, is_ready_in, is_ready, IsFirst, all_parts, first_among, first_ready}
 use Rattle.core_rules.proofs.KnownNumbers.{numbered_within, numbered_positive}
@@ -60,7 +60,7 @@ module _ {S : Type 0} (l : Lang S) where
   ready_listed : (h : List Event) (p : Part) → is_ready l h p ≡ true → among (ready_parts h) p ≡ true
   ready_listed h p ready =
       let part = and_parts (is_part l (doc l h).homes p) (is_wanted (doc l h) p.exec
-      && (is_free (standing h p) && has_inputs h (doc l h).homes p)) ready in
+      && (is_unclaimed (standing h p) && has_inputs h (doc l h).homes p)) ready in
       among_filter (is_ready_in l h (doc l h)) (all_parts l (doc l h).homes) p ready (is_made (doc l h).homes p part.0)
 
   listed_ready : (h : List Event) (p : Part) → among (ready_parts h) p ≡ true → is_ready l h p ≡ true

@@ -10,7 +10,7 @@ use Rattle.exec_rules.specs.declared.home.Input.TheVariants as input
 use Rattle.exec_rules.specs.Kept.{BlobList}
 use Rattle.exec_rules.specs.Rows.{evaluations, live_prints}
 use Rattle.exec_rules.specs.Homes.{eval_homes, print_homes}
-use Rattle.exec_rules.specs.Assigning.{Update, rows_in, given_by}
+use Rattle.exec_rules.specs.Assigning.{Update, rows_in, node_given}
 use Rattle.exec_rules.proofs.KnownNumbers.{print_numbers}
 use Rattle.core_rules.specs.Numbered.{numbered, grown}
 use Rattle.core_rules.specs.Parts.{sources_of}
@@ -48,25 +48,26 @@ module _ (homes : List Home) (older : AreOlder homes) (u : Update) (pair : List 
     (within : n ≤ length pair.1.entries) (count : next ≡ suc (length homes))
     (made_before : AtMost (length homes) (sources_of (input.First head))) where
   abbrev made : List Home
-  made = (given_by u pair head k n next).homes
+  made = (node_given u pair head k n next).homes
 
   pub given_older : AreOlder (grown homes made)
   given_older = older_grown homes made older
       (node_older (numbered homes) u pair head k n next (length homes) b le within count made_before)
 
   pub given_homed : RowsHomed (numbered (grown homes made)) pair.1 u.blobs pair.1.entries
-      (given_by u pair head k n next).assigned.rows (input.First head)
+      (node_given u pair head k n next).assigned.rows (input.First head)
   given_homed = node_homed (numbered (grown homes made)) u pair head k n next (length homes)
       (before_on (numbered homes) (numbered (grown homes made)) (extends_grown homes made) u pair head
       (rows_in u.tip pair.0) k (length homes) b)
       le within count
       (subst (λ x. Numbered (numbered (grown homes made)) x made) (sym count) (numbered_all homes made))
 
-  pub given_long : length (given_by u pair head k n next).assigned.rows ≡ n
-  given_long = sym (length-map (given_by u pair head k n next).assigned.rows (λ (r : Row). r.evaluation))
+  pub given_long : length (node_given u pair head k n next).assigned.rows ≡ n
+  given_long = sym (length-map (node_given u pair head k n next).assigned.rows (λ (r : Row).
+      r.evaluation))
       ∙ node_evals (numbered homes) u pair head k n next (length homes) b le within count
 
-  pub given_next : (given_by u pair head k n next).next ≡ suc (length (grown homes made))
+  pub given_next : (node_given u pair head k n next).next ≡ suc (length (grown homes made))
   given_next =
       print_numbers pair.1 u.blobs pair.1.entries (evaluations (rows_in u.tip pair.0) k n next)
       (live_prints u.cancelled (rows_in u.tip pair.0) k) (next + (n - k))

@@ -16,7 +16,7 @@ use Rattle.exec_rules.specs.declared.home.Input.TheVariants as input
 use Rattle.exec_rules.specs.declared.version.Version.{Version}
 use Rattle.exec_rules.specs.Keys.{key_by}
 use Rattle.import_rounds.specs.Rounds.{is_known}
-use Rattle.doc_nodes.specs.Imports.{ordered}
+use Rattle.doc_nodes.specs.Imports.{ordered_places}
 use Rattle.core_rules.specs.Numbered.{numbered}
 use Rattle.core_rules.specs.Parts.{sources_of}
 use Rattle.core_rules.specs.FromScratch.{assigned_to, last_by, key_from, is_open_last, has_open, head_in, input_at}
@@ -46,7 +46,7 @@ known_place front (Some q) is = (q, refl)
 
 module _ (v : Version) where
   hands : (name : List ℕ) → is_bad v.nodes name ≡ false → (last : Last) → is_open_last last ≡ false → HandsOn v.nodes name last
-  hands name good Empty is = known_place (ordered v.nodes) (place_of v.nodes name) (not_false (is_known (ordered v.nodes) (place_of v.nodes name)) good)
+  hands name good Empty is = known_place (ordered_places v.nodes) (place_of v.nodes name) (not_false (is_known (ordered_places v.nodes) (place_of v.nodes name)) good)
     where
       not_false : (b : Bool) → not b ≡ false → b ≡ true
       not_false true x = refl

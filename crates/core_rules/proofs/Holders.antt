@@ -7,7 +7,7 @@ use Rattle.language.specs.Lang.{Lang}
 use Rattle.core_rules.specs.declared.event.Event.{Event}
 use Rattle.core_rules.specs.declared.event.Event.TheVariants as event
 use Rattle.core_rules.specs.Parts.{same_part}
-use Rattle.core_rules.specs.Standing.{Standing, Free, Held, Done, standing, is_free, held}
+use Rattle.core_rules.specs.Standing.{Standing, Free, Held, Done, standing, is_unclaimed, held}
 use Rattle.core_rules.specs.Doc.{doc}
 use Rattle.core_rules.specs.Ready.{is_part, is_wanted, has_inputs, IsFirst}
 use Rattle.core_rules.specs.Legal.{IsLegal}
@@ -20,7 +20,7 @@ Tells holds stands = (w : ℕ) (p : Part) → (holds w ≡ Some p) ↔ (stands p
 pub held_is : (v w : ℕ) → Held v ≡ Held w → v ≡ w
 held_is v w e = cc
 
-free_by : (s : Standing) → is_free s ≡ true → s ≡ Free
+free_by : (s : Standing) → is_unclaimed s ≡ true → s ≡ Free
 free_by Free e = refl
 free_by (Held w) e = absurd (cc)
 free_by Done e = absurd (cc)
@@ -73,9 +73,10 @@ module _ (holds : ℕ → Option Part) (stands : Part → Standing) (tells : Tel
 pub first_free : {S : Type 0} (l : Lang S) (h : List Event) (p : Part) → IsFirst l h p → standing h p ≡ Free
 first_free l h p first =
     let a = and_parts (is_part l (doc l h).homes p) (is_wanted (doc l h) p.exec
-    && (is_free (standing h p) && has_inputs h (doc l h).homes p)) first.ready in
-    let b = and_parts (is_wanted (doc l h) p.exec) (is_free (standing h p) && has_inputs h (doc l h).homes p) a.1 in
-    let c = and_parts (is_free (standing h p)) (has_inputs h (doc l h).homes p) b.1 in
+    && (is_unclaimed (standing h p) && has_inputs h (doc l h).homes p)) first.ready in
+    let b = and_parts (is_wanted (doc l h) p.exec)
+    (is_unclaimed (standing h p) && has_inputs h (doc l h).homes p) a.1 in
+    let c = and_parts (is_unclaimed (standing h p)) (has_inputs h (doc l h).homes p) b.1 in
     free_by (standing h p) c.0
 
 pub tells_all : {S : Type 0} (l : Lang S) (h : List Event) → IsLegal l h → Tells (held h) (standing h)

@@ -12,7 +12,7 @@ use Rattle.doc_nodes.specs.Imports.{NodeList, place_of, is_bad}
 use Rattle.exec_rules.specs.declared.key.Last.TheVariants.{Empty}
 use Rattle.exec_rules.specs.declared.key.Key.TheVariants.{Lasts}
 use Rattle.exec_rules.specs.declared.row.Assigned.{Assigned}
-use Rattle.exec_rules.specs.Keys.{last_of, nothing, assigned_at, aimed, key_by, key_of}
+use Rattle.exec_rules.specs.Keys.{last_of, nothing_assigned, assigned_at, aimed, key_by, key_of}
 use Rattle.exec_rules.specs.Assigning.{entries_at}
 use Rattle.core_rules.specs.FromScratch.{last_by, key_from}
 use Rattle.core_rules.proofs.KnownPlaces.{place_found}
@@ -71,11 +71,11 @@ module _ (nodes : NodeList) (front : List ℕ) (a b : ℕ → Assigned) (same : 
 pub assigned_other : (done : List (ℕ × Assigned)) (a : Assigned) (p q : ℕ) → (p == q) ≡ false
     → assigned_at ((p, a) ∷ done) q ≡ assigned_at done q
 assigned_other done a p q e =
-    ap (λ b. option_map_or (λ (one : ℕ × Assigned). one.1) (cond b (Some (p, a)) (find (λ one. one.0 == q) done)) nothing) e
+    ap (λ b. option_map_or (λ (one : ℕ × Assigned). one.1) (cond b (Some (p, a)) (find (λ one. one.0 == q) done)) nothing_assigned) e
 
 pub assigned_newest : (done : List (ℕ × Assigned)) (a : Assigned) (p : ℕ) → assigned_at ((p, a) ∷ done) p ≡ a
 assigned_newest done a p =
-    ap (λ b. option_map_or (λ (one : ℕ × Assigned). one.1) (cond b (Some (p, a)) (find (λ one. one.0 == p) done)) nothing)
+    ap (λ b. option_map_or (λ (one : ℕ × Assigned). one.1) (cond b (Some (p, a)) (find (λ one. one.0 == p) done)) nothing_assigned)
     (eq-eqb p p refl)
 
 pub other_place : (front : List ℕ) (p q : ℕ) (b : Bool) → (p == q) ≡ b → has front p ≡ false → has front q ≡ true → b ≡ false

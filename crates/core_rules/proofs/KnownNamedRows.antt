@@ -12,7 +12,7 @@ use Rattle.doc_nodes.proofs.KnownPlaces.{place_named}
 use Rattle.exec_rules.specs.declared.row.Row.{Row}
 use Rattle.exec_rules.specs.declared.row.Assigned.{Assigned}
 use Rattle.exec_rules.specs.declared.version.Version.{Version}
-use Rattle.exec_rules.specs.Keys.{nothing}
+use Rattle.exec_rules.specs.Keys.{nothing_assigned}
 use Rattle.exec_rules.specs.Assigning.{rows_in}
 use Rattle.exec_rules.specs.Listed.{executions, print_list}
 use Rattle.core_rules.specs.Assigned.{assigns}
@@ -61,7 +61,7 @@ row_place v name i row at = go (place_of v.nodes name) refl at
       at = ap (λ rows. slice_get rows i) (same (slice_get v.assigned q)) ∙ at;
     }
       where
-        same : (o : Option Assigned) → (option_map_or (λ (a : Assigned). a) o nothing).rows ≡ option_map_or (λ (a : Assigned). a.rows) o []
+        same : (o : Option Assigned) → (option_map_or (λ (a : Assigned). a) o nothing_assigned).rows ≡ option_map_or (λ (a : Assigned). a.rows) o []
         same None = refl
         same (Some a) = refl
 

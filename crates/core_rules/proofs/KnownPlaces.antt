@@ -10,7 +10,7 @@ use Rattle.doc_nodes.specs.Imports.{NodeList, place_of, aims_of}
 use Rattle.doc_nodes.proofs.KnownNames.{name_is}
 use Rattle.exec_rules.specs.declared.row.Assigned.{Assigned}
 use Rattle.exec_rules.specs.declared.version.Version.{Version}
-use Rattle.exec_rules.specs.Keys.{nothing}
+use Rattle.exec_rules.specs.Keys.{nothing_assigned}
 use Rattle.exec_rules.specs.Assigning.{rows_in}
 use Rattle.core_rules.specs.FromScratch.{assigned_to}
 
@@ -51,6 +51,6 @@ rows_found v name q e =
     ∙ go (slice_get v.assigned q)
   where
     go : (o : Option Assigned) → option_map_or (λ (a : Assigned). a.rows) o []
-        ≡ (option_map_or (λ (a : Assigned). a) o nothing).rows
+        ≡ (option_map_or (λ (a : Assigned). a) o nothing_assigned).rows
     go None = refl
     go (Some a) = refl

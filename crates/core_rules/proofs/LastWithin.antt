@@ -14,7 +14,7 @@ use Rattle.exec_rules.specs.declared.home.Home.{Home}
 use Rattle.exec_rules.specs.Kept.{BlobList}
 use Rattle.exec_rules.specs.Keys.{by_row, last_of, key_by}
 use Rattle.exec_rules.specs.Assigning.{entries_at}
-use Rattle.core_rules.specs.Parts.{made_by, lasts_of}
+use Rattle.core_rules.specs.Parts.{last_evaluation, lasts_of}
 use Rattle.core_rules.specs.FromScratch.{last_by, key_from}
 use Rattle.core_rules.proofs.Tables.{AtMost}
 use Rattle.core_rules.proofs.HomedRows.{evals}
@@ -47,13 +47,14 @@ module _ (homes : List Home) (nodes : NodeList) (blobs : BlobList) (assigned : �
       last_at_most m (entries_at nodes q) (assigned q).rows
       (evals_within homes found.pair.1 blobs m found.pair.1.entries (evals (assigned q).rows) _ count here.1.homed.evaluate)
 
-  cons_within : (last : Last) (xs : List ℕ) → LastAtMost m last → AtMost m xs → AtMost m (cons_option (made_by last) xs)
+  cons_within : (last : Last) (xs : List ℕ) → LastAtMost m last → AtMost m xs
+      → AtMost m (cons_option (last_evaluation last) xs)
   cons_within (Made e) xs le all = (le, all)
   cons_within Empty xs le all = all
   cons_within Open xs le all = all
 
   lasts_within : (names : List (List ℕ)) → AllByRecursion (ImportStands homes nodes blobs assigned) names
-      → AtMost m (filter_map made_by (map (last_by nodes assigned) names))
+      → AtMost m (filter_map last_evaluation (map (last_by nodes assigned) names))
   lasts_within [] all = tt
   lasts_within (name ∷ names) all = cons_within (last_by nodes assigned name) _
       (one_within name (place_of nodes name) refl all.0) (lasts_within names all.1)

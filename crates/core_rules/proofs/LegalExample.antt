@@ -5,7 +5,7 @@ use Rattle.std.specs.List.{AllByRecursion}
 use Rattle.pide_base.specs.Ids.{id_end}
 use Rattle.doc_nodes.specs.declared.node.Node.{Node}
 use Rattle.core_rules.specs.declared.event.Event.TheVariants as event
-use Rattle.core_rules.specs.Doc.{Doc, empty, doc, assignment_of}
+use Rattle.core_rules.specs.Doc.{Doc, empty_doc, doc, assignment_of}
 use Rattle.core_rules.specs.Legal.{IsLegal}
 use Rattle.core_rules.specs.Updates.{AreRising, FitsUpdate, IsKnown, KeepsHeader, node_in}
 use Rattle.core_rules.specs.Small.{small, row, node, eval, fork}
@@ -32,8 +32,8 @@ four_fit d id newer known header numbers = record {
   numbers = numbers;
 }
 
-first_update : FitsUpdate empty 1 four []
-first_update = four_fit empty 1 (omega arith) (inl (omega arith), (inl (omega arith), (inl (omega arith), (inl (omega arith), tt)))) tt (omega arith)
+first_update : FitsUpdate empty_doc 1 four []
+first_update = four_fit empty_doc 1 (omega arith) (inl (omega arith), (inl (omega arith), (inl (omega arith), (inl (omega arith), tt)))) tt (omega arith)
 
 opened_legal : IsLegal small opened
 opened_legal = (tt, (refl, first_update))

@@ -6,7 +6,7 @@ use Rattle.doc_nodes.specs.declared.node.Node.{Node}
 use Rattle.exec_rules.specs.declared.home.Input.TheVariants as input
 use Rattle.exec_rules.specs.declared.home.Home.{Home}
 use Rattle.exec_rules.specs.Kept.{BlobList}
-use Rattle.exec_rules.specs.Rows.{first_print, takes_print, behind, with_prints}
+use Rattle.exec_rules.specs.Rows.{first_print, takes_print, number_behind, with_prints}
 use Rattle.exec_rules.specs.Homes.{home, print_homes}
 use Rattle.core_rules.proofs.Tables.{AtMost, at_most_more, OlderFrom}
 use Rattle.core_rules.proofs.HomedRows.{Homes, evals, PrintHomed, PrintsHomed}
@@ -55,4 +55,5 @@ with_evals [] [] live m le = refl
 with_evals [] (v ∷ vs) live m le = absurd (omega arith)
 with_evals (e ∷ es) [] live m le = refl
 with_evals (e ∷ es) (v ∷ vs) live m le =
-    ap (λ xs. v ∷ xs) (with_evals es vs (drop 1 live) (behind e (first_print live) m) (omega arith))
+    ap (λ xs. v ∷ xs) (with_evals es vs (drop 1 live) (number_behind e (first_print live) m)
+    (omega arith))

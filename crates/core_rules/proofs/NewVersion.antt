@@ -14,11 +14,11 @@ use Rattle.doc_nodes.specs.Wanted.{wanted_at}
 use Rattle.exec_rules.specs.declared.row.Assigned.{Assigned}
 use Rattle.exec_rules.specs.declared.version.Version.{Version}
 use Rattle.exec_rules.specs.Kept.{BlobList}
-use Rattle.exec_rules.specs.Keys.{nothing, assigned_at, key_of}
-use Rattle.exec_rules.specs.Assigning.{Work, added, given, assign_one, assign_all, assigned_all}
+use Rattle.exec_rules.specs.Keys.{nothing_assigned, assigned_at, key_of}
+use Rattle.exec_rules.specs.Assigning.{Work, extended_work, given, assign_one, assign_all, assigned_all}
 use Rattle.exec_rules.proofs.KnownThere.{get_there, all_at}
 use Rattle.core_rules.specs.Numbered.{grown, next_number}
-use Rattle.core_rules.specs.Doc.{Doc, update_of, assignment_of, version_of}
+use Rattle.core_rules.specs.Doc.{Doc, update_of, assignment_of, assigned_version}
 use Rattle.core_rules.specs.FromScratch.{assigned_to, has_open}
 use Rattle.core_rules.specs.Updates.{FitsNode}
 use Rattle.core_rules.proofs.Facts.{Facts}
@@ -40,7 +40,7 @@ module _ (facts : Facts) (d : Doc) (tip : IsSoundTip d) (nodes : NodeList) (blob
       let pair : List ℕ × Node = found.0 in
       subst (λ x. Progress d.homes nodes blobs x (front ++ p ∷ []))
       (sym (ap (λ o. option_map_or
-      (λ (pair : List ℕ × Node). added w p (given (update_of d nodes blobs) p pair (key_of nodes w.done pair.1) w.next)) o w) found.1))
+      (λ (pair : List ℕ × Node). extended_work w p (given (update_of d nodes blobs) p pair (key_of nodes w.done pair.1) w.next)) o w) found.1))
       (step facts d tip nodes blobs w front rest p pair found.1 (all_at (FitsNode d) nodes p pair fits found.1) split so)
 
   all : (ps front : List ℕ) (w : Work) → order nodes ≡ front ++ ps → Progress d.homes nodes blobs w front
@@ -60,13 +60,14 @@ module _ (facts : Facts) (d : Doc) (tip : IsSoundTip d) (nodes : NodeList) (blob
   all_done = all (order nodes) [] (record { done = []; homes = []; next = next_number d.homes }) refl begun
 
   abbrev pub new : Version
-  new = version_of nodes blobs (assignment_of d nodes blobs)
+  new = assigned_version nodes blobs (assignment_of d nodes blobs)
 
   -- what is assigned is listed by place
   pub listed_at : (p : ℕ) → p < length nodes → assigned_to new p ≡ assigned_at work.done p
   listed_at p lt =
       let e : 0 + p ≡ p = omega arith in
-      ap (λ o. option_map_or (λ (a : Assigned). a) o nothing) (listed work.done 0 (length nodes) p lt)
+      ap (λ o. option_map_or (λ (a : Assigned). a) o nothing_assigned)
+      (listed work.done 0 (length nodes) p lt)
       ∙ ap (assigned_at work.done) e
 
   same_assigned : (q : ℕ) → has (order nodes) q ≡ true → assigned_at work.done q ≡ assigned_to new q

@@ -14,7 +14,7 @@ use Rattle.exec_rules.specs.declared.home.Home.{Home}
 use Rattle.exec_rules.specs.Kept.{BlobList}
 use Rattle.exec_rules.specs.Rows.{evaluations, live_prints}
 use Rattle.exec_rules.specs.Homes.{eval_homes, print_homes}
-use Rattle.exec_rules.specs.Assigning.{Update, rows_in, given_by}
+use Rattle.exec_rules.specs.Assigning.{Update, rows_in, node_given}
 use Rattle.core_rules.specs.Parts.{sources_of}
 use Rattle.core_rules.proofs.Tables.{AtMost, at_most_more, OlderFrom}
 use Rattle.core_rules.proofs.HomedRows.{Homes, evals, EvalsHomed, PrintsHomed, RowsHomed}
@@ -79,15 +79,17 @@ module _ (at : Homes) (u : Update) (pair : List ℕ × Node) (head : Head) (k n 
       (at_most_front (m + (n - k)) k rows (at_most_more m (m + (n - k)) (evals rows) (omega arith) b.within))
       (at_most_range (m + (n - k)) next (n - k) (omega (arith, count)))
 
-  pub node_evals : length (evals (given_by u pair head k n next).assigned.rows) ≡ n
+  pub node_evals : length (evals (node_given u pair head k n next).assigned.rows) ≡ n
   node_evals = ap length (with_evals pair.1.entries vs live (next + (n - k)) (omega (arith, vs_long, within))) ∙ vs_long
 
-  pub node_evals_within : AtMost (m + (n - k)) (evals (given_by u pair head k n next).assigned.rows)
+  pub node_evals_within : AtMost (m + (n - k))
+      (evals (node_given u pair head k n next).assigned.rows)
   node_evals_within = subst (AtMost (m + (n - k)))
       (sym (with_evals pair.1.entries vs live (next + (n - k)) (omega (arith, vs_long, within)))) vs_within
 
-  pub node_homed : Numbered at next (given_by u pair head k n next).homes
-      → RowsHomed at pair.1 u.blobs pair.1.entries (given_by u pair head k n next).assigned.rows (input.First head)
+  pub node_homed : Numbered at next (node_given u pair head k n next).homes
+      → RowsHomed at pair.1 u.blobs pair.1.entries (node_given u pair head k n next).assigned.rows
+      (input.First head)
   node_homed all = record {
     evaluate = subst (λ xs. EvalsHomed at pair.1 u.blobs pair.1.entries xs (input.First head))
         (sym (with_evals pair.1.entries vs live (next + (n - k)) (omega (arith, vs_long, within))))
@@ -98,7 +100,8 @@ module _ (at : Homes) (u : Update) (pair : List ℕ × Node) (head : Head) (k n 
         (numbered_back at next (next + (n - k)) made _ (omega (arith, made_long)) all);
   }
 
-  pub node_older : AtMost m (sources_of (input.First head)) → OlderFrom m (given_by u pair head k n next).homes
+  pub node_older : AtMost m (sources_of (input.First head))
+      → OlderFrom m (node_given u pair head k n next).homes
   node_older all = older_both m (m + (n - k)) made (print_homes pair.1 u.blobs pair.1.entries vs live) (omega (arith, made_long))
       (kept_older pair.1 b.old u.blobs u.tip.blobs at next (n - k) m k pair.1.entries rows (input.First head) count b.within
       all b.long)

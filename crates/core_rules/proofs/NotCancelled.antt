@@ -12,8 +12,8 @@ use Rattle.exec_rules.specs.declared.key.Key.{Key}
 use Rattle.exec_rules.specs.declared.row.Row.{Row}
 use Rattle.exec_rules.specs.declared.row.Assigned.{Assigned}
 use Rattle.exec_rules.specs.Keys.{same_key}
-use Rattle.exec_rules.specs.Kept.{Times, same_blob, keeps, kept}
-use Rattle.exec_rules.specs.Rows.{live_print, live_prints, first_print, takes_print, behind, with_prints, behind_prints}
+use Rattle.exec_rules.specs.Kept.{Times, same_blob, keeps, kept_count}
+use Rattle.exec_rules.specs.Rows.{live_print, live_prints, first_print, takes_print, number_behind, with_prints, behind_prints}
 use Rattle.exec_rules.specs.Assigning.{Update, times, assigned_in, entries_in, rows_in, kept_of, given}
 use Rattle.exec_rules.proofs.KnownGiven.{next_below}
 use Rattle.core_rules.proofs.Tables.{AtMost}
@@ -43,14 +43,16 @@ range_not : (c : List ℕ) (m a n : ℕ) → AtMost m c → m < a → NoneOf c (
 range_not c m a zero all lt = tt
 range_not c m a (suc n) all lt = (new_not c m a all lt, range_not c m (a + 1) n all (omega arith))
 
-kept_not : (t : Times) (es bs : List Entry) (rs : List Row) → NoneOf t.cancelled (evals (take (kept t es bs rs) rs))
+kept_not : (t : Times) (es bs : List Entry) (rs : List Row)
+    → NoneOf t.cancelled (evals (take (kept_count t es bs rs) rs))
 kept_not t [] bs rs = tt
 kept_not t (e ∷ es) [] rs = tt
 kept_not t (e ∷ es) (b ∷ bs) [] = tt
 kept_not t (e ∷ es) (b ∷ bs) (r ∷ rs) = go (keeps t e b r) refl (kept_not t es bs rs)
   where
-    go : (x : Bool) → keeps t e b r ≡ x → NoneOf t.cancelled (evals (take (kept t es bs rs) rs))
-        → NoneOf t.cancelled (evals (take (cond x (suc (kept t es bs rs)) 0) (r ∷ rs)))
+    go : (x : Bool) → keeps t e b r ≡ x
+        → NoneOf t.cancelled (evals (take (kept_count t es bs rs) rs))
+        → NoneOf t.cancelled (evals (take (cond x (suc (kept_count t es bs rs)) 0) (r ∷ rs)))
     go false same rest = tt
     go true same rest =
         let a = and_parts (e.command == b.command) (not (has t.cancelled r.evaluation) && same_blob t e.needs b.needs) same in
@@ -93,7 +95,8 @@ rows_not : (c : List ℕ) (m : ℕ) → AtMost m c → (es : List Entry) (vs : L
 rows_not c m all [] vs live next a b lt = (tt, lt)
 rows_not c m all (e ∷ es) [] live next a b lt = (tt, lt)
 rows_not c m all (e ∷ es) (v ∷ vs) live next a b lt =
-    let rest = rows_not c m all es vs (drop 1 live) (behind e (first_print live) next) a.1 (rest_not c live b)
+    let rest = rows_not c m all es vs (drop 1 live) (number_behind e (first_print live) next) a.1
+    (rest_not c live b)
     (next_below m next (takes_print e (first_print live)) lt) in
     (((a.0, print_not c m next e.visible (first_print live) all lt (first_not c live b)), rest.0), rest.1)
 
@@ -102,12 +105,13 @@ module _ (u : Update) (m : ℕ) (all : AtMost m u.cancelled) where
   front_not pair key = go (assigned_in u.tip pair.0)
     where
       by : (b : Bool) (old : Assigned) → NoneOf u.cancelled
-          (evals (take (cond b (kept (times u) pair.1.entries (entries_in u.tip pair.0) old.rows) 0) old.rows))
+          (evals (take (cond b (kept_count (times u) pair.1.entries (entries_in u.tip pair.0)
+          old.rows) 0) old.rows))
       by true old = kept_not (times u) pair.1.entries (entries_in u.tip pair.0) old.rows
       by false old = tt
 
       go : (o : Option Assigned) → NoneOf u.cancelled (evals (take
-          (option_map_or (λ old. cond (same_key key old.key) (kept (times u) pair.1.entries (entries_in u.tip pair.0) old.rows) 0) o 0)
+          (option_map_or (λ old. cond (same_key key old.key) (kept_count (times u) pair.1.entries (entries_in u.tip pair.0) old.rows) 0) o 0)
           (option_map_or (λ (a : Assigned). a.rows) o [])))
       go None = tt
       go (Some old) = by (same_key key old.key) old

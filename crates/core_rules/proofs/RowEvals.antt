@@ -17,7 +17,7 @@ use Rattle.exec_rules.specs.Keys.{by_row, last_of, key_by}
 use Rattle.exec_rules.specs.Assigning.{entries_at}
 use Rattle.exec_rules.proofs.KnownThere.{get_there}
 use Rattle.core_rules.specs.FromScratch.{assigned_to, last_by, key_from, input_at}
-use Rattle.core_rules.specs.Parts.{made_by, lasts_of, sources_of}
+use Rattle.core_rules.specs.Parts.{last_evaluation, lasts_of, sources_of}
 use Rattle.core_rules.proofs.KnownPlaces.{place_found}
 use Rattle.core_rules.proofs.AssignedRows.{EvalRow}
 
@@ -41,12 +41,12 @@ module _ (v : Version) where
       record { place = q; pair = found.pair; node = found.stands; index = row.0; row = row.1; at = row.2; is = row.3 }
 
   cons_evals : (last : Last) (rest : List ℕ) → ((s : ℕ) → last ≡ Made s → EvalRow v s) → AllByRecursion (EvalRow v) rest
-      → AllByRecursion (EvalRow v) (cons_option (made_by last) rest)
+      → AllByRecursion (EvalRow v) (cons_option (last_evaluation last) rest)
   cons_evals (Made s) rest one all = (one s refl, all)
   cons_evals Empty rest one all = all
   cons_evals Open rest one all = all
 
-  lasts_evals : (names : List (List ℕ)) → AllByRecursion (EvalRow v) (filter_map made_by (map (last_by v.nodes (assigned_to v)) names))
+  lasts_evals : (names : List (List ℕ)) → AllByRecursion (EvalRow v) (filter_map last_evaluation (map (last_by v.nodes (assigned_to v)) names))
   lasts_evals [] = tt
   lasts_evals (name ∷ names) = cons_evals (last_by v.nodes (assigned_to v) name) _
       (λ s is. last_eval name (place_of v.nodes name) s refl is) (lasts_evals names)

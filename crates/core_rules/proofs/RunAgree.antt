@@ -14,7 +14,7 @@ use Rattle.exec_rules.specs.Kept.{BlobList}
 use Rattle.exec_rules.specs.Keys.{last_of}
 use Rattle.language.specs.Lang.{Lang}
 use Rattle.core_rules.specs.Numbered.{numbered}
-use Rattle.core_rules.specs.Settings.{Setting, state_behind, taken_up, setting}
+use Rattle.core_rules.specs.Settings.{Setting, state_behind, taken_up_state, setting}
 use Rattle.core_rules.specs.Scratch.{set_in, run_from, state_after}
 use Rattle.core_rules.proofs.Tables.{AreOlder}
 use Rattle.core_rules.proofs.HomedRows.{evals, EvalsHomed}
@@ -28,13 +28,15 @@ module _ {S : Type 0} (l : Lang S) (homes : List Home) (older : AreOlder homes) 
   Agree (v ∷ vs) (s ∷ ss) = (setting l homes v ≡ Some s) × Agree vs ss
 
   set_at : (v : ℕ) (e : Entry) (i : Input) (state : S) → numbered homes v ≡ Some (home node blobs e i)
-      → taken_up l (behind l homes) i ≡ Some state → setting l homes v ≡ Some (set_in node blobs e state)
+      → taken_up_state l (behind l homes) i ≡ Some state
+      → setting l homes v ≡ Some (set_in node blobs e state)
   set_at v e i state at up =
       setting_at l homes v (home node blobs e i) older at
       ∙ ap (option_map (λ s. record { source = (home node blobs e i).source; blob = (home node blobs e i).blob; state = s })) up
 
   pub evals_agree : (es : List Entry) (vs : List ℕ) (i : Input) (state : S) → EvalsHomed (numbered homes) node blobs es vs i
-      → taken_up l (behind l homes) i ≡ Some state → Agree vs (run_from l node blobs es state)
+      → taken_up_state l (behind l homes) i ≡ Some state
+      → Agree vs (run_from l node blobs es state)
   evals_agree es [] i state all up = tt
   evals_agree [] (v ∷ vs) i state all up = absurd all
   evals_agree (e ∷ es) (v ∷ vs) i state all up =

@@ -7,7 +7,7 @@ use Rattle.doc_nodes.specs.declared.node.Entry.{Entry}
 use Rattle.doc_nodes.specs.declared.node.Node.{Node}
 use Rattle.exec_rules.specs.declared.row.Row.{Row}
 use Rattle.exec_rules.specs.declared.home.Input.{Input}
-use Rattle.exec_rules.specs.Kept.{Times, agree, blob_of, same_blob, keeps, kept}
+use Rattle.exec_rules.specs.Kept.{Times, agree, blob_of, same_blob, keeps, kept_count}
 use Rattle.exec_rules.specs.Homes.{home}
 use Rattle.exec_rules.proofs.KnownKept.{agree_is}
 use Rattle.core_rules.specs.Updates.{source_in}
@@ -41,9 +41,10 @@ module _ (node old : Node) (times : Times) where
   by false e c r es cs n keep source rest = tt
 
   pub same_front : (es bs : List Entry) (rs : List Row) → SameSources es bs
-      → SameFront node old times.now times.before (kept times es bs rs) es bs
+      → SameFront node old times.now times.before (kept_count times es bs rs) es bs
   same_front [] bs rs same = tt
   same_front (e ∷ es) [] rs same = tt
   same_front (e ∷ es) (b ∷ bs) [] same = tt
   same_front (e ∷ es) (b ∷ bs) (r ∷ rs) same =
-      by (keeps times e b r) e b r es bs (kept times es bs rs) refl same.0 (same_front es bs rs same.1)
+      by (keeps times e b r) e b r es bs (kept_count times es bs rs) refl same.0
+      (same_front es bs rs same.1)

@@ -14,7 +14,7 @@ use Rattle.exec_rules.specs.declared.home.Input.TheVariants as input
 use Rattle.exec_rules.specs.declared.version.Version.{Version}
 use Rattle.exec_rules.proofs.KnownThere.{get_there}
 use Rattle.language.specs.Lang.{Lang}
-use Rattle.core_rules.specs.Settings.{imports_by, begun}
+use Rattle.core_rules.specs.Settings.{imports_by, beginning_state}
 use Rattle.core_rules.specs.FromScratch.{assigned_to, has_open, head_in}
 use Rattle.core_rules.specs.Scratch.{Run, Runs, run_from, begins_at, run_node, run_one, run_all, scratch_at}
 use Rattle.core_rules.proofs.Tables.{AreOlder}
@@ -47,7 +47,8 @@ module _ {S : Type 0} (l : Lang S) (homes : List Home) (older : AreOlder homes) 
     inside good = facts.behind front rest p pair split at ((facts.ordered p pair at).1 good)
 
     begins_so : 0 < length (assigned_to v p).rows
-        → begun l (behind l homes) (head_in v.nodes p pair (assigned_to v p).key) ≡ begins
+        → beginning_state l (behind l homes) (head_in v.nodes p pair (assigned_to v p).key) ≡
+        begins
     begins_so lt =
         let here = sound.each p pair at in
         let shut = here.closed lt in

@@ -19,7 +19,7 @@ use Rattle.exec_rules.specs.Keys.{by_row, last_of, key_by}
 use Rattle.exec_rules.specs.Assigning.{entries_at}
 use Rattle.language.specs.declared.made.Imports.TheVariants.{Ordered}
 use Rattle.language.specs.Lang.{Lang}
-use Rattle.core_rules.specs.Settings.{bare_start, handed_on, imported, imports_by}
+use Rattle.core_rules.specs.Settings.{bare_start, handed_on, imported_state, imports_by}
 use Rattle.core_rules.specs.FromScratch.{last_by, is_open_last, has_open}
 use Rattle.core_rules.specs.Scratch.{run_from, state_after, Run, Runs, final, final_at, import_run, imports_run, begins_at}
 use Rattle.core_rules.proofs.Tables.{AreOlder}
@@ -91,14 +91,15 @@ module _ {S : Type 0} (l : Lang S) (homes : List Home) (older : AreOlder homes) 
     all_imports : (names : List (List ℕ)) → AreInside nodes front names
         → list_any is_open_last (map (last_by nodes assigned) names) ≡ false
         → filter_map (import_run l nodes runs) names
-        ≡ filter_map (imported l (behind l homes)) (zip names (map (last_by nodes assigned) names))
+        ≡ filter_map (imported_state l (behind l homes))
+        (zip names (map (last_by nodes assigned) names))
     all_imports [] known shut = refl
     all_imports (name ∷ names) known shut =
         let parts = and_parts (is_known front (place_of nodes name)) (list_all (λ x. is_known front (place_of nodes x)) names) known in
         let shuts = or_parts (is_open_last (last_by nodes assigned name)) (list_any is_open_last (map (last_by nodes assigned) names)) shut in
         ap (λ o. cons_option (option_map (λ state. record { name = name; state = state }) o) (filter_map (import_run l nodes runs) names))
         (one_import name (place_of nodes name) refl parts.0 shuts.0)
-        ∙ ap (cons_option (imported l (behind l homes) (name, last_by nodes assigned name))) (all_imports names parts.1 shuts.1)
+        ∙ ap (cons_option (imported_state l (behind l homes) (name, last_by nodes assigned name))) (all_imports names parts.1 shuts.1)
 
     -- a node begins with what its imports' executions leave
     pub imports_are : (names : List (List ℕ)) (o : Option (List ℕ)) → (o ≡ None → AreInside nodes front names)

@@ -13,15 +13,15 @@ use Rattle.exec_rules.specs.declared.home.Home.{Home}
 use Rattle.language.specs.declared.made.Imports.TheVariants.{Ordered}
 use Rattle.language.specs.Lang.{Lang}
 use Rattle.core_rules.specs.Numbered.{numbered}
-use Rattle.core_rules.specs.Parts.{made_by, lasts_of, sources_of}
-use Rattle.core_rules.specs.Settings.{Setting, state_behind, imported, imports_by, taken_up, setting_by, settings, setting}
+use Rattle.core_rules.specs.Parts.{last_evaluation, lasts_of, sources_of}
+use Rattle.core_rules.specs.Settings.{Setting, state_behind, imported_state, imports_by, taken_up_state, setting_by, settings, setting}
 use Rattle.core_rules.proofs.Tables.{AreOlder, Same, among, table, table_at}
 
 module _ {S : Type 0} (l : Lang S) where
   -- an execution by its home, given what others work on
   abbrev set_by : (ℕ → Option (Setting S)) → Home → Option (Setting S)
   set_by f h = option_map (λ state. record { source = h.source; blob = h.blob; state = state })
-      (taken_up l (λ e. option_map (state_behind l) (f e)) h.input)
+      (taken_up_state l (λ e. option_map (state_behind l) (f e)) h.input)
 
   settings_are : (hs : List Home) → settings l hs ≡ table set_by hs
   settings_are [] = refl
@@ -34,34 +34,39 @@ module _ {S : Type 0} (l : Lang S) where
     abbrev after : ℕ → Option S
     after e = option_map (state_behind l) (g e)
 
-    one_same : (name : List ℕ) (last : Last) (rest : List ℕ) → Same f g (cons_option (made_by last) rest)
-        → imported l before (name, last) ≡ imported l after (name, last)
+    one_same : (name : List ℕ) (last : Last) (rest : List ℕ)
+        → Same f g (cons_option (last_evaluation last) rest)
+        → imported_state l before (name, last) ≡ imported_state l after (name, last)
     one_same name Empty rest same = refl
     one_same name Open rest same = refl
     one_same name (Made e) rest same =
         ap (λ o. option_map (λ state. record { name = name; state = state }) (option_map (state_behind l) o)) same.0
 
-    rest_same : (last : Last) (rest : List ℕ) → Same f g (cons_option (made_by last) rest) → Same f g rest
+    rest_same : (last : Last) (rest : List ℕ) → Same f g (cons_option (last_evaluation last) rest)
+        → Same f g rest
     rest_same Empty rest same = same
     rest_same Open rest same = same
     rest_same (Made e) rest same = same.1
 
-    all_same : (names : List (List ℕ)) (lasts : List Last) → Same f g (filter_map made_by lasts)
-        → filter_map (imported l before) (zip names lasts) ≡ filter_map (imported l after) (zip names lasts)
+    all_same : (names : List (List ℕ)) (lasts : List Last)
+        → Same f g (filter_map last_evaluation lasts)
+        → filter_map (imported_state l before) (zip names lasts) ≡ filter_map
+        (imported_state l after) (zip names lasts)
     all_same [] lasts same = refl
     all_same (name ∷ names) [] same = refl
     all_same (name ∷ names) (last ∷ lasts) same =
-        ap (λ o. cons_option o (filter_map (imported l before) (zip names lasts)))
-        (one_same name last (filter_map made_by lasts) same)
-        ∙ ap (cons_option (imported l after (name, last)))
-        (all_same names lasts (rest_same last (filter_map made_by lasts) same))
+        ap (λ o. cons_option o (filter_map (imported_state l before) (zip names lasts)))
+        (one_same name last (filter_map last_evaluation lasts) same)
+        ∙ ap (cons_option (imported_state l after (name, last)))
+        (all_same names lasts (rest_same last (filter_map last_evaluation lasts) same))
 
     imports_same : (names : List (List ℕ)) (key : Key) → Same f g (lasts_of key)
         → imports_by l before names key ≡ imports_by l after names key
     imports_same names (Lasts lasts) same = ap Ordered (all_same names lasts same)
     imports_same names (BadImport name) same = refl
 
-    taken_same : (i : Input) → Same f g (sources_of i) → taken_up l before i ≡ taken_up l after i
+    taken_same : (i : Input) → Same f g (sources_of i)
+        → taken_up_state l before i ≡ taken_up_state l after i
     taken_same (input.First head) same =
         ap (λ imports. Some (l.start head.node imports head.aliases)) (imports_same head.imports head.key same)
     taken_same (input.Next e) same = ap (option_map (state_behind l)) same.0
@@ -79,7 +84,7 @@ module _ {S : Type 0} (l : Lang S) where
   pub setting_at : (homes : List Home) (e : ℕ) (h : Home) → AreOlder homes → numbered homes e ≡ Some h
       → setting l homes e
       ≡ option_map (λ state. record { source = h.source; blob = h.blob; state = state })
-      (taken_up l (behind homes) h.input)
+      (taken_up_state l (behind homes) h.input)
   setting_at homes e h older at =
       ap (λ xs. among xs e) (settings_are homes) ∙ table_at set_by set_local homes e h older at
       ∙ ap (λ xs. set_by (among xs) h) (sym (settings_are homes))

@@ -14,7 +14,7 @@ use Rattle.core_rules.specs.declared.event.Event.TheVariants as event
 use Rattle.core_rules.specs.Numbered.{grown}
 use Rattle.core_rules.specs.Assigned.{command_ids}
 use Rattle.core_rules.specs.Standing.{is_open}
-use Rattle.core_rules.specs.Doc.{Doc, empty, greatest, assignment_of, version_of, after, doc}
+use Rattle.core_rules.specs.Doc.{Doc, empty_doc, greatest, assignment_of, assigned_version, doc_after, doc}
 use Rattle.core_rules.specs.Updates.{AllDiffer, FitsUpdate}
 use Rattle.core_rules.specs.Legal.{IsLegal}
 use Rattle.core_rules.proofs.Tables.{AtMost, AreOlder}
@@ -27,7 +27,7 @@ pub record IsSoundDoc (d : Doc) : Type 0 where
   pub base : IsSoundTip d
   pub live : (k : ℕ) (one : Live Version) → slice_get d.live k ≡ Some one → IsSound d.homes one.version
 
-empty_sound : IsSoundDoc empty
+empty_sound : IsSoundDoc empty_doc
 empty_sound = record {
   base = record {
     older = tt;
@@ -77,10 +77,10 @@ module _ {A : Type 0} where
 
 module _ (facts : Facts) (d : Doc) (so : IsSoundDoc d) (opened : ℕ → Bool) where
   update_sound : (id : ℕ) (nodes : NodeList) (blobs : BlobList) → FitsUpdate d id nodes blobs
-      → IsSoundDoc (after opened d (event.Update id nodes blobs))
+      → IsSoundDoc (doc_after opened d (event.Update id nodes blobs))
   update_sound id nodes blobs fits =
       let homes : List Home = grown d.homes (assignment_of d nodes blobs).homes in
-      let new : Version = version_of nodes blobs (assignment_of d nodes blobs) in
+      let new : Version = assigned_version nodes blobs (assignment_of d nodes blobs) in
       let sound : IsSound homes new = new_sound facts d so.base nodes blobs fits.nodes_fit in
       record {
         base = record {
@@ -93,8 +93,8 @@ module _ (facts : Facts) (d : Doc) (so : IsSoundDoc d) (opened : ℕ → Bool) w
       }
     where
       by : (k : ℕ) (one : Live Version)
-          → IsSound (grown d.homes (assignment_of d nodes blobs).homes) (version_of nodes blobs (assignment_of d nodes blobs))
-          → (slice_get d.live k ≡ Some one) ⊎ (record { id = id; version = version_of nodes blobs (assignment_of d nodes blobs) } ≡ one)
+          → IsSound (grown d.homes (assignment_of d nodes blobs).homes) (assigned_version nodes blobs (assignment_of d nodes blobs))
+          → (slice_get d.live k ≡ Some one) ⊎ (record { id = id; version = assigned_version nodes blobs (assignment_of d nodes blobs) } ≡ one)
           → IsSound (grown d.homes (assignment_of d nodes blobs).homes) one.version
       by k one sound (inl at) = sound_on d.homes (grown d.homes (assignment_of d nodes blobs).homes)
           (extends_grown d.homes (assignment_of d nodes blobs).homes) one.version (so.live k one at)
@@ -109,14 +109,17 @@ module _ (facts : Facts) (d : Doc) (so : IsSoundDoc d) (opened : ℕ → Bool) w
     differ = subst (λ (v : Version). AllDiffer (command_ids v.nodes)) (sym tip) so.base.differ;
   }
 
-  remove_sound : (ids : List ℕ) → IsSoundDoc (after opened d (event.Remove ids))
+  remove_sound : (ids : List ℕ) → IsSoundDoc (doc_after opened d (event.Remove ids))
   remove_sound ids = record {
-    base = base_kept (after opened d (event.Remove ids)) refl refl refl;
+    base = base_kept (doc_after opened d (event.Remove ids)) refl refl refl;
     live = λ k one at. let was = get_filtered _ d.live one k at in so.live was.0 one was.1;
   }
 
-  cancel_sound : (e : ℕ) → IsSoundDoc (after opened d (event.Cancel e))
-  cancel_sound e = record { base = base_kept (after opened d (event.Cancel e)) refl refl refl; live = so.live }
+  cancel_sound : (e : ℕ) → IsSoundDoc (doc_after opened d (event.Cancel e))
+  cancel_sound e = record {
+    base = base_kept (doc_after opened d (event.Cancel e)) refl refl refl;
+    live = so.live;
+  }
 
 -- so for each list
 pub doc_sound : {S : Type 0} (facts : Facts) (l : Lang S) (h : List Event) → IsLegal l h → IsSoundDoc (doc l h)

@@ -10,7 +10,7 @@ use Rattle.exec_rules.specs.declared.row.Assigned.{Assigned}
 use Rattle.exec_rules.specs.declared.home.Home.{Home}
 use Rattle.exec_rules.specs.Kept.{BlobList}
 use Rattle.exec_rules.specs.Keys.{assigned_at}
-use Rattle.exec_rules.specs.Assigning.{Work, Given, added, greater, given}
+use Rattle.exec_rules.specs.Assigning.{Work, Given, extended_work, greater, given}
 use Rattle.core_rules.specs.Numbered.{grown}
 use Rattle.core_rules.specs.Doc.{Doc}
 use Rattle.core_rules.specs.Parts.{lasts_of}
@@ -120,7 +120,7 @@ module _ (facts : Facts) (d : Doc) (tip : IsSoundTip d) (nodes : NodeList) (blob
       (subst (λ x. IsDone new nodes blobs (assigned_at done) (front ++ p ∷ []) p x) same new_done)
 
   -- what holds of the nodes before holds with the node
-  pub step : Progress d.homes nodes blobs (added w p g) (front ++ p ∷ [])
+  pub step : Progress d.homes nodes blobs (extended_work w p g) (front ++ p ∷ [])
   step =
       let homes : new ≡ grown d.homes (w.homes ++ g.homes) = sym (grown_both d.homes w.homes g.homes) in
       record {

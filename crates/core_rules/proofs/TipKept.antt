@@ -10,7 +10,7 @@ use Rattle.exec_rules.specs.declared.home.Head.{Head}
 use Rattle.exec_rules.specs.declared.home.Home.{Home}
 use Rattle.exec_rules.specs.declared.home.Input.TheVariants as input
 use Rattle.exec_rules.specs.Keys.{same_key}
-use Rattle.exec_rules.specs.Kept.{BlobList, kept}
+use Rattle.exec_rules.specs.Kept.{BlobList, kept_count}
 use Rattle.exec_rules.specs.Assigning.{Update, times, rows_in, kept_of, head_at}
 use Rattle.core_rules.specs.Numbered.{numbered}
 use Rattle.core_rules.specs.Doc.{Doc}
@@ -58,7 +58,7 @@ module _ {d : Doc} {homes : List Home} {nodes : NodeList} {blobs : BlobList} {as
     rows = (assigned_to d.tip q).rows
 
     abbrev n : ℕ
-    n = kept (times update) pair.1.entries old.1.entries rows
+    n = kept_count (times update) pair.1.entries old.1.entries rows
 
     kept_by : (b : Bool) → same_key key (assigned_to d.tip q).key ≡ b
         → Before (numbered homes) update pair head rows (cond b n 0) m
@@ -90,7 +90,8 @@ module _ {d : Doc} {homes : List Home} {nodes : NodeList} {blobs : BlobList} {as
     some_before : BeforeAs (Some (assigned_to d.tip q))
     some_before = subst
         (λ es. Before (numbered homes) update pair head rows
-        (cond (same_key key (assigned_to d.tip q).key) (kept (times update) pair.1.entries es rows) 0) m)
+        (cond (same_key key (assigned_to d.tip q).key)
+        (kept_count (times update) pair.1.entries es rows) 0) m)
         (sym (was_entries new q place))
         (kept_by (same_key key (assigned_to d.tip q).key) refl)
 
@@ -101,7 +102,8 @@ module _ {d : Doc} {homes : List Home} {nodes : NodeList} {blobs : BlobList} {as
 
     some_shut : 0 < counted (Some (assigned_to d.tip q)) → has_open key ≡ false
     some_shut = subst
-        (λ es. 0 < cond (same_key key (assigned_to d.tip q).key) (kept (times update) pair.1.entries es rows) 0
+        (λ es. 0 < cond (same_key key (assigned_to d.tip q).key)
+        (kept_count (times update) pair.1.entries es rows) 0
         → has_open key ≡ false)
         (sym (was_entries new q place))
         (shut_by (same_key key (assigned_to d.tip q).key) refl)

@@ -14,7 +14,7 @@ use Rattle.core_rules.specs.Numbered.{grown}
 use Rattle.core_rules.specs.Assigned.{executions_of, assigns, is_assigned}
 use Rattle.core_rules.specs.Parts.{parts_of}
 use Rattle.core_rules.specs.Standing.{Free, Held, Done, standing, is_done, is_finished, is_open}
-use Rattle.core_rules.specs.Doc.{Doc, dropped, assignment_of, version_of, doc}
+use Rattle.core_rules.specs.Doc.{Doc, dropped, assignment_of, assigned_version, doc}
 use Rattle.core_rules.specs.Legal.{IsLegal}
 use Rattle.core_rules.specs.Ready.{is_wanted}
 use Rattle.text_words.proofs.KnownMembers.{has_both}
@@ -30,18 +30,18 @@ module _ {S : Type 0} (facts : Facts) (l : Lang S) where
   updated : (h : List Event) (legal : IsLegal l h) (e : ℕ) (nodes : NodeList) (blobs : BlobList)
       → (is_assigned (doc l h).live e ≡ true → has (doc l h).cancelled e ≡ false
       → is_open l h (doc l h).homes e ≡ true → assigns (doc l h).tip e ≡ true)
-      → has (dropped (is_open l h (doc l h).homes) (doc l h).tip (version_of nodes blobs (assignment_of (doc l h) nodes blobs))
+      → has (dropped (is_open l h (doc l h).homes) (doc l h).tip (assigned_version nodes blobs (assignment_of (doc l h) nodes blobs))
       ++ (doc l h).cancelled) e ≡ false
       → is_open l h (grown (doc l h).homes (assignment_of (doc l h) nodes blobs).homes) e ≡ true
       → is_assigned (doc l h).live e ≡ true
-      → assigns (version_of nodes blobs (assignment_of (doc l h) nodes blobs)) e ≡ true
+      → assigns (assigned_version nodes blobs (assignment_of (doc l h) nodes blobs)) e ≡ true
   updated h legal e nodes blobs before free opened live = go (assigns new e) refl
     where
       d : Doc
       d = doc l h
 
       new : Version
-      new = version_of nodes blobs (assignment_of (doc l h) nodes blobs)
+      new = assigned_version nodes blobs (assignment_of (doc l h) nodes blobs)
 
       parts : (has (dropped (is_open l h (doc l h).homes) (doc l h).tip new) e ≡ false) × (has (doc l h).cancelled e ≡ false)
       parts = or_parts _ _ (sym (has_both (dropped (is_open l h (doc l h).homes) (doc l h).tip new) (doc l h).cancelled e) ∙ free)
@@ -62,14 +62,14 @@ module _ {S : Type 0} (facts : Facts) (l : Lang S) where
       → is_open l h (doc l h).homes e ≡ true → assigns (doc l h).tip e ≡ true
   in_tip_by [] e legal live free opened = absurd (cc)
   in_tip_by (event.Update id nodes blobs ∷ h) e legal live free opened =
-      go (pushed_assigns (doc l h).live (record { id = id; version = version_of nodes blobs (assignment_of (doc l h) nodes blobs) })
+      go (pushed_assigns (doc l h).live (record { id = id; version = assigned_version nodes blobs (assignment_of (doc l h) nodes blobs) })
       e live) (in_tip_by h e legal.0)
     where
       go : (is_assigned (doc l h).live e ≡ true)
-          ⊎ (assigns (version_of nodes blobs (assignment_of (doc l h) nodes blobs)) e ≡ true)
+          ⊎ (assigns (assigned_version nodes blobs (assignment_of (doc l h) nodes blobs)) e ≡ true)
           → (is_assigned (doc l h).live e ≡ true → has (doc l h).cancelled e ≡ false
           → is_open l h (doc l h).homes e ≡ true → assigns (doc l h).tip e ≡ true)
-          → assigns (version_of nodes blobs (assignment_of (doc l h) nodes blobs)) e ≡ true
+          → assigns (assigned_version nodes blobs (assignment_of (doc l h) nodes blobs)) e ≡ true
       go (inl was) rest = updated h legal.0 e nodes blobs rest free opened was
       go (inr is) rest = is
   in_tip_by (event.Cancel x ∷ h) e legal live free opened =

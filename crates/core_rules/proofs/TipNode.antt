@@ -12,8 +12,8 @@ use Rattle.exec_rules.specs.declared.home.Home.{Home}
 use Rattle.exec_rules.specs.declared.home.Input.{Input}
 use Rattle.exec_rules.specs.declared.home.Input.TheVariants as input
 use Rattle.exec_rules.specs.declared.version.Version.{Version}
-use Rattle.exec_rules.specs.Keys.{nothing, same_key}
-use Rattle.exec_rules.specs.Kept.{BlobList, kept}
+use Rattle.exec_rules.specs.Keys.{nothing_assigned, same_key}
+use Rattle.exec_rules.specs.Kept.{BlobList, kept_count}
 use Rattle.exec_rules.specs.Assigning.{Update, times, entries_at, entries_in, assigned_in, head_at}
 use Rattle.core_rules.specs.Numbered.{numbered}
 use Rattle.core_rules.specs.Doc.{Doc, update_of}
@@ -39,7 +39,8 @@ module _ (v : Version) (name : List ℕ) (P : Option Assigned → Type 0) (none 
   at_place : (q : ℕ) → place_of v.nodes name ≡ Some q → (a : Option Assigned) → slice_get v.assigned q ≡ a → P a
   at_place q e None is = none
   at_place q e (Some a) is =
-      subst (λ x. P (Some x)) (ap (λ o. option_map_or (λ (b : Assigned). b) o nothing) is) (some q e)
+      subst (λ x. P (Some x)) (ap (λ o. option_map_or (λ (b : Assigned). b) o nothing_assigned)
+      is) (some q e)
 
   by_place : (o : Option ℕ) → place_of v.nodes name ≡ o → P (option_and_then (slice_get v.assigned) o)
   by_place None e = none
@@ -78,7 +79,8 @@ module _ {d : Doc} {homes : List Home} {nodes : NodeList} {blobs : BlobList} {as
   -- how many are kept of what was assigned
   abbrev pub count_kept : Option Assigned → ℕ
   count_kept o = option_map_or
-      (λ old. cond (same_key key old.key) (kept (times u) pair.1.entries (entries_in u.tip pair.0) old.rows) 0) o 0
+      (λ old. cond (same_key key old.key)
+      (kept_count (times u) pair.1.entries (entries_in u.tip pair.0) old.rows) 0) o 0
 
   module _ (q : ℕ) (place : place_of d.tip.nodes pair.0 ≡ Some q) where
     pub found : FoundAt d.tip.nodes pair.0 q
@@ -95,7 +97,7 @@ module _ {d : Doc} {homes : List Home} {nodes : NodeList} {blobs : BlobList} {as
         ∙ ap (option_map (λ (x : List ℕ × Node). x.1)) found.stands
 
     abbrev pub kept_here : ℕ
-    kept_here = kept (times u) pair.1.entries found.pair.1.entries (assigned_to d.tip q).rows
+    kept_here = kept_count (times u) pair.1.entries found.pair.1.entries (assigned_to d.tip q).rows
 
     pub front : SameFront pair.1 found.pair.1 blobs d.tip.blobs kept_here pair.1.entries found.pair.1.entries
     front = same_front pair.1 found.pair.1 (times u) pair.1.entries found.pair.1.entries (assigned_to d.tip q).rows

@@ -10,13 +10,13 @@ use Rattle.doc_nodes.specs.declared.node.Node.{Node}
 use Rattle.doc_nodes.specs.Imports.{NodeList, order}
 use Rattle.exec_rules.specs.declared.row.Row.{Row}
 use Rattle.exec_rules.specs.declared.row.Assigned.{Assigned}
-use Rattle.exec_rules.specs.Keys.{nothing, assigned_at, key_of}
+use Rattle.exec_rules.specs.Keys.{nothing_assigned, assigned_at, key_of}
 use Rattle.exec_rules.specs.Kept.{BlobList}
 use Rattle.exec_rules.specs.Listed.{executions, print_list}
-use Rattle.exec_rules.specs.Assigning.{Update, Work, added, given, assign_one, assign_all}
+use Rattle.exec_rules.specs.Assigning.{Update, Work, extended_work, given, assign_one, assign_all}
 use Rattle.core_rules.specs.Numbered.{next_number}
 use Rattle.core_rules.specs.Assigned.{assigns}
-use Rattle.core_rules.specs.Doc.{Doc, update_of, assignment_of, version_of}
+use Rattle.core_rules.specs.Doc.{Doc, update_of, assignment_of, assigned_version}
 use Rattle.core_rules.proofs.Tables.{AtMost}
 use Rattle.core_rules.proofs.NotCancelled.{NoneOf, PrintNot, RowNot, RowsNot, given_not}
 
@@ -32,7 +32,8 @@ module _ (u : Update) (m : ℕ) (all : AtMost m u.cancelled) where
   one_not w p so = go (slice_get u.nodes p)
     where
       go : (o : Option (List ℕ × Node)) → WorkNot u.cancelled m
-          (option_map_or (λ (pair : List ℕ × Node). added w p (given u p pair (key_of u.nodes w.done pair.1) w.next)) o w)
+          (option_map_or (λ (pair : List ℕ × Node). extended_work w p (given u p pair (key_of
+          u.nodes w.done pair.1) w.next)) o w)
       go None = so
       go (Some pair) =
           let made = given_not u m all p pair (key_of u.nodes w.done pair.1) w.next so.0 in (made.1, (made.0, so.1))
@@ -46,7 +47,7 @@ at_not c [] p so = tt
 at_not c (one ∷ done) p so = go (one.0 == p) (at_not c done p so.1)
   where
     go : (b : Bool) → RowsNot c (assigned_at done p).rows
-        → RowsNot c (option_map_or (λ (one : ℕ × Assigned). one.1) (cond b (Some one) (find (λ one. one.0 == p) done)) nothing).rows
+        → RowsNot c (option_map_or (λ (one : ℕ × Assigned). one.1) (cond b (Some one) (find (λ one. one.0 == p) done)) nothing_assigned).rows
     go true rest = so.0
     go false rest = rest
 
@@ -82,7 +83,8 @@ module _ (c : List ℕ) where
 
 -- an update assigns nothing that is cancelled
 pub update_not : (d : Doc) (nodes : NodeList) (blobs : BlobList) (e : ℕ) → AtMost (length d.homes) d.cancelled
-    → has d.cancelled e ≡ true → assigns (version_of nodes blobs (assignment_of d nodes blobs)) e ≡ false
+    → has d.cancelled e ≡ true
+    → assigns (assigned_version nodes blobs (assignment_of d nodes blobs)) e ≡ false
 update_not d nodes blobs e all is =
     let u : Update = update_of d nodes blobs in
     let done = all_not u (length d.homes) all (order nodes) (record { done = []; homes = []; next = next_number d.homes })

@@ -27,14 +27,14 @@ pub record Doc : Type 0 where
   pub cancelled : List ℕ
 
 -- the version before any update
-abbrev pub start : Version
-start = record { nodes = []; blobs = []; assigned = [] }
+abbrev pub start_version : Version
+start_version = record { nodes = []; blobs = []; assigned = [] }
 
 -- the document before any event
-abbrev pub empty : Doc
-empty = record {
+abbrev pub empty_doc : Doc
+empty_doc = record {
   live = [];
-  tip = start;
+  tip = start_version;
   last = 0;
   commands = 0;
   homes = [];
@@ -56,8 +56,8 @@ abbrev pub assignment_of : Doc → NodeList → BlobList → Assignment
 assignment_of d nodes blobs = assignment (update_of d nodes blobs) (next_number d.homes)
 
 -- the version that it makes
-abbrev pub version_of : NodeList → BlobList → Assignment → Version
-version_of nodes blobs a = record { nodes = nodes; blobs = blobs; assigned = a.assigned }
+abbrev pub assigned_version : NodeList → BlobList → Assignment → Version
+assigned_version nodes blobs a = record { nodes = nodes; blobs = blobs; assigned = a.assigned }
 
 -- the executions that a new tip has no more, and of which a part is unfinished
 abbrev pub dropped : (ℕ → Bool) → Version → Version → List ℕ
@@ -76,23 +76,23 @@ with_version opened d id new a = record {
 }
 
 -- the document after an update
-abbrev pub updated : (ℕ → Bool) → Doc → ℕ → NodeList → BlobList → Assignment → Doc
-updated opened d id nodes blobs a = with_version opened d id (version_of nodes blobs a) a
+abbrev pub updated_doc : (ℕ → Bool) → Doc → ℕ → NodeList → BlobList → Assignment → Doc
+updated_doc opened d id nodes blobs a = with_version opened d id (assigned_version nodes blobs a) a
 
 -- one event more, where some executions have an unfinished part: nothing else is cancelled
-abbrev pub after : (ℕ → Bool) → Doc → Event → Doc
-after opened d (event.Update id nodes blobs) =
-    updated opened d id nodes blobs (assignment_of d nodes blobs)
-after opened d (event.Cancel e) =
+abbrev pub doc_after : (ℕ → Bool) → Doc → Event → Doc
+doc_after opened d (event.Update id nodes blobs) =
+    updated_doc opened d id nodes blobs (assignment_of d nodes blobs)
+doc_after opened d (event.Cancel e) =
     record d { cancelled = if opened e then e ∷ d.cancelled else d.cancelled }
-after opened d (event.Remove ids) = record d { live = left answer.Removed ids d.live }
-after opened d e = d
+doc_after opened d (event.Remove ids) = record d { live = left answer.Removed ids d.live }
+doc_after opened d e = d
 
 -- one event more, behind these
 abbrev pub next_doc : {S : Type 0} → Lang S → List Event → Doc → Event → Doc
-next_doc l h d e = after (is_open l h d.homes) d e
+next_doc l h d e = doc_after (is_open l h d.homes) d e
 
 -- the document after these events
 abbrev pub doc : {S : Type 0} → Lang S → List Event → Doc
-doc l [] = empty
+doc l [] = empty_doc
 doc l (e ∷ h) = next_doc l h (doc l h) e

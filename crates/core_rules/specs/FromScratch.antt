@@ -18,7 +18,7 @@ use Rattle.exec_rules.specs.declared.home.Input.{Input}
 use Rattle.exec_rules.specs.declared.home.Input.TheVariants as input
 use Rattle.exec_rules.specs.declared.home.Home.{Home}
 use Rattle.exec_rules.specs.declared.version.Version.{Version}
-use Rattle.exec_rules.specs.Keys.{nothing, last_of, key_by}
+use Rattle.exec_rules.specs.Keys.{nothing_assigned, last_of, key_by}
 use Rattle.exec_rules.specs.Homes.{home}
 use Rattle.exec_rules.specs.Assigning.{entries_at}
 use Rattle.language.specs.Lang.{Lang}
@@ -29,7 +29,7 @@ use Rattle.core_rules.specs.Doc.{Doc}
 
 -- what is assigned to the node at a place
 abbrev pub assigned_to : Version → ℕ → Assigned
-assigned_to v p = option_map_or (λ a. a) (slice_get v.assigned p) nothing
+assigned_to v p = option_map_or (λ a. a) (slice_get v.assigned p) nothing_assigned
 
 -- what the last command of the node of a name has, by what is assigned to each place
 abbrev pub last_by : NodeList → (ℕ → Assigned) → List ℕ → Last

@@ -43,13 +43,13 @@ parts_of l homes e = option_map_or
     (numbered homes e) []
 
 -- the evaluation that a last command has
-abbrev pub made_by : Last → Option ℕ
-made_by (Made e) = Some e
-made_by other = None
+abbrev pub last_evaluation : Last → Option ℕ
+last_evaluation (Made e) = Some e
+last_evaluation other = None
 
 -- the evaluations that something is taken up from
 abbrev pub lasts_of : Key → List ℕ
-lasts_of (Lasts lasts) = filter_map made_by lasts
+lasts_of (Lasts lasts) = filter_map last_evaluation lasts
 lasts_of (BadImport name) = []
 
 -- the evaluations that an execution is taken up from

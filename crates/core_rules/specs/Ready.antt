@@ -14,7 +14,7 @@ use Rattle.language.specs.Lang.{Lang}
 use Rattle.core_rules.specs.declared.event.Event.{Event}
 use Rattle.core_rules.specs.Assigned.{is_assigned, is_visible}
 use Rattle.core_rules.specs.Parts.{same_part, parts_of, waits_for, evaluation}
-use Rattle.core_rules.specs.Standing.{standing, is_free, is_finished}
+use Rattle.core_rules.specs.Standing.{standing, is_unclaimed, is_finished}
 use Rattle.core_rules.specs.Doc.{Doc, doc}
 
 -- it is a part of its execution
@@ -32,7 +32,7 @@ has_inputs h homes p = list_all (λ e. is_finished h (evaluation e)) (waits_for 
 -- the part is ready, in a document: it is wanted, nobody has taken it, and it waits for nothing
 abbrev pub is_ready_in : {S : Type 0} → Lang S → List Event → Doc → Part → Bool
 is_ready_in l h d p = is_part l d.homes p && (is_wanted d p.exec
-    && (is_free (standing h p) && has_inputs h d.homes p))
+    && (is_unclaimed (standing h p) && has_inputs h d.homes p))
 
 -- the part is ready, after these events
 abbrev pub is_ready : {S : Type 0} → Lang S → List Event → Part → Bool

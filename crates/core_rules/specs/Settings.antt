@@ -52,25 +52,27 @@ handed_on l behind name Open = None
 handed_on l behind name (MadeBy e) = behind e
 
 -- an import with its state
-abbrev pub imported : {S : Type 0} → Lang S → (ℕ → Option S) → List ℕ × Last → Option (Imported S)
-imported l behind one = option_map (λ state. record { name = one.0; state = state })
+abbrev pub imported_state : {S : Type 0} → Lang S → (ℕ → Option S) → List ℕ × Last
+    → Option (Imported S)
+imported_state l behind one = option_map (λ state. record { name = one.0; state = state })
     (handed_on l behind one.0 one.1)
 
 -- what a node has from its imports
 abbrev pub imports_by : {S : Type 0} → Lang S → (ℕ → Option S) → List (List ℕ) → Key → Imports S
-imports_by l behind names (Lasts lasts) = Ordered (filter_map (imported l behind) (zip names lasts))
+imports_by l behind names (Lasts lasts) = Ordered
+    (filter_map (imported_state l behind) (zip names lasts))
 imports_by l behind names (BadImport name) = Bad name
 
 -- the state at the beginning of a node
-abbrev pub begun : {S : Type 0} → Lang S → (ℕ → Option S) → Head → S
-begun l behind head =
+abbrev pub beginning_state : {S : Type 0} → Lang S → (ℕ → Option S) → Head → S
+beginning_state l behind head =
     l.start head.node (imports_by l behind head.imports head.key) head.aliases
 
 -- the state that is taken up
-abbrev pub taken_up : {S : Type 0} → Lang S → (ℕ → Option S) → Input → Option S
-taken_up l behind (First head) = Some (begun l behind head)
-taken_up l behind (Next e) = behind e
-taken_up l behind (Print e) = behind e
+abbrev pub taken_up_state : {S : Type 0} → Lang S → (ℕ → Option S) → Input → Option S
+taken_up_state l behind (First head) = Some (beginning_state l behind head)
+taken_up_state l behind (Next e) = behind e
+taken_up_state l behind (Print e) = behind e
 
 -- the setting of a number among those of older executions
 abbrev pub setting_among : {S : Type 0} → List (Option (Setting S)) → ℕ → Option (Setting S)
@@ -85,7 +87,7 @@ abbrev pub setting_by : {S : Type 0} → Lang S → List (Option (Setting S)) �
     → Option (Setting S)
 setting_by l settings h =
     option_map (λ state. record { source = h.source; blob = h.blob; state = state })
-    (taken_up l (behind_among l settings) h.input)
+    (taken_up_state l (behind_among l settings) h.input)
 
 -- these with one execution more
 abbrev pub with_setting : {S : Type 0} → Lang S → List (Option (Setting S)) → Home

@@ -32,9 +32,9 @@ is_done Done = true
 is_done s = false
 
 -- nobody works on it, and it is not finished
-abbrev pub is_free : Standing → Bool
-is_free Free = true
-is_free s = false
+abbrev pub is_unclaimed : Standing → Bool
+is_unclaimed Free = true
+is_unclaimed s = false
 
 -- the part is finished
 abbrev pub is_finished : List Event → Part → Bool

@@ -1,7 +1,7 @@
 -- What events come to in small documents (this project's own).
 use Rattle.std.specs.Prelude.{◌≡◌, true, false, List, [], ◌∷◌, codes, Some, None}
 use Rattle.doc_nodes.specs.Imports.{NodeList}
-use Rattle.exec_rules.specs.Listed.{told_in}
+use Rattle.exec_rules.specs.Listed.{told_commands_in}
 use Rattle.core_rules.specs.declared.event.Event.{Event}
 use Rattle.core_rules.specs.declared.event.Event.TheVariants as event
 use Rattle.core_rules.specs.Standing.{held}
@@ -37,7 +37,7 @@ pub record ACancelledEvaluation : Type 0 where
   pub stuck : stuck_in small let_go (doc small let_go) (doc small let_go).tip
       ≡ 1 ∷ 2 ∷ 3 ∷ 4 ∷ []
   pub nothing : first_ready small let_go ≡ None
-  pub replaced : told_in (doc small (event.Update 2 four [] ∷ let_go)).tip (codes "A")
+  pub replaced : told_commands_in (doc small (event.Update 2 four [] ∷ let_go)).tip (codes "A")
       ≡ (1, 5 ∷ []) ∷ (2, 6 ∷ []) ∷ (3, 7 ∷ []) ∷ (4, 8 ∷ []) ∷ []
 
 -- three evaluations are finished; two workers take the fork and the last evaluation
@@ -60,7 +60,8 @@ pub record ACancelledFork : Type 0 where
       (doc small fork_cancelled).tip ≡ 3 ∷ []
   pub pending : pending small fork_cancelled (doc small fork_cancelled)
       (doc small fork_cancelled).tip (codes "A") ≡ 3 ∷ []
-  pub renewed : told_in (doc small (event.Update 2 four [] ∷ fork_cancelled)).tip (codes "A")
+  pub renewed : told_commands_in (doc small (event.Update 2 four [] ∷ fork_cancelled)).tip
+      (codes "A")
       ≡ (1, 1 ∷ []) ∷ (2, 2 ∷ []) ∷ (3, 5 ∷ []) ∷ (4, 6 ∷ []) ∷ []
 
 -- the text is made one command; what was never run is stuck at once
@@ -69,7 +70,7 @@ replaced_all = event.Update 2 (only (node (codes "m") (5 ∷ []) [])) [] ∷ ope
 
 -- what was replaced is settled without a step, and the new command is next
 pub record AReplacedText : Type 0 where
-  pub told : told_in (doc small replaced_all).tip (codes "A") ≡ (5, 5 ∷ []) ∷ []
+  pub told : told_commands_in (doc small replaced_all).tip (codes "A") ≡ (5, 5 ∷ []) ∷ []
   pub settled : is_settled small replaced_all (doc small replaced_all) (doc small opened).tip ≡ true
   pub stuck : stuck_in small replaced_all (doc small replaced_all) (doc small opened).tip
       ≡ 1 ∷ 2 ∷ 3 ∷ 4 ∷ []

@@ -1,7 +1,7 @@
 -- What events come to in small documents of several nodes and versions (this project's own).
 use Rattle.std.specs.Prelude.{◌≡◌, ℕ, true, false, List, [], ◌∷◌, ◌++◌, map, codes, Some, None}
 use Rattle.doc_nodes.specs.Imports.{NodeList}
-use Rattle.exec_rules.specs.Listed.{told_in}
+use Rattle.exec_rules.specs.Listed.{told_commands_in}
 use Rattle.core_rules.specs.declared.event.Event.{Event}
 use Rattle.core_rules.specs.declared.event.Event.TheVariants as event
 use Rattle.core_rules.specs.Doc.{doc}
@@ -35,8 +35,8 @@ imported = event.Update 2 import_changed [] ∷ work 0 (event.Update 1 importing
 
 -- an importer begins with what its import leaves, and is run anew where that is another
 pub record AnImport : Type 0 where
-  pub told : told_in (doc small imported).tip (codes "B") ≡ (4, 7 ∷ []) ∷ (5, 8 ∷ []) ∷ []
-  pub kept : told_in (doc small imported).tip (codes "A")
+  pub told : told_commands_in (doc small imported).tip (codes "B") ≡ (4, 7 ∷ []) ∷ (5, 8 ∷ []) ∷ []
+  pub kept : told_commands_in (doc small imported).tip (codes "A")
       ≡ (1, 1 ∷ []) ∷ (2, 2 ∷ []) ∷ (6, 6 ∷ []) ∷ []
   pub next : first_ready small imported ≡ Some (eval 2)
   pub states : states_at import_changed [] 1
@@ -80,7 +80,7 @@ evaluated = work 0 (work 0 (work 0 watched_run))
 
 -- visible commands have prints, which come behind all evaluations and before forks
 pub record APerspective : Type 0 where
-  pub told : told_in (doc small watched_run).tip (codes "A")
+  pub told : told_commands_in (doc small watched_run).tip (codes "A")
       ≡ (1, 1 ∷ 4 ∷ []) ∷ (2, 2 ∷ 5 ∷ []) ∷ (3, 3 ∷ 6 ∷ []) ∷ (4, []) ∷ (5, []) ∷ []
   pub next : first_ready small evaluated ≡ Some (print 4)
   pub pending : pending small evaluated (doc small evaluated) (doc small evaluated).tip (codes "A")

@@ -3,7 +3,7 @@ use Rattle.std.specs.Prelude.{◌≡◌, ℕ, ◌+◌, true, false, List, [], �
 use Rattle.doc_nodes.specs.doc_headers_below.declared.parts.KeywordPair.{KeywordPair}
 use Rattle.doc_nodes.specs.declared.node.Entry.{Entry}
 use Rattle.doc_nodes.specs.Imports.{NodeList}
-use Rattle.exec_rules.specs.Listed.{told_in}
+use Rattle.exec_rules.specs.Listed.{told_commands_in}
 use Rattle.core_rules.specs.declared.event.Event.{Event}
 use Rattle.core_rules.specs.declared.event.Event.TheVariants as event
 use Rattle.core_rules.specs.Standing.{held, is_finished}
@@ -20,7 +20,7 @@ inserted = event.Update 2 (only (node (codes "taabe") (1 ∷ 2 ∷ 3 ∷ 5 ∷ 4
 
 -- it and what stands behind it have new ones
 abbrev pub AnInsertedCommand : Type 0
-AnInsertedCommand = told_in (doc small inserted).tip (codes "A")
+AnInsertedCommand = told_commands_in (doc small inserted).tip (codes "A")
     ≡ (1, 1 ∷ []) ∷ (2, 2 ∷ []) ∷ (3, 3 ∷ []) ∷ (5, 5 ∷ []) ∷ (4, 6 ∷ []) ∷ []
 
 -- a part is taken, the text grows by a blank, and the version of the claim is removed
@@ -60,8 +60,10 @@ renamed_run = event.Update 2 renamed [] ∷ event.Update 1 named [] ∷ []
 
 -- aliases come from imports; another header has both nodes run anew
 pub record AnAlias : Type 0 where
-  pub told : told_in (doc small renamed_run).tip (codes "A") ≡ (5, 5 ∷ []) ∷ (2, 6 ∷ []) ∷ []
-  pub importer : told_in (doc small renamed_run).tip (codes "B") ≡ (3, 7 ∷ []) ∷ (4, 8 ∷ []) ∷ []
+  pub told : told_commands_in (doc small renamed_run).tip (codes "A") ≡ (5, 5 ∷ []) ∷ (2, 6 ∷ [])
+      ∷ []
+  pub importer : told_commands_in (doc small renamed_run).tip (codes "B") ≡ (3, 7 ∷ []) ∷
+      (4, 8 ∷ []) ∷ []
   pub begins : states_at named [] 1
       ≡ (codes "claim" ∷ codes "t" ∷ codes "e" ∷ codes "claim" ∷ [])
       ∷ (codes "claim" ∷ codes "t" ∷ codes "e" ∷ codes "claim" ∷ codes "t" ∷ []) ∷ []
@@ -95,11 +97,11 @@ other = event.Update 3 loading ((codes "x", codes "q") ∷ (codes "y", []) ∷ [
 
 -- a blob that changes or goes has what asks for it run anew, and what stands behind
 pub record ABlob : Type 0 where
-  pub changed : told_in (doc small reloaded).tip (codes "A")
+  pub changed : told_commands_in (doc small reloaded).tip (codes "A")
       ≡ (1, 1 ∷ []) ∷ (2, 4 ∷ []) ∷ (3, 5 ∷ []) ∷ []
-  pub kept : told_in (doc small other).tip (codes "A")
+  pub kept : told_commands_in (doc small other).tip (codes "A")
       ≡ (1, 1 ∷ []) ∷ (2, 4 ∷ []) ∷ (3, 5 ∷ []) ∷ []
-  pub gone : told_in (doc small (event.Update 4 loading [] ∷ other)).tip (codes "A")
+  pub gone : told_commands_in (doc small (event.Update 4 loading [] ∷ other)).tip (codes "A")
       ≡ (1, 1 ∷ []) ∷ (2, 6 ∷ []) ∷ (3, 7 ∷ []) ∷ []
   pub states : states_at loading ((codes "x", codes "q") ∷ []) 0
       ≡ [] ∷ (codes "t" ∷ []) ∷ (codes "t" ∷ codes "l" ∷ codes "q" ∷ []) ∷ []

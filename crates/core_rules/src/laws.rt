@@ -14,7 +14,7 @@ ghost use Rattle.core_rules.specs.declared.event.Event.{Event};
 ghost use Rattle.core_rules.specs.declared.event.Event.TheVariants.{Update};
 ghost use Rattle.core_rules.specs.Assigned.{assigns, is_assigned};
 ghost use Rattle.core_rules.specs.Settings.{Setting, setting};
-ghost use Rattle.core_rules.specs.Standing.{standing, Free, Held, held, is_free, is_open, has_ended};
+ghost use Rattle.core_rules.specs.Standing.{standing, Free, Held, held, is_unclaimed, is_open, has_ended};
 ghost use Rattle.core_rules.specs.Doc.{doc};
 ghost use Rattle.core_rules.specs.Ready.{is_wanted, has_inputs, is_ready, IsFirst, all_parts, first_ready};
 ghost use Rattle.core_rules.specs.Stuck.{is_settled};
@@ -147,7 +147,8 @@ pub fn homes_law<L: Language>()
         → is_assigned (doc L.lang h).live e ≡ true → e ≤ length (doc L.lang h).homes }
     ensures unmade { (h : List Event) (p : Part) → IsLegal L.lang h
         → length (doc L.lang h).homes < p.exec → standing h p ≡ Free }
-    ensures begun { (h : List Event) (p : Part) → IsLegal L.lang h → is_free (standing h p) ≡ false
+    ensures begun { (h : List Event) (p : Part) → IsLegal L.lang h
+        → is_unclaimed (standing h p) ≡ false
         → has_inputs h (doc L.lang h).homes p ≡ true }
 {
     order_law();

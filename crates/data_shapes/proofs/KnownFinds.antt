@@ -4,16 +4,16 @@ use Rattle.xml_tree.specs.declared.tree.Tree.{Tree}
 use Rattle.xml_codec.specs.Data.{node, string_body, bool_body, pair_body, list_body, option_body, numbered_from, variant_body}
 use Rattle.data_shapes.specs.declared.variant.Variant.{Variant}
 use Rattle.data_shapes.specs.Each.{◌>>=◌}
-use Rattle.data_shapes.specs.Shapes.{node_layer, node_in, list_in, both, pair_in, at_most_one, option_in, text_layer, string_in, truth_of, bool_in, values_from, variant_layer, variant_in}
+use Rattle.data_shapes.specs.Shapes.{node_layer, inner_body, list_in, both, pair_in, at_most_one, option_in, text_layer, string_in, truth_of, bool_in, values_from, variant_layer, variant_in}
 use Rattle.data_shapes.proofs.KnownNumbers.{index_complete}
 use Rattle.data_shapes.proofs.KnownSteps.{passed, each_complete}
 use Rattle.data_shapes.proofs.KnownTrees.{elem_layer, text_layer_is, bytes_same}
 
-pub node_complete : (body : List Tree) → node_in (node body) ≡ Some body
+pub node_complete : (body : List Tree) → inner_body (node body) ≡ Some body
 node_complete body = ap node_layer (elem_layer (58 ∷ []) [] body)
 
 pub list_complete : (items : List (List Tree)) → list_in (list_body items) ≡ Some items
-list_complete = each_complete node_in node node_complete
+list_complete = each_complete inner_body node node_complete
 
 pub pair_complete : (first second : List Tree) → pair_in (pair_body first second) ≡ Some (first, second)
 pair_complete first second = ap (λ o. o >>= both) (list_complete (first ∷ second ∷ []))

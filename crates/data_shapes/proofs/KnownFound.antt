@@ -8,12 +8,12 @@ use Rattle.xml_tree.specs.declared.tree.Tree.TheViews.{out-Tree}
 use Rattle.xml_codec.specs.Data.{node, string_body, bool_body, pair_body, list_body, option_body, numbered_from, variant_body}
 use Rattle.data_shapes.specs.declared.variant.Variant.{Variant}
 use Rattle.data_shapes.specs.Each.{◌>>=◌}
-use Rattle.data_shapes.specs.Shapes.{node_layer, node_in, list_in, both, pair_in, at_most_one, option_in, text_layer, string_in, truth_of, bool_in, values_from, index_of, variant_layer, variant_in}
+use Rattle.data_shapes.specs.Shapes.{node_layer, inner_body, list_in, both, pair_in, at_most_one, option_in, text_layer, string_in, truth_of, bool_in, values_from, index_of, variant_layer, variant_in}
 use Rattle.data_shapes.proofs.KnownNumbers.{index_sound}
 use Rattle.data_shapes.proofs.KnownSteps.{stepped, tested, each_sound}
 use Rattle.data_shapes.proofs.KnownTrees.{tree_elem, tree_text, same_bytes}
 
-pub node_sound : (t : Tree) (body : List Tree) → node_in t ≡ Some body → t ≡ node body
+pub node_sound : (t : Tree) (body : List Tree) → inner_body t ≡ Some body → t ≡ node body
 node_sound t body e = go (out-Tree t) refl e where
   go : (x : Tree-F Tree) → out-Tree t ≡ x → node_layer x ≡ Some body → t ≡ node body
   go (Tree-F.Elem name [] inside) o h =
@@ -24,7 +24,7 @@ node_sound t body e = go (out-Tree t) refl e where
   go (Tree-F.Text text) o h = absurd (cc)
 
 pub list_sound : (body : List Tree) (items : List (List Tree)) → list_in body ≡ Some items → body ≡ list_body items
-list_sound = each_sound node_in node node_sound
+list_sound = each_sound inner_body node node_sound
 
 abbrev parts : Option (List Tree × List Tree) → List (List Tree)
 parts None = []

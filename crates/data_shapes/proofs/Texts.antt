@@ -6,7 +6,7 @@ use Rattle.xml_tree.proofs.KnownMarks.{tree_marks-Text}
 use Rattle.xml_tree.proofs.KnownRebuilt.{same_from_marks}
 use Rattle.xml_codec.specs.Data.{string_body}
 use Rattle.yxml.specs.Reading.{marks_in}
-use Rattle.yxml.specs.Spelling.{merged}
+use Rattle.yxml.specs.Spelling.{merged_texts}
 use Rattle.data_shapes.specs.Inside.{inside, body_at, IsClosed}
 use Rattle.data_shapes.proofs.Bodies.{marks-at}
 use Rattle.data_shapes.proofs.Merged.{joined}
@@ -19,7 +19,7 @@ joined-string [] = refl
 joined-string (b ∷ bs) = sym (string-marks b bs)
 
 -- the text so far is all of it
-pub is_text : (text s : List ℕ) → IsClosed text → merged (inside 0 (marks_in text)) ≡ joined s [] → body_at text ≡ string_body s
+pub is_text : (text s : List ℕ) → IsClosed text → merged_texts (inside 0 (marks_in text)) ≡ joined s [] → body_at text ≡ string_body s
 is_text text s closed e = same_from_marks _ _ (marks-at text closed ∙ e ∙ joined-string s)
 
 has_element : (s u name : List ℕ) (attributes : List Attribute) (ms : List Mark) → joined s (opening name attributes ∷ ms) ≡ marks (string_body u) → ⊥
@@ -30,6 +30,6 @@ has_element (a ∷ more) (b ∷ bs) name attributes ms e = absurd (let f = e ∙
 
 -- an element stands behind it
 pub is_no_text : (text s name : List ℕ) (attributes : List Attribute) (ms : List Mark) → IsClosed text
-    → merged (inside 0 (marks_in text)) ≡ joined s (opening name attributes ∷ ms) → (u : List ℕ) → body_at text ≢ string_body u
+    → merged_texts (inside 0 (marks_in text)) ≡ joined s (opening name attributes ∷ ms) → (u : List ℕ) → body_at text ≢ string_body u
 is_no_text text s name attributes ms closed e u same =
     has_element s u name attributes ms (sym e ∙ sym (marks-at text closed) ∙ ap marks same)

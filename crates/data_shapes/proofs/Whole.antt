@@ -7,7 +7,7 @@ use Rattle.xml_tree.specs.Normal.{IsNormal, height, most_nested}
 use Rattle.xml_tree.proofs.KnownNesting.{Nests-trees, within-closes}
 use Rattle.yxml.specs.Answer.{answer_by, body_in}
 use Rattle.yxml.specs.Reading.{marks_in, fault_in}
-use Rattle.yxml.specs.Spelling.{merged, Spells}
+use Rattle.yxml.specs.Spelling.{merged_texts, Spells}
 use Rattle.yxml.proofs.KnownMerged.{merged_open}
 use Rattle.data_shapes.specs.Inside.{inside, body_at, IsClosed}
 use Rattle.data_shapes.proofs.Inside.{all-inside}
@@ -34,4 +34,4 @@ module _ (text : List ℕ) (body : List Tree) (spells : Spells text body) (norma
   whole_closed = ap (open_after 0) all_of_it ∙ sym (merged_open 0 (marks_in text)) ∙ ap (open_after 0) spells.same ∙ (body-closes body normal).1
 
   pub whole_body : fault_in text ≡ None → Ok (body_at text) ≡ body_in text
-  whole_body none = ap (λ ms. Ok (body_of (merged ms))) all_of_it ∙ sym (ap (λ fault. answer_by fault (merged (marks_in text))) none)
+  whole_body none = ap (λ ms. Ok (body_of (merged_texts ms))) all_of_it ∙ sym (ap (λ fault. answer_by fault (merged_texts (marks_in text))) none)

@@ -4,7 +4,7 @@ use Rattle.xml_tree.specs.declared.tree.Tree.{Tree}
 use Rattle.xml_tree.specs.Bodies.{body_of}
 use Rattle.xml_tree.specs.Marks.{Mark, opening, closing, words, open_after}
 use Rattle.yxml.specs.Reading.{marks_in}
-use Rattle.yxml.specs.Spelling.{merged}
+use Rattle.yxml.specs.Spelling.{merged_texts}
 
 -- the marks before the end tag of an element in which so many others are open
 abbrev pub inside : ℕ → List Mark → List Mark
@@ -25,7 +25,7 @@ behind d (words text ∷ ms) = behind d ms
 -- the body that stands where the text begins, up to the end tag of the element that it is in, or to
 -- the text's end (this project's own)
 abbrev pub body_at : List ℕ → List Tree
-body_at text = body_of (merged (inside 0 (marks_in text)))
+body_at text = body_of (merged_texts (inside 0 (marks_in text)))
 
 -- each element of that body has an end tag
 abbrev pub IsClosed : List ℕ → Type 0

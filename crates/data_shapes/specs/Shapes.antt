@@ -16,12 +16,12 @@ node_layer (Tree-F.Elem name (a ∷ more) body) = None
 node_layer (Tree-F.Text text) = None
 
 -- what stands in a node
-abbrev pub node_in : Tree → Option (List Tree)
-node_in tree = node_layer (out-Tree tree)
+abbrev pub inner_body : Tree → Option (List Tree)
+inner_body tree = node_layer (out-Tree tree)
 
 -- the items' bodies: each child is a node
 abbrev pub list_in : List Tree → Option (List (List Tree))
-list_in = each node_in
+list_in = each inner_body
 
 -- a list whose items have a shape
 abbrev pub items_in : {A : Type 0} → (List Tree → Option A) → List Tree → Option (List A)

@@ -18,7 +18,7 @@ use Rattle.outer_tokens.proofs.KnownProper.{proper-push, proper-skip, proper-bot
 use Rattle.outer_tokens.proofs.KnownHeadings.{words-push, nothing-read, heading-end}
 use Rattle.outer_tokens.proofs.KnownLexing.{tokens-push, tokens-append, rest-tokens}
 use Rattle.doc_headers.specs.Headers.{AreBaseTokens, HasHeader, HasNoHeader}
-use Rattle.doc_headers.specs.Reading.{nothing, taken_at, advanced}
+use Rattle.doc_headers.specs.Reading.{empty_reading, taken_at, advanced}
 use Rattle.doc_headers.specs.declared.read.Reading.{Reading}
 use Rattle.doc_headers.proofs.TakenLemmas.{told, taken-told}
 
@@ -32,7 +32,7 @@ pub record IsRead (text : List ℕ) (place : ℕ) (r : Reading) : Type 0 where
   pub on : is_ended r.stage ≡ false
   pub ends : (rest : List Token) → end_from text Start (done ++ rest) ≡ end_from text r.stage rest
 
-pub read-start : (text : List ℕ) → IsRead text 0 nothing
+pub read-start : (text : List ℕ) → IsRead text 0 empty_reading
 read-start text = record {
   done = [];
   parts = nothing-read;

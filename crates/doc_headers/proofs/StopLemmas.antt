@@ -12,7 +12,7 @@ use Rattle.outer_tokens.specs.declared.token.Token.{Token}
 use Rattle.outer_tokens.proofs.KnownLexing.{tokens-append, rest-tokens, all-tokens, same-tokens, between-rises}
 use Rattle.outer_tokens.proofs.KnownStages.{ended-is}
 use Rattle.doc_headers.specs.Headers.{AreBaseTokens, HasHeader, HasNoHeader}
-use Rattle.doc_headers.specs.Reading.{nothing, advanced, header_from, header_in}
+use Rattle.doc_headers.specs.Reading.{empty_reading, advanced, header_from, header_in}
 use Rattle.doc_headers.specs.declared.read.Reading.{Reading}
 use Rattle.doc_headers.proofs.ReadLemmas.{IsRead, read-start, tokens-next, read-on, read-header, absent-ends, read-end}
 
@@ -52,4 +52,4 @@ from-tells text place r (t ∷ ts) read (starts, token, rest) =
     go false on more = more on
 
 pub in-tells : (text : List ℕ) → MatchOption (header_in text) (HasNoHeader text) (HasHeader text)
-in-tells text = from-tells text 0 nothing (tokens_under (λ _. is_in_force []) text) (read-start text) (all-tokens (λ _. is_in_force []) text)
+in-tells text = from-tells text 0 empty_reading (tokens_under (λ _. is_in_force []) text) (read-start text) (all-tokens (λ _. is_in_force []) text)

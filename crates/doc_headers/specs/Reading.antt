@@ -13,8 +13,8 @@ use Rattle.doc_headers.specs.declared.parts.Header.{Header}
 use Rattle.doc_headers.specs.declared.read.Reading.{Reading}
 
 -- nothing has been read
-abbrev pub nothing : Reading
-nothing = record {
+abbrev pub empty_reading : Reading
+empty_reading = record {
   stage = Start;
   header = record { name = []; imports = []; keywords = [] };
   pair = [];
@@ -50,4 +50,4 @@ header_from text r (t ∷ ts) = if is_ended (advanced text t r).stage
 -- the header of the text, as a function: `HasHeader` holds of just its value, `HasNoHeader` where
 -- it has none
 abbrev pub header_in : List ℕ → Option Header
-header_in text = header_from text nothing (tokens_under (λ _. is_in_force []) text)
+header_in text = header_from text empty_reading (tokens_under (λ _. is_in_force []) text)

@@ -4,7 +4,7 @@ ghost use Rattle.std.specs.Prelude.{◌≡◌, IfOk, MatchOption};
 ghost use Rattle.outer_tokens.specs.Tokens.{text_of};
 ghost use Rattle.outer_tokens.specs.Lexing.{header_end};
 ghost use Rattle.doc_headers.specs.Headers.{HasHeader, HasNoHeader};
-ghost use Rattle.doc_headers.specs.Reading.{nothing, taken_in, advanced};
+ghost use Rattle.doc_headers.specs.Reading.{empty_reading, taken_in, advanced};
 
 use crate::parts::{Header, KeywordPair};
 use outer_tokens::{Kind, Stage, Token, after_token, content, is_proper, next_token, scalars};
@@ -23,7 +23,7 @@ struct Reading {
 impl Reading {
     /// Nothing has been read.
     fn new(alloc: Global) -> Reading
-        ensures { result ≡ nothing }
+        ensures { result ≡ empty_reading }
     {
         Reading {
             stage: Stage::Start,

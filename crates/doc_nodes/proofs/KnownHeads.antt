@@ -11,7 +11,7 @@ use Rattle.import_rounds.specs.Looks.{aims_at}
 use Rattle.doc_nodes.specs.declared.node.Node.{Node}
 use Rattle.doc_nodes.specs.declared.inherited.NodeAliases.{NodeAliases}
 use Rattle.doc_nodes.specs.Names.{equal}
-use Rattle.doc_nodes.specs.Imports.{NodeList, aims, aims_of, is_bad, order, others, place_of}
+use Rattle.doc_nodes.specs.Imports.{NodeList, aims, aims_of, is_bad, order, other_places, place_of}
 use Rattle.doc_nodes.specs.Aliases.{aliases_at, aliases_by, folded, in_turn, inherited, known, no_aliases, own_at, own_pairs, pairs_from}
 use Rattle.doc_nodes.specs.Heads.{head, heads}
 
@@ -41,7 +41,7 @@ rows_head all (x ∷ nodes) =
 pub aims_head : (nodes : NodeList) → aims (heads nodes) ≡ aims nodes
 aims_head nodes = rows_head nodes nodes
 
-pub others_head : (nodes : NodeList) → others (heads nodes) ≡ others nodes
+pub others_head : (nodes : NodeList) → other_places (heads nodes) ≡ other_places nodes
 others_head nodes =
     ap₂ (λ rows n. filter (λ p. not (has (in_rounds rows) p)) (range_with_len 0 n)) (aims_head nodes)
     (length-map nodes (λ (pair : List ℕ × Node). (pair.0, head pair.1)))

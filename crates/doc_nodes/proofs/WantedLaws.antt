@@ -10,7 +10,7 @@ use Rattle.import_rounds.specs.Rounds.{is_known}
 use Rattle.import_rounds.specs.Looks.{aims_at}
 use Rattle.text_words.proofs.KnownMembers.{has_both, cut_at}
 use Rattle.import_rounds.proofs.KnownOrdered.{ordered_known}
-use Rattle.doc_nodes.specs.Imports.{NodeList, aims, is_ordered, ordered, order}
+use Rattle.doc_nodes.specs.Imports.{NodeList, aims, is_ordered, ordered_places, order}
 use Rattle.doc_nodes.specs.Wanted.{is_at, is_aimed, wants, hands_on, reached, is_reached}
 use Rattle.doc_nodes.specs.Reached.{Reached}
 use Rattle.doc_nodes.specs.Reached.Reached.{direct, further}
@@ -105,7 +105,8 @@ module _ (nodes : NodeList) where
       go false f (inl aimed) rest = absurd (false≢true aimed)
 
   aimed_ordered : (q p : ℕ) → is_ordered nodes q ≡ true → is_aimed (aims_at (aims nodes) q) p ≡ true → is_ordered nodes p ≡ true
-  aimed_ordered q p h aimed = aimed_known (ordered nodes) (aims_at (aims nodes) q) p (ordered_known (aims nodes) q h) aimed
+  aimed_ordered q p h aimed = aimed_known (ordered_places nodes) (aims_at (aims nodes) q) p
+      (ordered_known (aims nodes) q h) aimed
 
   hands_by : (q p : ℕ) → is_ordered nodes q ≡ true → is_aimed (aims_at (aims nodes) q) p ≡ true
       → ((ps : List ℕ) (front : List ℕ) → order nodes ≡ front ++ q ∷ ps → (wants nodes q || is_aimed (reached nodes ps) q) ≡ true) → is_reached nodes p ≡ true

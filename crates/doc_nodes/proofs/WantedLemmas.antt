@@ -8,7 +8,7 @@ use Rattle.text_words.specs.Members.{has}
 use Rattle.import_rounds.specs.Looks.{marked, aims_at}
 use Rattle.import_rounds.proofs.KnownFiltered.{filtered_within}
 use Rattle.import_rounds.proofs.KnownRounds.{is_order}
-use Rattle.doc_nodes.specs.Imports.{NodeList, aims, aims_of, ordered, is_ordered, others, order}
+use Rattle.doc_nodes.specs.Imports.{NodeList, aims, aims_of, ordered_places, is_ordered, other_places, order}
 use Rattle.doc_nodes.specs.Wanted.{is_at, is_aimed, wants, hands_on, reached}
 use Rattle.doc_nodes.specs.Reach.{AreReached}
 
@@ -18,14 +18,14 @@ placed_within nodes p h = omega (arith, (is_order (aims nodes)).within p h, leng
 
 -- and each place in the order of imports is
 pub order_within : (nodes : NodeList) (i : ℕ) → i < length (order nodes) → get_or (order nodes) i 0 < length nodes
-order_within nodes i lt = go (has (ordered nodes) p) refl (sym (list_any-append (eqb p) (ordered nodes) (others nodes)) ∙ list_any_at (λ q. eqb p q) (order nodes) i 0 lt (eq-eqb p p refl))
+order_within nodes i lt = go (has (ordered_places nodes) p) refl (sym (list_any-append (eqb p) (ordered_places nodes) (other_places nodes)) ∙ list_any_at (λ q. eqb p q) (order nodes) i 0 lt (eq-eqb p p refl))
   where
     p : ℕ
     p = get_or (order nodes) i 0
 
-    go : (b : Bool) → has (ordered nodes) p ≡ b → (has (ordered nodes) p || has (others nodes) p) ≡ true → p < length nodes
+    go : (b : Bool) → has (ordered_places nodes) p ≡ b → (has (ordered_places nodes) p || has (other_places nodes) p) ≡ true → p < length nodes
     go true e h = placed_within nodes p e
-    go false e h = filtered_within (λ q. not (is_ordered nodes q)) (length nodes) p (ap (λ b. b || has (others nodes) p) (sym e) ∙ h)
+    go false e h = filtered_within (λ q. not (is_ordered nodes q)) (length nodes) p (ap (λ b. b || has (other_places nodes) p) (sym e) ∙ h)
 
 pub hands_on_marked : (nodes : NodeList) (marks : List Bool) (reached : List (Option ℕ)) (p : ℕ) → AreReached nodes marks reached
     → is_ordered nodes p ≡ true → wants nodes p ≡ false → marked marks p ≡ hands_on nodes reached p

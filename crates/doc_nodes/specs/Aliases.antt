@@ -24,12 +24,12 @@ abbrev pub left_out : NodeAliases → List ℕ × List ℕ → NodeAliases
 left_out a pair = record a { bad = option_or a.bad (Some pair.0) }
 
 -- a pair comes into force behind the others
-abbrev pub added : NodeAliases → List ℕ × List ℕ → NodeAliases
-added a pair = record a { pairs = a.pairs ++ pair ∷ [] }
+abbrev pub extended_aliases : NodeAliases → List ℕ × List ℕ → NodeAliases
+extended_aliases a pair = record a { pairs = a.pairs ++ pair ∷ [] }
 
 -- a pair with a target: added where its name is new, skipped where it has the same target, else bad
 abbrev pub with_target : NodeAliases → List ℕ × List ℕ → Option (List ℕ) → NodeAliases
-with_target a pair None = added a pair
+with_target a pair None = extended_aliases a pair
 with_target a pair (Some target) = if equal pair.1 target then a else left_out a pair
 
 -- one pair more

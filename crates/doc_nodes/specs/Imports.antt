@@ -26,29 +26,30 @@ aims nodes = map (λ pair. aims_of nodes pair.1) nodes
 
 -- the places of the ordered nodes: by rounds, in a round by name (Isabelle System manual, sessions;
 -- the rounds are this project's own)
-abbrev pub ordered : NodeList → List ℕ
-ordered nodes = in_rounds (aims nodes)
+abbrev pub ordered_places : NodeList → List ℕ
+ordered_places nodes = in_rounds (aims nodes)
 
 -- the node at a place is ordered
 abbrev pub is_ordered : NodeList → ℕ → Bool
-is_ordered nodes p = has (ordered nodes) p
+is_ordered nodes p = has (ordered_places nodes) p
 
 -- the places of the others, by name
-abbrev pub others : NodeList → List ℕ
-others nodes = filter (λ p. not (is_ordered nodes p)) (range_with_len 0 (length nodes))
+abbrev pub other_places : NodeList → List ℕ
+other_places nodes = filter (λ p. not (is_ordered nodes p)) (range_with_len 0 (length nodes))
 
 -- the places of all nodes in the order of imports: the ordered ones, then the others
 abbrev pub order : NodeList → List ℕ
-order nodes = ordered nodes ++ others nodes
+order nodes = ordered_places nodes ++ other_places nodes
 
 -- an import is bad: it is no node, or one that is not ordered
 abbrev pub is_bad : NodeList → List ℕ → Bool
-is_bad nodes name = not (is_known (ordered nodes) (place_of nodes name))
+is_bad nodes name = not (is_known (ordered_places nodes) (place_of nodes name))
 
 -- a node in the order of imports, with its first bad import
-abbrev pub placed : NodeList → List ℕ × Node → Placed
-placed nodes pair = record { node = pair.0; bad = find (is_bad nodes) pair.1.imports }
+abbrev pub placed_node : NodeList → List ℕ × Node → Placed
+placed_node nodes pair = record { node = pair.0; bad = find (is_bad nodes) pair.1.imports }
 
 -- the order of imports
 abbrev pub import_order : NodeList → List Placed
-import_order nodes = filter_map (λ p. option_map (placed nodes) (slice_get nodes p)) (order nodes)
+import_order nodes = filter_map (λ p. option_map (placed_node nodes) (slice_get nodes p))
+    (order nodes)

@@ -2,7 +2,7 @@
 ghost use Rattle.std.specs.Prelude.{◌≡◌, ℕ, List, map, Some, None, IfOk, if◌then◌else◌};
 ghost use Rattle.shared_map.specs.Pairs.{found};
 ghost use Rattle.doc_nodes.specs.Names.{in_order, equal};
-ghost use Rattle.doc_nodes.specs.Aliases.{no_aliases, left_out, added, taken_in, folded};
+ghost use Rattle.doc_nodes.specs.Aliases.{no_aliases, left_out, extended_aliases, taken_in, folded};
 
 use crate::alias::{Aliases, equal, is_target};
 use crate::word::Word;
@@ -94,7 +94,7 @@ impl<'a> Folding<'a> {
         target: &'a [char],
     ) -> Result<Folding<'a>, AllocError>
         requires { found in_order name.now self.pairs ≡ None }
-        ensures { IfOk result (λ more. more ≡ added self.entry (name.now, target.now)) }
+        ensures { IfOk result (λ more. more ≡ extended_aliases self.entry (name.now, target.now)) }
     {
         let Folding {
             pairs,

@@ -6,7 +6,7 @@ ghost use Rattle.text_words.specs.Members.{has};
 ghost use Rattle.import_rounds.specs.Rounds.{is_known};
 ghost use Rattle.doc_nodes.specs.declared.node.Node.{Node};
 ghost use Rattle.doc_nodes.specs.declared.node.Entry.{Entry};
-ghost use Rattle.doc_nodes.specs.Imports.{place_of, is_ordered, order, placed};
+ghost use Rattle.doc_nodes.specs.Imports.{place_of, is_ordered, order, placed_node};
 ghost use Rattle.shared_map.specs.Pairs.{found};
 ghost use Rattle.doc_nodes.specs.Names.{in_order};
 ghost use Rattle.doc_nodes.specs.Aliases.{is_target, no_aliases, folded, own_at, aliases_at};
@@ -28,7 +28,7 @@ pub fn order_law()
         → list_all (λ name. is_known front (place_of nodes name)) pair.1.imports ≡ true }
     ensures ordered { (nodes : List (List ℕ × Node)) (p : ℕ) (pair : List ℕ × Node)
         → slice_get nodes p ≡ Some pair
-        → (is_ordered nodes p ≡ true) ↔ ((placed nodes pair).bad ≡ None) }
+        → (is_ordered nodes p ≡ true) ↔ ((placed_node nodes pair).bad ≡ None) }
 {}
 
 /// The wanted prefix is the one front of the commands that ends with the last visible one.

@@ -1,6 +1,6 @@
 //! The order of imports, by names.
 ghost use Rattle.std.specs.Prelude.{◌≡◌, find, IfOk};
-ghost use Rattle.doc_nodes.specs.Imports.{is_bad, placed, import_order};
+ghost use Rattle.doc_nodes.specs.Imports.{is_bad, placed_node, import_order};
 ghost use Rattle.doc_nodes.specs.Graphs.{IsGraphOf};
 
 use crate::graph::{ImportGraph, place_of};
@@ -47,7 +47,7 @@ fn placed_node(
     node: &Node,
 ) -> Result<Placed, AllocError>
     requires { IsGraphOf nodes.now graph.now }
-    ensures { IfOk result (λ one. one ≡ placed nodes.now (name.now, node.now)) }
+    ensures { IfOk result (λ one. one ≡ placed_node nodes.now (name.now, node.now)) }
 {
     let bad = first_bad(alloc, nodes, graph, node.imports.get().as_slice());
     let (node, bad) = both(name.clone(), bad)?;

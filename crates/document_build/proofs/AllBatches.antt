@@ -13,7 +13,7 @@ use Rattle.doc_nodes.specs.Imports.{NodeList, order}
 use Rattle.language.specs.Lang.{Lang}
 use Rattle.core_rules.specs.Scratch.{Run, Runs, scratch}
 use Rattle.batch_check.specs.declared.telling.BuiltNode.{BuiltNode}
-use Rattle.report_markup.specs.Sorting.{in_order}
+use Rattle.report_markup.specs.Sorting.{ordered_reports}
 use Rattle.node_check.specs.Nodes.{reports_of}
 use Rattle.batch_runs.specs.Running.{run_batch, run_batches}
 use Rattle.document_build.specs.declared.progress.Progress.{Progress}
@@ -83,7 +83,8 @@ module _ {S M : Type 0} (l : Lang S) (told : BuiltNode → M) (nodes : NodeList)
       reported : ℕ → Option (ℕ × Run S) → Option BuiltNode
       reported p o = option_map (λ pair. record {
         node = pair.0;
-        reports = in_order (reports_of l pair.1.entries (option_map_or (λ one. one.1.commands) o []));
+        reports = ordered_reports (reports_of l pair.1.entries (option_map_or (λ one.
+            one.1.commands) o []));
       }) (slice_get nodes p)
 
       told_all : (o : Option BuiltNode) (all : List BuiltNode) → cons_option (option_map told o) (map told all) ≡ map told (cons_option o all)

@@ -1,6 +1,6 @@
 -- The batches and the order of nodes are those of the nodes that are cut.
 use Rattle.std.proofs.Common.{◌≡◌, ℕ, List, [], ◌∷◌, ◌++◌, ap, subst, ◌∙◌}
-use Rattle.doc_nodes.specs.Imports.{NodeList, aims, order, others}
+use Rattle.doc_nodes.specs.Imports.{NodeList, aims, order, other_places}
 use Rattle.batch_runs.specs.Batches.{AreBatches, AreRounds}
 use Rattle.doc_nodes.proofs.KnownHeads.{aims_head, along, order_head, others_head}
 use Rattle.batch_check.specs.Cutting.{AreUncut, cut_all}
@@ -14,5 +14,5 @@ module _ (nodes : NodeList) (uncut : AreUncut nodes) where
   batches_same batches are = record {
     rounds = are.rounds;
     are = subst (λ rows. AreRounds rows [] are.rounds) (along aims aims_head nodes (cut_all nodes) (heads_are nodes uncut)) are.are;
-    all = are.all ∙ ap (λ rest. are.rounds ++ rest ∷ []) (along others others_head nodes (cut_all nodes) (heads_are nodes uncut));
+    all = are.all ∙ ap (λ rest. are.rounds ++ rest ∷ []) (along other_places others_head nodes (cut_all nodes) (heads_are nodes uncut));
   }

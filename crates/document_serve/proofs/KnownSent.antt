@@ -9,8 +9,8 @@ use Rattle.reply_outbox.specs.Items.{lengths_sent}
 use Rattle.session_rules.specs.declared.entry.Entry.{Entry}
 use Rattle.session_rules.specs.declared.service.Service.{Service}
 use Rattle.session_rules.specs.Heard.{Heard, heard}
-use Rattle.session_rules.specs.Replies.{replies, told}
-use Rattle.document_session.specs.session_replies_below.Spelling.{spelling}
+use Rattle.session_rules.specs.Replies.{replies, entry_replies}
+use Rattle.document_session.specs.session_replies_below.Spelling.{reply_spelling}
 use Rattle.document_session.specs.keeping_rules_below.Items.{SessionItem, heard_in}
 use Rattle.document_session.specs.keeping_rules_below.Pieces.{pieces, AreWaiting}
 use Rattle.document_session.specs.keeping_rules_below.Sent.{IsFrontSent}
@@ -44,7 +44,8 @@ module _ {S : Type 0} (l : Lang S) (service : Service) (items : List SessionItem
   -- an entry sends nothing
   pub sent_made : (added : Entry) → IsFrontSent l service items → sent_in l service (item.Made added ∷ items) ≡ sent_in l service items
   sent_made added f = ap joined (take-append-le (length (lengths_sent items)) all
-      (map spelling (told l service (heard_in service items) (heard service added))) (few f))
+      (map reply_spelling (entry_replies l service (heard_in service items) (heard service
+      added))) (few f))
 
   module _ (waiting : List (List ℕ)) (w : AreWaiting all items waiting) where
     gone_is : take (length (lengths_sent items)) all ≡ w.gone

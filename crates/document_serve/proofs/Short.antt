@@ -14,7 +14,7 @@ use Rattle.session_rules.specs.Replies.{claim_told}
 use Rattle.session_rules.specs.Steps.{Due, Nothing, Claims, due}
 use Rattle.document_session.specs.keeping_rules_below.Items.{SessionItem, heard_in}
 use Rattle.document_session.specs.keeping_rules_below.Legal.{AreLegal}
-use Rattle.document_session.specs.session_replies_below.Spelling.{spelling}
+use Rattle.document_session.specs.session_replies_below.Spelling.{reply_spelling}
 use Rattle.document_session.specs.keeping_rules_below.Pieces.{pieces}
 use Rattle.document_session.specs.Answers.{IsWaiting}
 use Rattle.document_session.specs.Contents.{SessionState}
@@ -65,7 +65,8 @@ module _ {S : Type 0} (l : Lang S) (laws : WorkLaws l) (law : AskedLaw)
         let one : 1 ≤ 0 = named.1.0 in absurd (omega (arith, one))
 
     same_pieces : pieces l s.service (heard_in s.service claimed) ≡ pieces l s.service past
-    same_pieces = ap (λ (d : Due). pieces l s.service past ++ map spelling (claim_told part d))
+    same_pieces = ap (λ (d : Due). pieces l s.service past ++ map reply_spelling (claim_told part
+        d))
         (not_due (legal_made l s.service (entry.Claimed 0 part) s.items claimed_legal).1.1) ∙ append-nil (pieces l s.service past)
 
     pub left_off : RunsShort l held now old new [] (came ∷ [])

@@ -3,7 +3,7 @@ use Rattle.std.proofs.Common.{◌≡◌, ℕ, ◌+◌, ◌≤◌, false, List, [
 use Rattle.language.specs.Lang.{Lang}
 use Rattle.message_values.specs.declared.protocol.Protocol.TheVariants.{Scalars}
 use Rattle.message_values.specs.Workers.{most_workers}
-use Rattle.buffer_rules.specs.Preparing.{Buffer, empty}
+use Rattle.buffer_rules.specs.Preparing.{Buffer, empty_buffer}
 use Rattle.core_rules.specs.declared.event.Event.{Event}
 use Rattle.reply_outbox.specs.declared.item.Item.TheVariants.{Opened}
 use Rattle.reply_outbox.specs.Waiting.{Log}
@@ -24,7 +24,7 @@ enough n is = omega (arith, is)
 
 -- before anything happened
 abbrev pub at_start : Session
-at_start = session_of empty [] Scalars false
+at_start = session_of empty_buffer [] Scalars false
 
 listed_so : {S : Type 0} (l : Lang S) (service : Service) → IsListed l service (Opened service ∷ []) [] at_start
 listed_so l service = record {
@@ -34,11 +34,12 @@ listed_so l service = record {
 }
 
 pub begun : {S : Type 0} (l : Lang S) (service : Service) (log : Log Service Entry) (b : Buffer) (past : List Event) (jobs : ℕ → Option (Work S))
-    → log.items ≡ Opened service ∷ [] → log.waiting ≡ [] → log.free ≡ 1 → b ≡ empty → past ≡ [] → free_workers service ≤ most_workers
+    → log.items ≡ Opened service ∷ [] → log.waiting ≡ [] → log.free ≡ 1 → b ≡ empty_buffer → past ≡ [] → free_workers service ≤ most_workers
     → ((who : ℕ) → jobs who ≡ None) → IsKept l service log (session_of b past Scalars false) 0 0 jobs
 begun l service log b past jobs items waiting free buffer_is past_is workers none =
     subst (λ (x : Buffer). IsKept l service log (session_of x past Scalars false) 0 0 jobs) (sym buffer_is)
-    (subst (λ (h : List Event). IsKept l service log (session_of empty h Scalars false) 0 0 jobs) (sym past_is) (record {
+    (subst (λ (h : List Event). IsKept l service log (session_of empty_buffer h Scalars false) 0 0
+    jobs) (sym past_is) (record {
       listed = subst (λ (is : List SessionItem). IsListed l service is log.waiting at_start) (sym items)
           (subst (λ (ws : List (List ℕ)). IsListed l service (Opened service ∷ []) ws at_start) (sym waiting) (listed_so l service));
       at_rest = ap (λ (is : List SessionItem). due l service (heard_in service is)) items;

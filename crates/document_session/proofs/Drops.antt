@@ -17,7 +17,7 @@ use Rattle.session_rules.specs.declared.entry.Entry.TheVariants as entry
 use Rattle.session_rules.specs.declared.service.Service.{Service}
 use Rattle.session_rules.specs.Services.{free_workers}
 use Rattle.session_rules.specs.Session.{Session, document}
-use Rattle.keeping_rules.specs.session_replies_below.Spelling.{spelling}
+use Rattle.keeping_rules.specs.session_replies_below.Spelling.{reply_spelling}
 use Rattle.keeping_rules.specs.session_replies_below.Works.{Work}
 use Rattle.keeping_rules.specs.Items.{SessionItem, session_in}
 use Rattle.keeping_rules.specs.Kept.{IsKept}
@@ -33,7 +33,8 @@ module _ {S : Type 0} (l : Lang S) (service : Service) (st : State S) (k : IsSou
   -- what is kept then
   pub dropped_kept : CoreGivenUpSo l who job st.session.events giving.Dropped past → FreeLaws l → who ≤ free_workers service
       → held st.session.events who ≡ Some work.job.part → (part : Part) → part ≡ work.job.part → (holding : ℕ) → holding + 1 ≡ st.holding
-      → (bytes : List ℕ) → bytes ≡ spelling (tells.Dropped work.job.part) → (new : Log Service Entry)
+      → (bytes : List ℕ) → bytes ≡ reply_spelling (tells.Dropped work.job.part)
+      → (new : Log Service Entry)
       → new.items ≡ Made (entry.Dropped who part) ∷ st.log.items → new.waiting ≡ st.log.waiting ++ bytes ∷ [] → new.free + 1 ≡ st.log.free
       → IsKept l service new (with_past st.session past) st.last holding st.jobs
   dropped_kept told laws free holds part part_is holding less bytes bytes_are new items waiting room =

@@ -28,7 +28,7 @@ use Rattle.session_rules.specs.Accepting.{taken}
 use Rattle.session_rules.specs.Looking.{Looked, looked_at}
 use Rattle.session_rules.specs.Replies.{told_to}
 use Rattle.session_rules.proofs.KnownLooked.{text_seen, node_seen}
-use Rattle.keeping_rules.specs.session_replies_below.Spelling.{spelling}
+use Rattle.keeping_rules.specs.session_replies_below.Spelling.{reply_spelling}
 use Rattle.keeping_rules.specs.Looks.{IsLook}
 use Rattle.keeping_rules.proofs.KnownNothingDue.{nothing_due}
 use Rattle.document_session.specs.Looks.{IsFound, LookedSo}
@@ -87,11 +87,13 @@ module _ {S : Type 0} (l : Lang S) (service : Service) (s : Session) (id : ℕ) 
 
     -- it does, and this is told
     pub shown : (behind : List ℕ) (t : Told) (bytes : List ℕ) → edit_all edits text ≡ Ok behind
-        → told_to l service s (Ok (asks.Snapshot id name edits)) ≡ t ∷ [] → bytes ≡ spelling t
+        → told_to l service s (Ok (asks.Snapshot id name edits)) ≡ t ∷ []
+        → bytes ≡ reply_spelling t
         → IsLook l service s (Ok (asks.Snapshot id name edits)) bytes
     shown behind t bytes edited told is = record {
       accepted = ap after (text_is (Ok behind) edited);
       settled = tt;
-      told = ap (λ (ts : List Told). map spelling ts) told ∙ ap (λ (b : List ℕ). b ∷ []) (sym is);
+      told = ap (λ (ts : List Told). map reply_spelling ts) told ∙ ap (λ (b : List ℕ). b ∷ [])
+          (sym is);
       rests = nothing_due (taken l service s (Ok (asks.Snapshot id name edits)));
     }

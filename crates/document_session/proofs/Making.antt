@@ -35,7 +35,7 @@ use Rattle.session_rules.specs.declared.service.Service.{Service}
 use Rattle.session_rules.specs.Services.{mode_of}
 use Rattle.session_rules.specs.Session.{Session, document}
 use Rattle.session_rules.specs.Accepting.{taken}
-use Rattle.keeping_rules.specs.session_replies_below.Spelling.{spelling}
+use Rattle.keeping_rules.specs.session_replies_below.Spelling.{reply_spelling}
 use Rattle.keeping_rules.specs.session_replies_below.Assigned.{nodes_told}
 use Rattle.keeping_rules.specs.session_replies_below.Works.{Work}
 use Rattle.keeping_rules.specs.Kept.{session_of, IsKept}
@@ -97,7 +97,7 @@ module _ {S : Type 0} (l : Lang S) (service : Service) (old : Log Service Entry)
     (p : PlanState) (planned : IsPlanOf l s.events p) (nodes : p.nodes ≡ made.after.nodes) (blobs : p.blobs ≡ made.after.document.blobs) where
   -- the version was made, as it was planned
   pub made_kept : (mid new : Log Service Entry) (bytes : List ℕ) (told : List (List ℕ × List Told)) → told ≡ p.told
-      → bytes ≡ spelling (tells.Assign version (nodes_told told)) → has_ended s.events ≡ false → mid.items ≡ old.items → mid.waiting ≡ old.waiting
+      → bytes ≡ reply_spelling (tells.Assign version (nodes_told told)) → has_ended s.events ≡ false → mid.items ≡ old.items → mid.waiting ≡ old.waiting
       → holding + 1 + 1 ≤ mid.free → new.items ≡ Made (Call message) ∷ mid.items → new.waiting ≡ mid.waiting ++ bytes ∷ [] → new.free + 1 ≡ mid.free
       → (newest : ℕ) (now : Buffer) (past : List Event) → newest ≡ version → now ≡ made.after → p.version ≡ version
       → past ≡ event.Update p.version p.nodes p.blobs ∷ s.events → IsKept l service new (session_of now past s.protocol true) newest holding jobs
@@ -105,7 +105,7 @@ module _ {S : Type 0} (l : Lang S) (service : Service) (old : Log Service Entry)
       updated_kept l service new s version newest holding made.after now past jobs
       (law service (state old s last holding jobs) message version is.wanted made.after new
       (replied_by l service old s last holding jobs k mid new (Call message) bytes _
-      (says ∙ ap (λ (rows : List NodeRows). spelling (tells.Assign version rows)) (plan_told l s version made.after p planned nodes blobs told told_is))
+      (says ∙ ap (λ (rows : List NodeRows). reply_spelling (tells.Assign version rows)) (plan_told l s version made.after p planned nodes blobs told told_is))
       going items waiting room more tells_it less)
       is.asks_it is.newer is.after (ids_suffice l s version made.after p planned nodes blobs))
       (past_is ∙ same_update p.version version p.nodes made.after.nodes p.blobs made.after.document.blobs s.events s.events id_is nodes blobs refl)

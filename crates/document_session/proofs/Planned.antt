@@ -10,7 +10,7 @@ use Rattle.language.specs.Lang.{Lang}
 use Rattle.buffer_rules.specs.Preparing.{Buffer}
 use Rattle.core_rules.specs.declared.event.Event.{Event}
 use Rattle.core_rules.specs.declared.event.Event.TheVariants as event
-use Rattle.core_rules.specs.Doc.{assignment_of, version_of}
+use Rattle.core_rules.specs.Doc.{assignment_of, assigned_version}
 use Rattle.prover_core.specs.Plans.{PlanState, IsPlanOf, made_version}
 use Rattle.reply_outbox.specs.Waiting.{Log}
 use Rattle.session_rules.specs.declared.entry.Entry.{Entry}
@@ -25,9 +25,11 @@ use Rattle.keeping_rules.specs.Kept.{session_of, IsKept}
 module _ {S : Type 0} (l : Lang S) (s : Session) (version : ℕ) (b : Buffer) (p : PlanState) (is : IsPlanOf l s.events p)
     (nodes : p.nodes ≡ b.nodes) (blobs : p.blobs ≡ b.document.blobs) where
   new_tip : made_version p ≡ (document l (with_buffer s version b)).tip
-  new_tip = ap (version_of p.nodes p.blobs) is.assigned
-      ∙ ap (λ (ns : NodeList). version_of ns p.blobs (assignment_of (document l s) ns p.blobs)) nodes
-      ∙ ap (λ (bs : BlobList). version_of b.nodes bs (assignment_of (document l s) b.nodes bs)) blobs
+  new_tip = ap (assigned_version p.nodes p.blobs) is.assigned
+      ∙ ap (λ (ns : NodeList). assigned_version ns p.blobs
+      (assignment_of (document l s) ns p.blobs)) nodes
+      ∙ ap (λ (bs : BlobList). assigned_version b.nodes bs
+      (assignment_of (document l s) b.nodes bs)) blobs
 
   -- the rows that are told
   pub plan_told : (told : List (List ℕ × List Told)) → told ≡ p.told

@@ -28,7 +28,7 @@ use Rattle.session_rules.specs.Accepting.{taken}
 use Rattle.session_rules.specs.Legal.{IsSettledIn, awaited_by, awaited_of}
 use Rattle.session_rules.specs.Looking.{settles}
 use Rattle.session_rules.specs.Replies.{or_refusal}
-use Rattle.keeping_rules.specs.session_replies_below.Spelling.{spelling}
+use Rattle.keeping_rules.specs.session_replies_below.Spelling.{reply_spelling}
 use Rattle.keeping_rules.specs.Looks.{IsLook}
 use Rattle.keeping_rules.proofs.KnownNothingDue.{nothing_due}
 
@@ -78,12 +78,14 @@ module _ {S : Type 0} (l : Lang S) (service : Service) (s : Session) (id : ℕ) 
       awaits = ap (λ (r : Result Version Refusal). awaited_by r) (settles_is false free)
 
       pub settled_look : is_settled l s.events (document l s) version ≡ true → (stuck : List ℕ) → stuck ≡ stuck_in l s.events (document l s) version
-          → (bytes : List ℕ) → bytes ≡ spelling (tells.Settled id stuck) → IsLook l service s (Ok (asks.Settle id)) bytes
+          → (bytes : List ℕ) → bytes ≡ reply_spelling (tells.Settled id stuck)
+          → IsLook l service s (Ok (asks.Settle id)) bytes
       settled_look done stuck stuck_is bytes is = record {
         accepted = ap after (settles_is false free);
         settled = subst (λ (o : Option Version). IsSettledIn l s o) (sym awaits) done;
-        told = ap (λ (r : Result Version Refusal). map spelling (or_refusal (after r >>= λ later. r >>= λ v.
+        told = ap (λ (r : Result Version Refusal). map reply_spelling (or_refusal (after r >>= λ
+            later. r >>= λ v.
             Ok (tells.Settled id (stuck_in l s.events (document l s) v) ∷ [])))) (settles_is false free)
-            ∙ ap (λ (es : List ℕ). spelling (tells.Settled id es) ∷ []) (sym stuck_is) ∙ ap (λ (b : List ℕ). b ∷ []) (sym is);
+            ∙ ap (λ (es : List ℕ). reply_spelling (tells.Settled id es) ∷ []) (sym stuck_is) ∙ ap (λ (b : List ℕ). b ∷ []) (sym is);
         rests = nothing_due (taken l service s (Ok (asks.Settle id)));
       }

@@ -24,7 +24,7 @@ use Rattle.session_rules.specs.Services.{mode_of, is_held_by_script}
 use Rattle.session_rules.specs.Session.{Session}
 use Rattle.session_rules.specs.Accepting.{taken}
 use Rattle.session_rules.specs.Legal.{awaited_of}
-use Rattle.keeping_rules.specs.session_replies_below.Spelling.{spelling}
+use Rattle.keeping_rules.specs.session_replies_below.Spelling.{reply_spelling}
 use Rattle.keeping_rules.specs.Items.{SessionItem, session_in}
 use Rattle.keeping_rules.specs.Looks.{IsLook}
 use Rattle.document_session.specs.Answers.{IsWaiting}
@@ -60,7 +60,7 @@ module _ {S : Type 0} (l : Lang S) (service : Service) (s : Session) (id : ℕ) 
     pub stuck_rises : ((h : List Event) (version : Version) → IsRising (stuck_in l h (doc l h) version)) → IsRising stuck.items
     stuck_rises law = subst IsRising (sym so_settled.1) (law s.events so_settled.0.version)
 
-    pub told_so : is_held_by_script service s.events ≡ false → (reply : Vec ℕ Global) → reply.items ≡ spelling (tells.Settled id stuck.items)
+    pub told_so : is_held_by_script service s.events ≡ false → (reply : Vec ℕ Global) → reply.items ≡ reply_spelling (tells.Settled id stuck.items)
         → SettlesSo l service s id (settling.Told reply)
     told_so free reply says = settled_look l service s id so_settled.0.version so_settled.0.live free so_settled.0.is_settled
         stuck.items so_settled.1 reply.items says

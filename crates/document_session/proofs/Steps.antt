@@ -28,7 +28,7 @@ use Rattle.session_rules.specs.declared.service.Service.{Service}
 use Rattle.session_rules.specs.declared.service.Service.TheVariants.{Script}
 use Rattle.session_rules.specs.Services.{mode_of}
 use Rattle.session_rules.specs.Session.{document}
-use Rattle.keeping_rules.specs.session_replies_below.Spelling.{spelling}
+use Rattle.keeping_rules.specs.session_replies_below.Spelling.{reply_spelling}
 use Rattle.keeping_rules.specs.session_replies_below.Works.{Work, WorkDone}
 use Rattle.keeping_rules.specs.session_replies_below.declared.ran.SessionRan.{SessionRan}
 use Rattle.keeping_rules.specs.session_replies_below.declared.ran.SessionRan.TheVariants as ran
@@ -36,7 +36,7 @@ use Rattle.keeping_rules.specs.session_replies_below.Runs.{RanSo, work_done}
 use Rattle.keeping_rules.specs.Items.{SessionItem}
 use Rattle.keeping_rules.specs.Kept.{IsKept}
 use Rattle.keeping_rules.specs.States.{State, IsSound, heard_with}
-use Rattle.keeping_rules.specs.Turns.{entry_of, told_of}
+use Rattle.keeping_rules.specs.Turns.{entry_of, finish_reply}
 use Rattle.keeping_rules.specs.Workers.{StepLaws}
 use Rattle.keeping_rules.specs.Works.{IsDoneWorkOf}
 use Rattle.document_session.specs.Answers.{IsAnswered, is_step}
@@ -98,7 +98,7 @@ module _ {S : Type 0} (l : Lang S) (service : Service) (st : State S) (k : IsSou
   -- a part was taken
   module _ (asks_it : asked (mode_of service) message ≡ Ok (asks.Claim who)) (part : Part) (job : JobContent S) (past : List Event)
       (first : first_ready l st.session.events ≡ Some part) (told : CoreIsClaimed l who st.session.events job past)
-      (new : Log Service Entry) (added : IsStepAdded st.log new message (entry.Claimed who part) (spelling (tells.Claimed who part)) (st.holding + 2)) where
+      (new : Log Service Entry) (added : IsStepAdded st.log new message (entry.Claimed who part) (reply_spelling (tells.Claimed who part)) (st.holding + 2)) where
     pub step_claimed : StepLaws l → service ≡ Script → IsWorker who → (work : Work S)
         → work ≡ record { job = job; protocol = st.session.protocol } → (before now : ℕ → Option (Work S)) → ((w : ℕ) → before w ≡ st.jobs w)
         → ((w : ℕ) → now w ≡ (if who == w then Some work else before w))
@@ -124,7 +124,7 @@ module _ {S : Type 0} (l : Lang S) (service : Service) (st : State S) (k : IsSou
   module _ (asks_it : asked (mode_of service) message ≡ Ok (asks.Finish who)) (work : Work S) (has : st.jobs who ≡ Some work) (done : WorkDone S)
       (is : done ≡ work_done l work)
       (law : (homes : List Home) (job : JobContent S) → IsJobOf l homes job → IsDoneOf l homes (done_by l job)) where
-    module _ (f : Finish) (new : Log Service Entry) (added : IsStepAdded st.log new message (entry_of f who done.done.part) (spelling (told_of f done))
+    module _ (f : Finish) (new : Log Service Entry) (added : IsStepAdded st.log new message (entry_of f who done.done.part) (reply_spelling (finish_reply f done))
         (st.holding + 1)) where
       pub step_finished : StepLaws l → has_ended st.session.events ≡ false → (past : List Event) → CoreFinishedSo l who done.done.part st.session.events f past
           → (holding : ℕ) → holding + 1 ≡ st.holding → (before now : ℕ → Option (Work S)) → ((w : ℕ) → before w ≡ st.jobs w)

@@ -6,7 +6,7 @@ ghost use Rattle.message_values.specs.declared.editor_message.EditorMessage.TheV
 ghost use Rattle.session_rules.specs.Services.{mode_of};
 ghost use Rattle.keeping_rules.specs.Items.{session_in};
 ghost use Rattle.keeping_rules.specs.Legal.{AreLegal};
-ghost use Rattle.keeping_rules.specs.session_replies_below.Spelling.{spelling};
+ghost use Rattle.keeping_rules.specs.session_replies_below.Spelling.{reply_spelling};
 ghost use Rattle.keeping_rules.specs.session_replies_below.Cancelled.{cancelling_told};
 ghost use Rattle.document_session.specs.Answers.{TakenSo};
 ghost use Rattle.document_session.specs.Cancels.{AreRepliesTo};
@@ -158,7 +158,7 @@ impl CancelReplies {
     /// The reply to this answer. It takes no memory.
     fn reply(self, answer: Cancelling) -> Vec<u8>
         ensures { (exec : ℕ) → AreRepliesTo exec self
-            → result.items ≡ spelling (cancelling_told exec answer) }
+            → result.items ≡ reply_spelling (cancelling_told exec answer) }
     {
         match answer {
             Cancelling::Unknown => self.unknown,

@@ -5,12 +5,12 @@ ghost use Rattle.message_values.specs.Asked.{asked};
 ghost use Rattle.message_values.specs.declared.editor_message.EditorMessage.TheVariants as asks;
 ghost use Rattle.reply_writing.specs.Forms.{IsRising};
 ghost use Rattle.reply_writing.specs.declared.told.Told.TheVariants as tells;
-ghost use Rattle.exec_lists.specs.Parts.{told};
+ghost use Rattle.exec_lists.specs.Parts.{told_part};
 ghost use Rattle.session_rules.specs.Services.{mode_of, is_held_by_script};
 ghost use Rattle.session_rules.specs.Replies.{is_outdated};
 ghost use Rattle.keeping_rules.specs.Items.{session_in};
 ghost use Rattle.keeping_rules.specs.Legal.{AreLegal};
-ghost use Rattle.keeping_rules.specs.session_replies_below.Spelling.{spelling};
+ghost use Rattle.keeping_rules.specs.session_replies_below.Spelling.{reply_spelling};
 ghost use Rattle.keeping_rules.specs.session_replies_below.Marked.{marked, AreMovable};
 ghost use Rattle.document_session.specs.Answers.{TakenSo};
 ghost use Rattle.keeping_rules.specs.Looks.{IsLook};
@@ -214,10 +214,10 @@ fn markup_of<'a>(
     edits: &[Edit],
     results: NodeResults<'a>,
 ) -> Result<Vec<u8>, AllocError>
-    requires movable { AreMovable edits.now (map told results.parts.items) }
+    requires movable { AreMovable edits.now (map told_part results.parts.items) }
     requires rising { IsRising results.pending.items }
-    ensures { IfOk result (λ bytes. bytes.items ≡ spelling (tells.Markup version node.now
-        (marked protocol text.now edits.now (map told results.entry.parts.items))
+    ensures { IfOk result (λ bytes. bytes.items ≡ reply_spelling (tells.Markup version node.now
+        (marked protocol text.now edits.now (map told_part results.entry.parts.items))
         results.entry.pending.items (is_outdated edits.now))) }
 {
     markup(alloc, protocol, version, node, text, edits, &results)

@@ -3,7 +3,7 @@ ghost use Rattle.std.specs.Prelude.{◌≡◌, ◌+◌, ◌^◌, ◌<◌, ◌≤
 ghost use Rattle.std.specs.HashMap.{spare};
 ghost use Rattle.prover_core.specs.Looked.{looked};
 ghost use Rattle.reply_writing.specs.declared.told.Told.TheVariants as tells;
-ghost use Rattle.keeping_rules.specs.session_replies_below.Spelling.{spelling};
+ghost use Rattle.keeping_rules.specs.session_replies_below.Spelling.{reply_spelling};
 ghost use Rattle.core_rules.specs.Standing.{has_ended};
 ghost use Rattle.message_values.specs.Asked.{asked};
 ghost use Rattle.message_values.specs.Workers.{IsWorker};
@@ -155,8 +155,8 @@ fn claim_replies(
     part: &Part,
 ) -> Result<(Vec<u8>, Vec<u8>), AllocError>
     ensures claimed { IfOk result (λ both. both.0.items
-        ≡ spelling (tells.Claimed worker part.now)) }
-    ensures dropped { IfOk result (λ both. both.1.items ≡ spelling (tells.Dropped part.now)) }
+        ≡ reply_spelling (tells.Claimed worker part.now)) }
+    ensures dropped { IfOk result (λ both. both.1.items ≡ reply_spelling (tells.Dropped part.now)) }
 {
     both(
         claimed(alloc, worker, same(part)),

@@ -9,7 +9,7 @@ ghost use Rattle.core_rules.specs.Doc.{doc, assignment_of};
 ghost use Rattle.core_rules.specs.Updates.{FitsUpdate};
 ghost use Rattle.prover_core.specs.Plans.{IsPlanOf, HasRoom};
 ghost use Rattle.reply_writing.specs.declared.told.Told.TheVariants as tells;
-ghost use Rattle.keeping_rules.specs.session_replies_below.Spelling.{spelling};
+ghost use Rattle.keeping_rules.specs.session_replies_below.Spelling.{reply_spelling};
 ghost use Rattle.keeping_rules.specs.session_replies_below.Assigned.{nodes_told};
 ghost use Rattle.message_values.specs.Asked.{asked};
 ghost use Rattle.message_values.specs.declared.editor_message.EditorMessage.TheVariants as asks;
@@ -150,7 +150,7 @@ fn plan_prepared<L: Language, P: Past<Service, Entry> + Drop>(
     ensures plan { IfOk result (λ both. IsPlanOf L.lang core.new.past both.0) }
     ensures room { IfOk result (λ both. HasRoom core.new.room both.0) }
     ensures reply { IfOk result (λ both. both.1.items
-        ≡ spelling (tells.Assign version (nodes_told both.0.told))) }
+        ≡ reply_spelling (tells.Assign version (nodes_told both.0.told))) }
     ensures limit { result ≡ Err Limit → id_end < (assignment_of (doc L.lang core.old.past)
         made.now.after.nodes made.now.after.document.blobs).next }
 {

@@ -6,11 +6,11 @@ ghost use Rattle.core_rules.specs.Doc.{doc};
 ghost use Rattle.prover_core.specs.Answers.{FinishedSo as CoreFinishedSo};
 ghost use Rattle.reply_outbox.specs.declared.item.Item.TheVariants.{Made};
 ghost use Rattle.session_rules.specs.Services.{free_workers};
-ghost use Rattle.keeping_rules.specs.session_replies_below.Spelling.{spelling};
+ghost use Rattle.keeping_rules.specs.session_replies_below.Spelling.{reply_spelling};
 ghost use Rattle.keeping_rules.specs.Items.{session_in};
 ghost use Rattle.keeping_rules.specs.Legal.{AreLegal};
 ghost use Rattle.keeping_rules.specs.Works.{IsDoneWorkOf};
-ghost use Rattle.keeping_rules.specs.Turns.{entry_of, told_of};
+ghost use Rattle.keeping_rules.specs.Turns.{entry_of, finish_reply};
 ghost use Rattle.document_session.specs.Answers.{ClaimedSo, FinishedSo, GivenUpSo};
 
 use crate::answering::make_room;
@@ -140,7 +140,7 @@ pub(crate) fn take_in<L: Language, P: Past<Service, Entry> + Drop>(
     ensures items { outbox.new.items ≡ Made (entry_of result who done.done.part)
         ∷ outbox.old.items }
     ensures waiting { outbox.new.waiting ≡ outbox.old.waiting
-        ++ spelling (told_of result done) ∷ [] }
+        ++ reply_spelling (finish_reply result done) ∷ [] }
     ensures free { outbox.new.free + 1 ≡ outbox.old.free }
 {
     let part = done.part();

@@ -12,7 +12,7 @@ use Rattle.doc_nodes.specs.declared.node.Node.{Node}
 use Rattle.doc_blobs.specs.Needs.{AliasList}
 use Rattle.buffer_rules.specs.declared.sheet.Sheet.{Sheet}
 use Rattle.buffer_rules.specs.Cuts.{source, commands_of}
-use Rattle.buffer_rules.specs.Numbers.{Command, Kept, equal_front, equal_back, kept, with_kept, ids_of, new_count}
+use Rattle.buffer_rules.specs.Numbers.{Command, Kept, equal_front, equal_back, kept_runs, with_kept, ids_of, new_count}
 use Rattle.buffer_rules.specs.Nodes.{entry, ranges_in, sources, cut}
 use Rattle.node_commands.specs.Commands.{AsksFor, AskUnder}
 use Rattle.document_edits.specs.Standing.{numbered, IsCutFrom}
@@ -25,7 +25,7 @@ front_all [] = refl
 front_all (x ∷ xs) = ap (λ b. cond b (suc (equal_front xs xs)) 0) (equal_self x) ∙ ap (λ n. suc n) (front_all xs)
 
 -- of the same sources all are kept
-kept_all : (xs : List (List ℕ)) → kept xs xs ≡ record { front = length xs; back = 0 }
+kept_all : (xs : List (List ℕ)) → kept_runs xs xs ≡ record { front = length xs; back = 0 }
 kept_all xs =
     ap (λ n. let k : Kept = record { front = n; back = equal_back (drop n xs) (drop n xs) } in k) (front_all xs)
     ∙ ap (λ ys. let k : Kept = record { front = length xs; back = equal_back ys ys } in k) (drop_all (length xs) xs (omega arith))
@@ -85,12 +85,15 @@ module _ (sheet : Sheet) (aliases : AliasList) where
       let before = commands_of (numbered sheet aliases ids) in
       let olds : map (λ (c : Command). c.1) before ≡ now = sources_are ids (ranges_in sheet aliases) len in
       let firsts : map (λ (c : Command). c.0) before ≡ ids = firsts_are ids (ranges_in sheet aliases) len in
-      let whole : kept (map (λ (c : Command). c.1) before) now ≡ record { front = length now; back = 0 } =
-      ap (λ xs. kept xs now) olds ∙ kept_all now in
+      let whole : kept_runs (map (λ (c : Command). c.1) before) now ≡ record
+      { front = length now; back = 0 } =
+      ap (λ xs. kept_runs xs now) olds ∙ kept_all now in
       let long : length ids ≡ length now = len ∙ sym (length-map (ranges_in sheet aliases) (source sheet.text)) in
-      let so = same_ids (kept (map (λ (c : Command). c.1) before) now) ids (length now) next whole long in (
+      let so = same_ids (kept_runs (map (λ (c : Command). c.1) before) now) ids (length now) next
+      whole long in (
         ap (numbered sheet aliases)
-            (ap (λ js. with_kept (kept (map (λ (c : Command). c.1) before) now) js (length now) next) firsts ∙ so.0),
+            (ap (λ js. with_kept (kept_runs (map (λ (c : Command). c.1) before) now) js
+            (length now) next) firsts ∙ so.0),
         so.1,
       )
 

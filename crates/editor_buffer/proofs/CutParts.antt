@@ -11,7 +11,7 @@ use Rattle.doc_nodes.specs.Imports.{NodeList}
 use Rattle.doc_blobs.specs.Needs.{AliasList}
 use Rattle.buffer_rules.specs.declared.sheet.Sheet.{Sheet}
 use Rattle.buffer_rules.specs.Cuts.{source, commands_of}
-use Rattle.buffer_rules.specs.Numbers.{Command, Kept, kept, ids_of, new_count}
+use Rattle.buffer_rules.specs.Numbers.{Command, Kept, kept_runs, ids_of, new_count}
 use Rattle.buffer_rules.specs.Nodes.{uncut, entry, ranges_in, sources, cut, before_in}
 use Rattle.node_commands.specs.Commands.{sources_in, commands_in}
 use Rattle.node_commands.proofs.KnownCommands.{seconds}
@@ -37,16 +37,17 @@ module _ (sheet : Sheet) (aliases : AliasList) where
 
   -- the next id behind those that are new
   pub next_so : (text : List ℕ) (es : List Entry) (rs : List Range) (k : Kept) (next fresh : ℕ)
-      → rs ≡ ranges_in sheet aliases → k ≡ kept (sources_in text es) (map (source sheet.text) rs) → fresh ≡ length rs - k.front - k.back
+      → rs ≡ ranges_in sheet aliases → k ≡ kept_runs (sources_in text es) (map (source sheet.text) rs) → fresh ≡ length rs - k.front - k.back
       → next + fresh ≡ next_after sheet aliases (commands_in text es) next
   next_so text es rs k next fresh places is_kept is_fresh =
       let now = map (source sheet.text) rs in
-      let j = kept (sources_in text es) now in
+      let j = kept_runs (sources_in text es) now in
       let count : fresh ≡ new_count (commands_in text es) (sources sheet aliases) =
       is_fresh
       ∙ ap (λ (i : Kept). length rs - i.front - i.back) is_kept
       ∙ ap (λ n. n - j.front - j.back) (sym (length-map rs (source sheet.text)))
-      ∙ ap (λ olds. length now - (kept olds now).front - (kept olds now).back) (sym (seconds text es))
+      ∙ ap (λ olds. length now - (kept_runs olds now).front - (kept_runs olds now).back)
+      (sym (seconds text es))
       ∙ ap (λ qs. new_count (commands_in text es) (map (source sheet.text) qs)) places in
       ap (λ n. next + n) count
 

@@ -3,7 +3,7 @@ ghost use Rattle.std.specs.Prelude.{◌≡◌, ◌↔◌, IsTrue, IfOk};
 ghost use Rattle.std.specs.Bool.{OnTrue};
 ghost use Rattle.std.specs.List.{AllZip};
 ghost use Rattle.buffer_rules.specs.Updates.{sheets_after};
-ghost use Rattle.buffer_rules.specs.Preparing.{empty, prepared};
+ghost use Rattle.buffer_rules.specs.Preparing.{empty_buffer, prepared};
 ghost use Rattle.sheet_edits.specs.Telling.{Tells};
 ghost use Rattle.document_edits.specs.Standing.{sheets_of, Drafted};
 ghost use Rattle.doc_nodes.specs.Heads.{heads};
@@ -119,7 +119,7 @@ fn prepared_of(cutting: Cutting, edits: BlobEdits) -> Prepared
 impl Buffer {
     /// The buffer before any update.
     pub fn new() -> Buffer
-        ensures { result ≡ empty }
+        ensures { result ≡ empty_buffer }
     {
         Buffer {
             opened: SharedMap::new(),

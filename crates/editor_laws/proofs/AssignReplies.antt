@@ -13,7 +13,7 @@ use Rattle.doc_nodes.specs.Imports.{NodeList, place_of}
 use Rattle.exec_rules.specs.declared.row.Row.{Row}
 use Rattle.exec_rules.specs.declared.version.Version.{Version}
 use Rattle.exec_rules.specs.Assigning.{entries_at, entries_in, rows_in}
-use Rattle.exec_rules.specs.Listed.{Told, executions, is_other, print_list, told, told_in}
+use Rattle.exec_rules.specs.Listed.{Told, executions, is_other, print_list, told_commands, told_commands_in}
 use Rattle.exec_rules.proofs.KnownThere.{all_at}
 use Rattle.core_rules.specs.Assigned.{command_ids}
 use Rattle.buffer_laws.specs.Known.{AreBelow}
@@ -66,7 +66,7 @@ row r = record { command = r.0; executions = r.1 }
 
 told_fit : (es : List Entry) (rows : List Row) → AllByRecursion (λ (e : Entry). IsId e.command) es
     → AllByRecursion (λ r. AllByRecursion IsId (executions r)) rows
-    → AllByRecursion FitsRow (map row (told es rows))
+    → AllByRecursion FitsRow (map row (told_commands es rows))
 told_fit [] rows ids execs = tt
 told_fit (e ∷ es) [] ids execs = ((ids.0, tt), told_fit es [] ids.1 tt)
 told_fit (e ∷ es) (r ∷ rows) ids execs = ((ids.0, execs.0), told_fit es rows ids.1 execs.1)
@@ -92,12 +92,12 @@ module _ (tip new : Version) (named : AllNamed new.nodes)
     (execs : (name : List ℕ) (i e : ℕ) (r : Row) → slice_get (rows_in new name) i ≡ Some r
     → has (executions r) e ≡ true → IsId e) where
   abbrev listing : List ℕ × Node → List ℕ × List Told
-  listing pair = (pair.0, told_in new pair.0)
+  listing pair = (pair.0, told_commands_in new pair.0)
 
   abbrev node_rows : List ℕ × List Told → NodeRows
   node_rows node = record { node = node.0; rows = map row node.1 }
 
-  named_fit : (name : List ℕ) → AllByRecursion FitsRow (map row (told_in new name))
+  named_fit : (name : List ℕ) → AllByRecursion FitsRow (map row (told_commands_in new name))
   named_fit name = told_fit (entries_in new name) (rows_in new name)
       (entries_all (λ (e : Entry). IsId e.command) new name ids)
       (all_from (λ r. AllByRecursion IsId (executions r)) (rows_in new name)

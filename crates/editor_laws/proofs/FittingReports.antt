@@ -8,14 +8,14 @@ use Rattle.text_edits.specs.declared.edit.Edit.{Edit}
 use Rattle.report_markup.specs.declared.report.Report.{Report}
 use Rattle.report_markup.specs.Order.{report_cmp}
 use Rattle.report_markup.specs.Ranges.{moved}
-use Rattle.report_markup.specs.Sorting.{in_order, insert_if, insert_report}
+use Rattle.report_markup.specs.Sorting.{ordered_reports, insert_if, insert_report}
 use Rattle.snapshots.specs.Converted.{at_range, converted, left_by, left_range}
 use Rattle.symbol_markup.specs.Places.{symbol_place}
 use Rattle.symbol_markup.specs.Told.{at_symbols, is_filled}
 use Rattle.message_values.specs.declared.protocol.Protocol.{Protocol}
 use Rattle.message_values.specs.declared.protocol.Protocol.TheVariants.{Scalars, Symbols}
 use Rattle.reply_reading.specs.Fits.{FitsProperty, FitsReport, IsPlainText}
-use Rattle.session_rules.specs.Shown.{told_in}
+use Rattle.session_rules.specs.Shown.{protocol_reports}
 use Rattle.editor_laws.proofs.EditSizes.{convert_most, sizes}
 
 -- the range has no end behind this place, and properties and text are plain
@@ -74,9 +74,9 @@ module _ (Q : Report → Type 0) where
       go true inserted = (all.0, inserted)
       go false inserted = (q, all)
 
-  pub order_all : (rs : List Report) → AllByRecursion Q rs → AllByRecursion Q (in_order rs)
+  pub order_all : (rs : List Report) → AllByRecursion Q rs → AllByRecursion Q (ordered_reports rs)
   order_all [] all = tt
-  order_all (r ∷ rs) all = insert_all r (in_order rs) all.0 (order_all rs all.1)
+  order_all (r ∷ rs) all = insert_all r (ordered_reports rs) all.0 (order_all rs all.1)
 
 pub filter_all : {X : Type 0} (Q : X → Type 0) (p : X → Bool) (xs : List X) → AllByRecursion Q xs
     → AllByRecursion Q (filter p xs)
@@ -99,10 +99,10 @@ module _ (within : (text : List ℕ) (place : ℕ) → symbol_place text place �
 
   -- as a protocol tells them
   pub told_fit : (p : Protocol) (text : List ℕ) (m n : ℕ) (rs : List Report) → m ≤ n
-      → length text + 1 ≤ n → AllFit m rs → AllFit n (told_in p text rs)
+      → length text + 1 ≤ n → AllFit m rs → AllFit n (protocol_reports p text rs)
   told_fit Scalars text m n rs le long all = fit_more m n le rs all
   told_fit Symbols text m n rs le long all =
-      fit_more (length text + 1) n long (told_in Symbols text rs)
+      fit_more (length text + 1) n long (protocol_reports Symbols text rs)
       (order_all (Fitting (length text + 1)) (filter (λ r. is_filled r.range)
       (map (at_symbols text) rs))
       (filter_all (Fitting (length text + 1)) (λ r. is_filled r.range) (map (at_symbols text) rs)

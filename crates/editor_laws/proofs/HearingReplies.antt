@@ -12,7 +12,7 @@ use Rattle.session_rules.specs.declared.entry.Entry.{Entry}
 use Rattle.session_rules.specs.declared.service.Service.{Service}
 use Rattle.session_rules.specs.Heard.{all_heard, heard}
 use Rattle.session_rules.specs.Legal.{IsLegal}
-use Rattle.session_rules.specs.Replies.{told}
+use Rattle.session_rules.specs.Replies.{entry_replies}
 use Rattle.mirror_rules.specs.Events.{MirrorEvent}
 use Rattle.mirror_rules.specs.Moves.{Move}
 use Rattle.mirror_laws.specs.Streams.{CanBeHeard, FollowsBytes, all_replies}
@@ -69,7 +69,7 @@ module _ {S : Type 0} (l : Lang S) (laws : HistoryLaws l) (asked : AskedLaw)
       → AllByRecursion IsReply (all_replies l service history)
   all_readable [] legal are = tt
   all_readable (e ∷ h) legal are =
-      each-both IsReply (all_replies l service h) (told l service (all_heard service h)
+      each-both IsReply (all_replies l service h) (entry_replies l service (all_heard service h)
       (heard service e)) (all_readable h legal.0 are.1)
       (told_readable l laws service (heard service e) (all_heard service h) legal
       (all_sound asked service (e ∷ h) are))

@@ -22,7 +22,7 @@ use Rattle.reply_reading.specs.Fits.{FitsReport}
 use Rattle.reply_writing.specs.Forms.{IsRising}
 use Rattle.session_rules.specs.Looking.{Looked, looked_at}
 use Rattle.session_rules.specs.Session.{Session, document}
-use Rattle.session_rules.specs.Shown.{shown, told_in}
+use Rattle.session_rules.specs.Shown.{finished_reports, protocol_reports}
 use Rattle.editor_laws.proofs.AssignReplies.{entries_all}
 use Rattle.editor_laws.proofs.EditSizes.{edited_all, sizes}
 use Rattle.editor_laws.proofs.FineDocs.{FineDoc, FineLive, FineVersion}
@@ -63,7 +63,7 @@ live_fine lives id v all is = go (find (λ live. live.id == id) lives) refl is
 module _ {S : Type 0} (l : Lang S) (told : ReportLaws l)
     (within : (text : List ℕ) (place : ℕ) → symbol_place text place ≤ length text + 1) where
   shown_all : (h : List Event) (v : Version) (name : List ℕ) (edits : List Edit) → FineVersion v
-      → AllFit ((most_scalars + most_scalars) + sizes edits) (shown l h v name edits)
+      → AllFit ((most_scalars + most_scalars) + sizes edits) (finished_reports l h v name edits)
   shown_all h v name edits fine =
       order_all (Fitting ((most_scalars + most_scalars) + sizes edits)) _
       (left_fit edits (most_scalars + most_scalars) _ (shown_fit l h most_scalars most_scalars
@@ -80,8 +80,8 @@ module _ {S : Type 0} (l : Lang S) (told : ReportLaws l)
   pub shown_told : (s : Session) (id : ℕ) (name : List ℕ) (edits : List Edit) (looked : Looked)
       → FineDoc (document l s) → sizes edits ≤ longest_chunk
       → looked_at l s id name edits ≡ Ok looked
-      → AllByRecursion FitsReport (told_in s.protocol looked.text
-      (shown l s.events looked.version name edits))
+      → AllByRecursion FitsReport (protocol_reports s.protocol looked.text
+      (finished_reports l s.events looked.version name edits))
   shown_told s id name edits looked fine brief e =
       let at = looks_at l s id name edits looked e in
       let version = live_fine (document l s).live id looked.version fine.live at.version in

@@ -22,7 +22,7 @@ use Rattle.session_rules.specs.Accepting.{accepted}
 use Rattle.session_rules.specs.History.{session}
 use Rattle.session_rules.specs.Legal.{IsLegal}
 use Rattle.session_rules.specs.Looking.{Looked, looked_at, settles}
-use Rattle.session_rules.specs.Replies.{cancelling, markup, or_refusal, told_of}
+use Rattle.session_rules.specs.Replies.{cancelling, markup, or_refusal, message_replies}
 use Rattle.editor_laws.proofs.FineDocs.{FineDoc, FineLive}
 use Rattle.editor_laws.proofs.FittingReports.{filter_all}
 use Rattle.editor_laws.proofs.LookReplies.{numbers_fit, numbers_rise, shown_told}
@@ -50,7 +50,7 @@ module _ {S : Type 0} (l : Lang S) (laws : HistoryLaws l) (service : Service) wh
       → AllByRecursion IsSound (Message (Ok m) ∷ h)
       → IsLegal l service (Message (Ok m) ∷ h) → accepted l service (session l service h) m
       ≡ Ok after
-      → Readable (or_refusal (told_of l service (session l service h) after m))
+      → Readable (or_refusal (message_replies l service (session l service h) after m))
   message_readable h (asks.Update version items blobs) after sound legal e =
       (update_readable l laws service h version items blobs after sound legal e, tt)
   message_readable h (asks.Snapshot version node edits) after sound legal e =

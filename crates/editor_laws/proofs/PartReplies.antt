@@ -29,7 +29,7 @@ use Rattle.session_rules.specs.Accepting.{accepted}
 use Rattle.session_rules.specs.History.{session}
 use Rattle.session_rules.specs.Legal.{IsLegal}
 use Rattle.session_rules.specs.Replies.{claim_told, report_of}
-use Rattle.session_rules.specs.Shown.{told_in}
+use Rattle.session_rules.specs.Shown.{protocol_reports}
 use Rattle.session_rules.specs.Steps.{Claims, Due, Finishes, Nothing, called_for, due, due_by}
 use Rattle.mirror_laws.proofs.KnownReported.{held_part}
 use Rattle.editor_laws.proofs.FineDocs.{FineDoc, FineLive}
@@ -48,11 +48,11 @@ module _ {S : Type 0} (l : Lang S) (laws : HistoryLaws l) (service : Service) wh
     fits = (
       part_fits l s p fine real,
       told_fits (most_scalars + 1) (omega arith) _
-          (subst (λ o. AllFit (most_scalars + 1) (told_in s.protocol
+          (subst (λ o. AllFit (most_scalars + 1) (protocol_reports s.protocol
           (option_map_or (λ (x : Home). x.source) o [])
           (option_map_or (λ (rs : List Report). rs) (reports_of l (document l s).homes p) [])))
           (sym r.homed)
-          (subst (λ o. AllFit (most_scalars + 1) (told_in s.protocol r.home.source
+          (subst (λ o. AllFit (most_scalars + 1) (protocol_reports s.protocol r.home.source
           (option_map_or (λ (rs : List Report). rs) o []))) (sym r.are)
           (let short = r.short in told_fit laws.within s.protocol r.home.source most_scalars
           (most_scalars + 1) r.reports (omega arith) (omega (arith, short)) r.fit))),

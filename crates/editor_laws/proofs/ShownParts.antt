@@ -16,7 +16,7 @@ use Rattle.core_rules.specs.declared.event.Event.{Event}
 use Rattle.core_rules.specs.Settings.{Setting, made_of, forked, printed, state_behind}
 use Rattle.core_rules.specs.Shown.{PartShown, scratch_parts, scratches_parts, shown_with}
 use Rattle.core_rules.specs.Standing.{is_finished}
-use Rattle.session_rules.specs.Shown.{placed}
+use Rattle.session_rules.specs.Shown.{placed_reports}
 use Rattle.editor_laws.proofs.FittingReports.{AllFit, Fitting, moved_fit}
 
 -- what is reported of the command fits
@@ -29,7 +29,7 @@ BeginBy k es = AllByRecursion (λ e. e.range.start ≤ k) es
 
 module _ {S : Type 0} (l : Lang S) (h : List Event) (k m : ℕ) where
   abbrev PartFits : PartShown → Type 0
-  PartFits part = AllFit (k + m) (placed part)
+  PartFits part = AllFit (k + m) (placed_reports part)
 
   part_fits : (e : Entry) → e.range.start ≤ k → (rs : List Report) → AllFit m rs → (p : Part)
       → PartFits (shown_with h e (Some rs) p)
@@ -91,13 +91,14 @@ module _ {S : Type 0} (l : Lang S) (h : List Event) (k m : ℕ) where
       (parts_fit e row s begin.0 fit.0) (all_parts_fit es rows ss begin.1 fit.1)
 
   placed_fit : (parts : List PartShown) → AllByRecursion PartFits parts
-      → AllFit (k + m) (flat_map placed parts)
+      → AllFit (k + m) (flat_map placed_reports parts)
   placed_fit [] all = tt
-  placed_fit (p ∷ ps) all = each-both (Fitting (k + m)) (placed p) (flat_map placed ps) all.0
+  placed_fit (p ∷ ps) all = each-both (Fitting (k + m)) (placed_reports p)
+      (flat_map placed_reports ps) all.0
       (placed_fit ps all.1)
 
   pub shown_fit : (es : List Entry) (rows : List Row) (ss : List (Setting S)) → BeginBy k es
       → AllByRecursion (SettingFits l m) ss
-      → AllFit (k + m) (flat_map placed (scratches_parts l h es rows ss))
+      → AllFit (k + m) (flat_map placed_reports (scratches_parts l h es rows ss))
   shown_fit es rows ss begin fit = placed_fit (scratches_parts l h es rows ss)
       (all_parts_fit es rows ss begin fit)

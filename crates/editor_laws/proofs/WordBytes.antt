@@ -13,7 +13,7 @@ use Rattle.xml_tree.specs.Marks.{Mark, opening, closing, words, marks}
 use Rattle.xml_tree.proofs.KnownMarks.{tree_marks-Elem, tree_marks-Text}
 use Rattle.xml_codec.specs.Data.{list_body, numbered_from, string_body}
 use Rattle.yxml.specs.Reading.{is_x, is_y, marks_from, marks_in, marks_said, said, start_said, tag_said, attributes_of}
-use Rattle.yxml.specs.Spelling.{Spells, merged, onto}
+use Rattle.yxml.specs.Spelling.{Spells, merged_texts, onto}
 use Rattle.data_shapes.specs.Bodies.{edit_body, text_body}
 use Rattle.editor_laws.proofs.EditSizes.{size, sizes}
 
@@ -37,11 +37,11 @@ weight_onto text (opening name attributes ∷ ms) = refl
 weight_onto text (closing ∷ ms) = refl
 weight_onto text (words next ∷ ms) = let both = length-append text next in omega (arith, both)
 
-weight_merged : (ms : List Mark) → weight (merged ms) ≡ weight ms
+weight_merged : (ms : List Mark) → weight (merged_texts ms) ≡ weight ms
 weight_merged [] = refl
 weight_merged (opening name attributes ∷ ms) = weight_merged ms
 weight_merged (closing ∷ ms) = weight_merged ms
-weight_merged (words text ∷ ms) = let one = weight_onto text (merged ms) in let rest =
+weight_merged (words text ∷ ms) = let one = weight_onto text (merged_texts ms) in let rest =
     weight_merged ms in omega (arith, one, rest)
 
 -- the bytes of all pieces

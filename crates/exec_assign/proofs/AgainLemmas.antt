@@ -9,7 +9,7 @@ use Rattle.doc_nodes.specs.declared.node.Node.{Node}
 use Rattle.doc_nodes.specs.Names.{in_order}
 use Rattle.doc_nodes.proofs.KnownNames.{name_itself}
 use Rattle.exec_rules.specs.declared.row.Row.{Row}
-use Rattle.exec_rules.specs.Kept.{BlobList, Times, agree, same_blob, keeps, kept}
+use Rattle.exec_rules.specs.Kept.{BlobList, Times, agree, same_blob, keeps, kept_count}
 use Rattle.exec_rules.specs.Rows.{live_print, print_of, takes_print, with_prints, behind_prints}
 use Rattle.exec_rules.specs.declared.home.Input.TheVariants.{Print}
 use Rattle.exec_rules.specs.Homes.{home, print_homes}
@@ -33,12 +33,14 @@ keeps_itself t agrees e r alive =
 -- all commands with rows keep their evaluations
 pub kept_whole : (t : Times) → ((name : List ℕ) → agree (found in_order name t.now) (found in_order name t.before) ≡ true)
     → (es : List Entry) (rs : List Row) → Fit es rs
-    → ((i : ℕ) (row : Row) → slice_get rs i ≡ Some row → IsAlive t.cancelled row) → kept t es es rs ≡ length rs
+    → ((i : ℕ) (row : Row) → slice_get rs i ≡ Some row → IsAlive t.cancelled row)
+    → kept_count t es es rs ≡ length rs
 kept_whole t agrees [] [] fit alive = refl
 kept_whole t agrees [] (r ∷ rs) fit alive = let none = fit zero r refl in absurd (cc)
 kept_whole t agrees (e ∷ es) [] fit alive = refl
 kept_whole t agrees (e ∷ es) (r ∷ rs) fit alive =
-    ap (λ b. cond b (suc (kept t es es rs)) 0) (keeps_itself t agrees e r (alive zero r refl).evaluation)
+    ap (λ b. cond b (suc (kept_count t es es rs)) 0)
+    (keeps_itself t agrees e r (alive zero r refl).evaluation)
     ∙ ap suc (kept_whole t agrees es rs (λ i row at. fit (suc i) row at) (λ i row at. alive (suc i) row at))
 
 -- rows that fit are no more than the commands

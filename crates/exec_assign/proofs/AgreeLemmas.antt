@@ -11,9 +11,9 @@ use Rattle.exec_rules.specs.declared.row.Row.{Row}
 use Rattle.exec_rules.specs.declared.row.Assigned.{Assigned}
 use Rattle.exec_rules.specs.declared.version.Version.{Version}
 use Rattle.exec_rules.specs.Keys.{same_key, assigned_at, key_of}
-use Rattle.exec_rules.specs.Kept.{BlobList, kept}
+use Rattle.exec_rules.specs.Kept.{BlobList, kept_count}
 use Rattle.exec_rules.specs.Rows.{evaluations, live_prints}
-use Rattle.exec_rules.specs.Assigning.{Update, Work, entries_in, assigned_in, rows_in, times, kept_of, greater, given, head_at, added, assign_one, assign_all, assignment}
+use Rattle.exec_rules.specs.Assigning.{Update, Work, entries_in, assigned_in, rows_in, times, kept_of, greater, given, head_at, extended_work, assign_one, assign_all, assignment}
 use Rattle.exec_assign.specs.Agreeing.{AgreeAt}
 use Rattle.exec_assign.specs.Untouched.{IsUntouched, AreUntouched}
 use Rattle.exec_assign.proofs.StandLemmas.{shaped}
@@ -27,8 +27,8 @@ module _ (tip : Version) (nodes : NodeList) (blobs : BlobList) (one other : List
   kept_same pair key = go (assigned_in tip pair.0) refl
     where
       go : (o : Option Assigned) → assigned_in tip pair.0 ≡ o
-          → option_map_or (λ old. cond (same_key key old.key) (kept (times (with_cancelled one)) pair.1.entries (entries_in tip pair.0) old.rows) 0) o 0
-          ≡ option_map_or (λ old. cond (same_key key old.key) (kept (times (with_cancelled other)) pair.1.entries (entries_in tip pair.0) old.rows) 0) o 0
+          → option_map_or (λ old. cond (same_key key old.key) (kept_count (times (with_cancelled one)) pair.1.entries (entries_in tip pair.0) old.rows) 0) o 0
+          ≡ option_map_or (λ old. cond (same_key key old.key) (kept_count (times (with_cancelled other)) pair.1.entries (entries_in tip pair.0) old.rows) 0) o 0
       go None had = refl
       go (Some old) had =
           let rows : rows_in tip pair.0 ≡ old.rows = ap (λ (o : Option Assigned). option_map_or (λ a. a.rows) o []) had in
@@ -49,10 +49,11 @@ module _ (tip : Version) (nodes : NodeList) (blobs : BlobList) (one other : List
   one_same work p = go (slice_get nodes p)
     where
       go : (o : Option (List ℕ × Node))
-          → option_map_or (λ pair. added work p (given (with_cancelled one) p pair (key_of nodes work.done pair.1) work.next)) o work
-          ≡ option_map_or (λ pair. added work p (given (with_cancelled other) p pair (key_of nodes work.done pair.1) work.next)) o work
+          → option_map_or (λ pair. extended_work work p (given (with_cancelled one) p pair (key_of nodes work.done pair.1) work.next)) o work
+          ≡ option_map_or (λ pair. extended_work work p (given (with_cancelled other) p pair (key_of nodes work.done pair.1) work.next)) o work
       go None = refl
-      go (Some pair) = ap (λ g. added work p g) (given_same p pair (key_of nodes work.done pair.1) work.next)
+      go (Some pair) = ap (λ g. extended_work work p g)
+          (given_same p pair (key_of nodes work.done pair.1) work.next)
 
   all_same : (ps : List ℕ) (work : Work) → assign_all (with_cancelled one) ps work ≡ assign_all (with_cancelled other) ps work
   all_same [] work = refl

@@ -10,7 +10,7 @@ use Rattle.doc_nodes.specs.Imports.{place_of}
 use Rattle.exec_rules.specs.declared.row.Row.{Row}
 use Rattle.exec_rules.specs.declared.row.Assigned.{Assigned}
 use Rattle.exec_rules.specs.declared.version.Version.{Version}
-use Rattle.exec_rules.specs.Kept.{BlobList, same_blob, keeps, kept}
+use Rattle.exec_rules.specs.Kept.{BlobList, same_blob, keeps, kept_count}
 use Rattle.exec_rules.specs.Rows.{live_print, live_prints}
 use Rattle.exec_rules.specs.Listed.{executions, print_list}
 use Rattle.exec_rules.specs.Assigning.{rows_in}
@@ -70,13 +70,14 @@ rows_agree tip one other agree name = placed (place_of tip.nodes name)
     placed (Some p) = found p (slice_get tip.assigned p) refl
 
 pub kept_agrees : (before now : BlobList) (one other : List ℕ) (es bs : List Entry) (rs : List Row) → RowsAgree one other rs
-    → kept (record { before = before; now = now; cancelled = one }) es bs rs ≡ kept (record { before = before; now = now; cancelled = other }) es bs rs
+    → kept_count (record { before = before; now = now; cancelled = one }) es bs rs ≡ kept_count (record { before = before; now = now; cancelled = other }) es bs rs
 kept_agrees before now one other [] bs rs agree = refl
 kept_agrees before now one other (e ∷ es) [] rs agree = refl
 kept_agrees before now one other (e ∷ es) (b ∷ bs) [] agree = refl
 kept_agrees before now one other (e ∷ es) (b ∷ bs) (r ∷ rs) agree =
     ap (λ h. cond ((e.command == b.command) && (not h && same_blob (record { before = before; now = now; cancelled = one }) e.needs b.needs))
-    (suc (kept (record { before = before; now = now; cancelled = one }) es bs rs)) 0) (agree zero r refl).evaluation
+    (suc (kept_count (record { before = before; now = now; cancelled = one }) es bs rs)) 0)
+    (agree zero r refl).evaluation
     ∙ ap (λ n. cond (keeps (record { before = before; now = now; cancelled = other }) e b r) (suc n) 0)
     (kept_agrees before now one other es bs rs (λ i row at. agree (suc i) row at))
 

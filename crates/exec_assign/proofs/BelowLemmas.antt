@@ -10,10 +10,10 @@ use Rattle.doc_nodes.specs.Wanted.{wanted_at}
 use Rattle.exec_rules.specs.declared.key.Key.{Key}
 use Rattle.exec_rules.specs.declared.row.Row.{Row}
 use Rattle.exec_rules.specs.declared.row.Assigned.{Assigned}
-use Rattle.exec_rules.specs.Keys.{nothing}
-use Rattle.exec_rules.specs.Rows.{evaluations, live_prints, first_print, print_of, behind, with_prints, behind_prints}
+use Rattle.exec_rules.specs.Keys.{nothing_assigned}
+use Rattle.exec_rules.specs.Rows.{evaluations, live_prints, first_print, print_of, number_behind, with_prints, behind_prints}
 use Rattle.exec_rules.specs.Assigning.{Update, rows_in, kept_of, greater, given, assignment}
-use Rattle.exec_assign.specs.Telling.{made_by}
+use Rattle.exec_assign.specs.Telling.{update_version}
 use Rattle.exec_assign.specs.Numbered.{IsBelow, AreBelow}
 use Rattle.exec_assign.proofs.RowLemmas.{behind_first}
 use Rattle.exec_assign.proofs.RowSteps.{behind_rises}
@@ -56,7 +56,7 @@ rows_below : (es : List Entry) (vs : List ℕ) (live : List (Option ℕ)) (m : �
 rows_below [] vs live m old kept i row at = absurd (cc)
 rows_below (e ∷ es) [] live m old kept i row at = absurd (cc)
 rows_below (e ∷ es) (v ∷ vs) live m old kept zero row at =
-    let next = behind e (first_print live) m in
+    let next = number_behind e (first_print live) m in
     let same : ◌≡◌ {A = Row} (record { evaluation = v; print = print_of e (first_print live) m }) row = cc in
     let up : m ≤ next = behind_first e (first_print live) m in
     let rises : next ≤ behind_prints es vs (drop 1 live) next = behind_rises es vs (drop 1 live) next in
@@ -65,7 +65,7 @@ rows_below (e ∷ es) (v ∷ vs) live m old kept zero row at =
     (row_up next (behind_prints es vs (drop 1 live) next) (record { evaluation = v; print = print_of e (first_print live) m }) rises
     (record { evaluation = omega arith; print = λ q. print_below e.visible (first_print live) m q (first_live m live kept) }))
 rows_below (e ∷ es) (v ∷ vs) live m old kept (suc i) row at =
-    let next = behind e (first_print live) m in
+    let next = number_behind e (first_print live) m in
     let up : m ≤ next = behind_first e (first_print live) m in
     rows_below es vs (drop 1 live) next (λ j w here. let lt = old (suc j) w here in omega arith) (rest_live m next live up kept) i row at
 
@@ -95,10 +95,10 @@ given_below u first p pair key m old le =
 
 -- what the version assigns to the node of a name, by its place
 pub rows_named : (u : Update) (all : List Assigned) (name : List ℕ) (P : List Row → Type 0) → P []
-    → ((p : ℕ) → place_of u.nodes name ≡ Some p → P (get_or all p nothing).rows) → P (rows_in (made_by u all) name)
+    → ((p : ℕ) → place_of u.nodes name ≡ Some p → P (get_or all p nothing_assigned).rows) → P (rows_in (update_version u all) name)
 rows_named u all name P none each = placed (place_of u.nodes name) refl
   where
-    found : (xs : List Assigned) (p : ℕ) → P (get_or xs p nothing).rows → P (option_map_or (λ a. a.rows) (slice_get xs p) [])
+    found : (xs : List Assigned) (p : ℕ) → P (get_or xs p nothing_assigned).rows → P (option_map_or (λ a. a.rows) (slice_get xs p) [])
     found [] p below = none
     found (a ∷ xs) zero below = below
     found (a ∷ xs) (suc p) below = found xs p below
@@ -108,7 +108,7 @@ rows_named u all name P none each = placed (place_of u.nodes name) refl
     placed (Some p) at = found all p (each p at)
 
 -- so is the version that is made
-pub made_below : (u : Update) (first : ℕ) → AreBelow first u.tip → AreBelow (assignment u first).next (made_by u (assignment u first).assigned)
+pub made_below : (u : Update) (first : ℕ) → AreBelow first u.tip → AreBelow (assignment u first).next (update_version u (assignment u first).assigned)
 made_below u first old = λ name.
     rows_named u (assignment u first).assigned name (RowsBelow (assignment u first).next) (λ i row at. absurd (cc))
     (λ p at. each_assigned u first (λ m p rows. RowsBelow m rows)

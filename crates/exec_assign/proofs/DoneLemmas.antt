@@ -10,7 +10,7 @@ use Rattle.doc_nodes.specs.Imports.{order}
 use Rattle.exec_rules.specs.declared.key.Key.{Key}
 use Rattle.exec_rules.specs.declared.row.Row.{Row}
 use Rattle.exec_rules.specs.declared.row.Assigned.{Assigned}
-use Rattle.exec_rules.specs.Keys.{nothing, assigned_at, key_of}
+use Rattle.exec_rules.specs.Keys.{nothing_assigned, assigned_at, key_of}
 use Rattle.exec_rules.specs.Assigning.{Update, Work, given, assign_one, assign_all, assigned_all, assignment}
 use Rattle.exec_rules.proofs.KnownGiven.{given_rises}
 use Rattle.exec_assign.proofs.WorkLemmas.{at_more, one_none, one_some, one_rises}
@@ -49,18 +49,18 @@ module _ (u : Update) (first : ℕ) (P : ℕ → ℕ → List Row → Type 0)
       all_done ps (assign_one u work p) (omega (arith, le, one_rises u work p)) (one_done work p le done)
 
   -- and of what is assigned in the end
-  pub each_assigned : ((m p : ℕ) → P m p []) → (p : ℕ) → P (assignment u first).next p (get_or (assignment u first).assigned p nothing).rows
+  pub each_assigned : ((m p : ℕ) → P m p []) → (p : ℕ) → P (assignment u first).next p (get_or (assignment u first).assigned p nothing_assigned).rows
   each_assigned none p = go (cases_lt p (length u.nodes))
     where
       done : Done (assigned_all u first)
       done = all_done (order u.nodes) (record { done = []; homes = []; next = first }) (omega arith) (λ q. none first q)
 
-      go : (p < length u.nodes) ⊎ (length u.nodes ≤ p) → P (assignment u first).next p (get_or (assignment u first).assigned p nothing).rows
+      go : (p < length u.nodes) ⊎ (length u.nodes ≤ p) → P (assignment u first).next p (get_or (assignment u first).assigned p nothing_assigned).rows
       go (inl lt) =
           let same : 0 + p ≡ p = omega arith in
           subst (λ (x : Assigned). P (assignment u first).next p x.rows)
-          (sym (get_or-map-range_with_len (assigned_at (assigned_all u first).done) 0 (length u.nodes) p p nothing lt same)) (done p)
+          (sym (get_or-map-range_with_len (assigned_at (assigned_all u first).done) 0 (length u.nodes) p p nothing_assigned lt same)) (done p)
       go (inr le) =
           subst (λ (x : Assigned). P (assignment u first).next p x.rows)
-          (sym (get_or_past (assignment u first).assigned p nothing
+          (sym (get_or_past (assignment u first).assigned p nothing_assigned
           (omega (arith, length-map-range_with_len (assigned_at (assigned_all u first).done) 0 (length u.nodes), le)))) (none (assignment u first).next p)

@@ -9,11 +9,11 @@ use Rattle.doc_nodes.specs.Imports.{place_of}
 use Rattle.exec_rules.specs.declared.key.Key.{Key}
 use Rattle.exec_rules.specs.declared.row.Row.{Row}
 use Rattle.exec_rules.specs.declared.row.Assigned.{Assigned}
-use Rattle.exec_rules.specs.Keys.{nothing, assigned_at, key_of}
+use Rattle.exec_rules.specs.Keys.{nothing_assigned, assigned_at, key_of}
 use Rattle.exec_rules.specs.Assigning.{Update, Work, entries_at, given, assign_one, assign_all}
 use Rattle.exec_assign.specs.Found.{AreAssigned}
 use Rattle.exec_assign.specs.Fitting.{Fit, RowsFit}
-use Rattle.exec_assign.specs.Telling.{made_by}
+use Rattle.exec_assign.specs.Telling.{update_version}
 use Rattle.exec_assign.proofs.WorkLemmas.{at_more, one_none, one_some}
 
 abbrev AllFit : Update → List (ℕ × Assigned) → Type 0
@@ -60,7 +60,8 @@ got (y ∷ ys) (suc p) d x e = got ys p d x e
 
 -- the rows of the version that an update makes fit
 pub rows_fit : (u : Update) → GivenFit u → (ps : List ℕ) (next : ℕ) (all : List Assigned) (done : List (ℕ × Assigned)) → AreAssigned all done
-    → done ≡ (assign_all u ps (record { done = []; homes = []; next = next })).done → RowsFit (made_by u all)
+    → done ≡ (assign_all u ps (record { done = []; homes = []; next = next })).done
+    → RowsFit (update_version u all)
 rows_fit u gives ps next all done are same = λ name. go (place_of u.nodes name)
   where
     fit : AllFit u done
@@ -72,7 +73,7 @@ rows_fit u gives ps next all done are same = λ name. go (place_of u.nodes name)
     some : (p : ℕ) (o : Option Assigned) → slice_get all p ≡ o → Fit (entries_at u.nodes p) (rows_of o)
     some p None e = none_fit (entries_at u.nodes p)
     some p (Some a) e =
-        let it : assigned_at done p ≡ a = sym (are p) ∙ got all p nothing a e in
+        let it : assigned_at done p ≡ a = sym (are p) ∙ got all p nothing_assigned a e in
         subst (λ (x : Assigned). Fit (entries_at u.nodes p) x.rows) it (fit p)
 
     go : (o : Option ℕ) → Fit (option_map_or (entries_at u.nodes) o []) (rows_of (option_and_then (slice_get all) o))

@@ -13,9 +13,9 @@ use Rattle.doc_nodes.specs.Wanted.{wanted_at}
 use Rattle.doc_nodes.proofs.KnownNames.{name_is}
 use Rattle.exec_rules.specs.declared.key.Key.{Key}
 use Rattle.exec_rules.specs.declared.row.Row.{Row}
-use Rattle.exec_rules.specs.Rows.{live_print, live_prints, print_of, behind, with_prints}
+use Rattle.exec_rules.specs.Rows.{live_print, live_prints, print_of, number_behind, with_prints}
 use Rattle.exec_rules.specs.Assigning.{Update, rows_in, kept_of, greater, given, assignment}
-use Rattle.exec_assign.specs.Telling.{made_by}
+use Rattle.exec_assign.specs.Telling.{update_version}
 use Rattle.exec_assign.specs.Numbered.{IsHeld, AreHeld}
 use Rattle.exec_assign.proofs.RowLemmas.{behind_first}
 use Rattle.exec_assign.proofs.OldLemmas.{live_is}
@@ -39,7 +39,8 @@ rows_fresh first (e ∷ es) m (suc d) x zero row le lx at =
     let same : ◌≡◌ {A = Row} (record { evaluation = m; print = print_of e None x }) row = cc in
     subst (IsFresh first) same (record { evaluation = le; print = λ q. print_fresh first e.visible x q lx })
 rows_fresh first (e ∷ es) m (suc d) x (suc i) row le lx at =
-    rows_fresh first es (m + 1) d (behind e None x) i row (omega arith) (omega (arith, behind_first e None x, lx)) at
+    rows_fresh first es (m + 1) d (number_behind e None x) i row (omega arith)
+    (omega (arith, behind_first e None x, lx)) at
 
 fresh_held : (first : ℕ) (before : Option Row) (row : Row) → IsFresh first row → IsHeld first before row
 fresh_held first before row fresh = record {
@@ -71,7 +72,8 @@ rows_held first cancelled (e ∷ es) (r ∷ rs) (suc k) m d x zero row le lx at 
       print = λ q is lt. print_held first cancelled r.print e.visible x q lx (live_print cancelled r.print) refl is lt;
     })
 rows_held first cancelled (e ∷ es) (r ∷ rs) (suc k) m d x (suc i) row le lx at =
-    rows_held first cancelled es rs k m d (behind e (live_print cancelled r.print) x) i row le
+    rows_held first cancelled es rs k m d (number_behind e (live_print cancelled r.print) x) i row
+    le
     (omega (arith, behind_first e (live_print cancelled r.print) x, lx)) at
 
 -- the node of a name stands at its place
@@ -96,7 +98,8 @@ given_held u first p pair key m at le other here i row row_at =
     subst (λ (x : List ℕ × Node). IsHeld first (slice_get (rows_in u.tip x.0) i) row) it
     (rows_held first u.cancelled pair.1.entries (rows_in u.tip pair.0) k m (n - k) (m + (n - k)) i row le (omega arith) row_at)
 
-pub made_held : (u : Update) (first : ℕ) → AreHeld first u.tip (made_by u (assignment u first).assigned)
+pub made_held : (u : Update) (first : ℕ)
+    → AreHeld first u.tip (update_version u (assignment u first).assigned)
 made_held u first = λ name.
     rows_named u (assignment u first).assigned name
     (λ rows. (i : ℕ) (row : Row) → slice_get rows i ≡ Some row → IsHeld first (slice_get (rows_in u.tip name) i) row)

@@ -5,7 +5,7 @@ use Rattle.std.proofs.lemmas.Bool.{false≢true, cases_lt}
 use Rattle.std.proofs.lemmas.Option.{slice_get_within}
 use Rattle.doc_nodes.specs.declared.node.Entry.{Entry}
 use Rattle.exec_rules.specs.declared.row.Row.{Row}
-use Rattle.exec_rules.specs.Kept.{Times, kept, KeepsAt}
+use Rattle.exec_rules.specs.Kept.{Times, kept_count, KeepsAt}
 use Rattle.exec_assign.specs.Keeping.{keeps_three, keeps_at}
 
 -- where the test says so, the command can keep its evaluation
@@ -31,14 +31,16 @@ keeps_within t es bs rs i e = slice_get_within es i _ (keeps_is t es bs rs i e).
 
 -- the first place where the test says no tells how many are kept
 pub kept_is : (t : Times) (es bs : List Entry) (rs : List Row) (n : ℕ)
-    → ((i : ℕ) → i < kept t es bs rs → KeepsAt t es bs rs i)
-    → (((i : ℕ) → i < n → KeepsAt t es bs rs i) → n ≤ kept t es bs rs)
-    → ((j : ℕ) → j < n → keeps_at t es bs rs j ≡ true) → keeps_at t es bs rs n ≡ false → n ≡ kept t es bs rs
+    → ((i : ℕ) → i < kept_count t es bs rs → KeepsAt t es bs rs i)
+    → (((i : ℕ) → i < n → KeepsAt t es bs rs i) → n ≤ kept_count t es bs rs)
+    → ((j : ℕ) → j < n → keeps_at t es bs rs j ≡ true) → keeps_at t es bs rs n ≡ false
+    → n ≡ kept_count t es bs rs
 kept_is t es bs rs n kept_all greatest all none =
-    let le : n ≤ kept t es bs rs = greatest (λ i lt. keeps_is t es bs rs i (all i lt)) in
-    go (cases_lt n (kept t es bs rs)) le
+    let le : n ≤ kept_count t es bs rs = greatest (λ i lt. keeps_is t es bs rs i (all i lt)) in
+    go (cases_lt n (kept_count t es bs rs)) le
   where
-    go : (n < kept t es bs rs) ⊎ (kept t es bs rs ≤ n) → n ≤ kept t es bs rs → n ≡ kept t es bs rs
+    go : (n < kept_count t es bs rs) ⊎ (kept_count t es bs rs ≤ n) → n ≤ kept_count t es bs rs
+        → n ≡ kept_count t es bs rs
     go (inl lt) le = absurd (false≢true (sym none ∙ is_kept t es bs rs n (kept_all n lt)))
     go (inr ge) le = omega arith
 

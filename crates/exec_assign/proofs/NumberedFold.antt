@@ -11,8 +11,8 @@ use Rattle.text_words.specs.Members.{has}
 use Rattle.doc_nodes.specs.declared.node.Node.{Node}
 use Rattle.doc_nodes.specs.Imports.{order}
 use Rattle.exec_rules.specs.declared.row.Assigned.{Assigned}
-use Rattle.exec_rules.specs.Keys.{nothing, assigned_at, key_of}
-use Rattle.exec_rules.specs.Assigning.{Update, Work, given, added, assign_one, assign_all, assignment}
+use Rattle.exec_rules.specs.Keys.{nothing_assigned, assigned_at, key_of}
+use Rattle.exec_rules.specs.Assigning.{Update, Work, given, extended_work, assign_one, assign_all, assignment}
 use Rattle.exec_assign.specs.Numbered.{new_of, new_at, new_in, with_numbers, AreBelow}
 use Rattle.exec_assign.proofs.WorkLemmas.{at_more, one_none, one_some}
 use Rattle.exec_assign.proofs.OldLemmas.{AllKeep}
@@ -92,7 +92,7 @@ module _ (all_keep : AllKeep) (u : Update) (first : ℕ) (old : AreBelow first u
       go (Some pair) at =
           let key = key_of u.nodes work.done pair.1 in
           let g = given u p pair key work.next in
-          let one : assign_one u work p ≡ added work p g = one_some u work p pair at in
+          let one : assign_one u work p ≡ extended_work work p g = one_some u work p pair at in
           let here : a p ≡ g.assigned = is ∙ ap (λ (w : Work). assigned_at w.done p) one ∙ at_more work.done p p g.assigned true (itself p) in
           ap (λ (o : Option (List ℕ × Node)). with_numbers first work.homes ++ option_map_or (λ pair. new_of u first p pair (a p)) o []) at
           ∙ ap (λ (x : Assigned). with_numbers first work.homes ++ new_of u first p pair x) here
@@ -119,6 +119,6 @@ module _ (all_keep : AllKeep) (u : Update) (first : ℕ) (old : AreBelow first u
   made_in_order within once =
       let start : Work = record { done = []; homes = []; next = first } in
       let none : first ≡ first + 0 = omega arith in
-      all_made (order u.nodes) start (λ p. slice_index_or (assignment u first).assigned p nothing) (distinct (order u.nodes) once) none
+      all_made (order u.nodes) start (λ p. slice_index_or (assignment u first).assigned p nothing_assigned) (distinct (order u.nodes) once) none
       (λ q e. let same : 0 + q ≡ q = omega arith in
-      get_or-map-range_with_len (assigned_at (assign_all u (order u.nodes) start).done) 0 (length u.nodes) q q nothing (within q e) same)
+      get_or-map-range_with_len (assigned_at (assign_all u (order u.nodes) start).done) 0 (length u.nodes) q q nothing_assigned (within q e) same)

@@ -10,7 +10,7 @@ use Rattle.exec_rules.specs.declared.home.Home.{Home}
 use Rattle.exec_rules.specs.declared.home.Input.{Input}
 use Rattle.exec_rules.specs.declared.home.Input.TheVariants.{Next, Print}
 use Rattle.exec_rules.specs.Kept.{BlobList}
-use Rattle.exec_rules.specs.Rows.{first_print, behind, with_prints}
+use Rattle.exec_rules.specs.Rows.{first_print, number_behind, with_prints}
 use Rattle.exec_rules.specs.Homes.{home, print_homes}
 use Rattle.exec_assign.specs.Numbered.{if_new, new_evaluations, new_print, new_prints}
 
@@ -41,10 +41,11 @@ fresh_made first node blobs [] input m zero live x le lt = refl
 fresh_made first node blobs (e ∷ es) input m zero live x le lt = refl
 fresh_made first node blobs [] input m (suc d) live x le lt = absurd (omega arith)
 fresh_made first node blobs (e ∷ es) input m (suc d) live x le lt =
-    let rest = with_prints es (range_with_len (m + 1) d) (drop 1 live) (behind e (first_print live) x) in
+    let rest = with_prints es (range_with_len (m + 1) d) (drop 1 live)
+    (number_behind e (first_print live) x) in
     ap (λ (xs : List (ℕ × Home)). xs ++ new_evaluations first node blobs es (Next m) rest) (is_new first m (home node blobs e input) le)
     ∙ ap (λ (xs : List (ℕ × Home)). (m, home node blobs e input) ∷ xs)
-    (fresh_made first node blobs es (Next m) (m + 1) d (drop 1 live) (behind e (first_print live) x) (omega arith) (omega arith))
+    (fresh_made first node blobs es (Next m) (m + 1) d (drop 1 live) (number_behind e (first_print live) x) (omega arith) (omega arith))
 
 -- behind those that are kept
 pub evaluations_made : (first : ℕ) (node : Node) (blobs : BlobList) (es : List Entry) (input : Input) (xs : List ℕ) (m d : ℕ) (live : List (Option ℕ)) (x : ℕ)
@@ -54,9 +55,10 @@ pub evaluations_made : (first : ℕ) (node : Node) (blobs : BlobList) (es : List
 evaluations_made first node blobs es input [] m d live x le old lt = fresh_made first node blobs es input m d live x le (omega arith)
 evaluations_made first node blobs [] input (y ∷ ys) m d live x le old lt = absurd (omega arith)
 evaluations_made first node blobs (e ∷ es) input (y ∷ ys) m d live x le old lt =
-    let rest = with_prints es (ys ++ range_with_len m d) (drop 1 live) (behind e (first_print live) x) in
+    let rest = with_prints es (ys ++ range_with_len m d) (drop 1 live)
+    (number_behind e (first_print live) x) in
     ap (λ (zs : List (ℕ × Home)). zs ++ new_evaluations first node blobs es (Next y) rest) (is_old first y (home node blobs e input) (old zero y refl))
-    ∙ evaluations_made first node blobs es (Next y) ys m d (drop 1 live) (behind e (first_print live) x) le (λ i z at. old (suc i) z at) (omega arith)
+    ∙ evaluations_made first node blobs es (Next y) ys m d (drop 1 live) (number_behind e (first_print live) x) le (λ i z at. old (suc i) z at) (omega arith)
 
 range_first : (x n : ℕ) → range_with_len (suc x) n ≡ range_with_len (x + 1) n
 range_first x n = let same : suc x ≡ x + 1 = omega arith in ap (λ a. range_with_len a n) same

@@ -4,12 +4,13 @@ use Rattle.std.specs.Prelude.{slice_get}
 use Rattle.text_words.specs.Members.{has}
 use Rattle.doc_nodes.specs.declared.node.Entry.{Entry}
 use Rattle.exec_rules.specs.declared.row.Row.{Row}
-use Rattle.exec_rules.specs.Kept.{Times, KeepsAt, kept}
+use Rattle.exec_rules.specs.Kept.{Times, KeepsAt, kept_count}
 use Rattle.exec_rules.specs.Rows.{live_print, live_prints}
 
 -- no more keep their evaluations than there are commands, or rows before
 abbrev pub AllKeep : Type 0
-AllKeep = (t : Times) (es bs : List Entry) (rs : List Row) (i : ℕ) → i < kept t es bs rs → KeepsAt t es bs rs i
+AllKeep = (t : Times) (es bs : List Entry) (rs : List Row) (i : ℕ) → i < kept_count t es bs rs
+    → KeepsAt t es bs rs i
 
 pub front_old : (rows : List Row) (k first : ℕ) → ((i : ℕ) (row : Row) → slice_get rows i ≡ Some row → row.evaluation < first)
     → (i y : ℕ) → slice_get (map (λ row. row.evaluation) (take k rows)) i ≡ Some y → y < first

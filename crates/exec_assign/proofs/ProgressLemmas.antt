@@ -8,8 +8,8 @@ use Rattle.doc_nodes.specs.declared.node.Node.{Node}
 use Rattle.exec_rules.specs.declared.key.Key.{Key}
 use Rattle.exec_rules.specs.declared.row.Assigned.{Assigned}
 use Rattle.exec_rules.specs.declared.home.Home.{Home}
-use Rattle.exec_rules.specs.Keys.{nothing, assigned_at, key_of}
-use Rattle.exec_rules.specs.Assigning.{Update, Given, Work, given, added, assign_one}
+use Rattle.exec_rules.specs.Keys.{nothing_assigned, assigned_at, key_of}
+use Rattle.exec_rules.specs.Assigning.{Update, Given, Work, given, extended_work, assign_one}
 use Rattle.exec_rules.proofs.KnownGiven.{given_rises}
 use Rattle.exec_assign.specs.Found.{AreAssigned}
 use Rattle.exec_assign.specs.Standing.{Stands}
@@ -29,7 +29,7 @@ by_places f d (x ∷ xs) a each =
 pub all_places : (all : List Assigned) (done : List (ℕ × Assigned)) (n : ℕ) → AreAssigned all done → length all ≡ n
     → all ≡ map (assigned_at done) (range_with_len 0 n)
 all_places all done n are long =
-    by_places (assigned_at done) nothing all 0 (λ i lt. let same : i ≡ 0 + i = omega arith in are i ∙ ap (assigned_at done) same)
+    by_places (assigned_at done) nothing_assigned all 0 (λ i lt. let same : i ≡ 0 + i = omega arith in are i ∙ ap (assigned_at done) same)
     ∙ ap (λ m. map (assigned_at done) (range_with_len 0 m)) long
 
 -- by equal parts
@@ -45,7 +45,8 @@ module _ (u : Update) (all : List Assigned) (homes : List Home) (next : ℕ) (st
     (is : IsWork u all homes next standing work) (at : slice_get u.nodes p ≡ Some pair) (lt : p < length u.nodes) where
   added_is : (g : Given) → g ≡ given u p pair (key_of u.nodes work.done pair.1) work.next → g.next ≤ id_end
       → (m : Bool) → (m ≡ true → HasStood u pair g.assigned)
-      → IsWork u (set all p g.assigned) (homes ++ g.homes) g.next (set standing p m) (added work p g)
+      → IsWork u (set all p g.assigned) (homes ++ g.homes) g.next (set standing p m)
+      (extended_work work p g)
   added_is g same within m stood =
       let rises : work.next ≤ g.next =
       subst (λ (x : Given). work.next ≤ x.next) (sym same) (given_rises u p pair (key_of u.nodes work.done pair.1) work.next) in
@@ -61,8 +62,8 @@ module _ (u : Update) (all : List Assigned) (homes : List Home) (next : ℕ) (st
             (λ e other here. subst (λ (x : List ℕ × Node). HasStood u x g.assigned) (let it : pair ≡ other = cc in it) (stood e)) is.stood;
       }
 
-  one_is : (g : Given) → g ≡ given u p pair (key_of u.nodes work.done pair.1) work.next → added work p g ≡ assign_one u work p
-  one_is g same = ap (added work p) same ∙ sym (one_some u work p pair at)
+  one_is : (g : Given) → g ≡ given u p pair (key_of u.nodes work.done pair.1) work.next → extended_work work p g ≡ assign_one u work p
+  one_is g same = ap (extended_work work p) same ∙ sym (one_some u work p pair at)
 
   pub work_given : (g : Given) (key : Key) → key ≡ key_of u.nodes work.done pair.1 → g ≡ given u p pair key next → g.next ≤ id_end
       → IsWork u (set all p g.assigned) (homes ++ g.homes) g.next (set standing p false) (assign_one u work p)

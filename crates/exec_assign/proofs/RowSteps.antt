@@ -7,7 +7,7 @@ use Rattle.doc_nodes.specs.declared.node.Entry.{Entry}
 use Rattle.doc_nodes.specs.declared.node.Node.{Node}
 use Rattle.exec_rules.specs.declared.home.Input.TheVariants.{Print}
 use Rattle.exec_rules.specs.Kept.{BlobList}
-use Rattle.exec_rules.specs.Rows.{first_print, print_of, takes_print, behind, with_prints, behind_prints}
+use Rattle.exec_rules.specs.Rows.{first_print, print_of, takes_print, number_behind, with_prints, behind_prints}
 use Rattle.exec_rules.specs.Homes.{home, print_homes}
 
 drop_next : {X : Type 0} (xs : List X) (i : ℕ) → drop 1 (drop i xs) ≡ drop (suc i) xs
@@ -26,20 +26,20 @@ range_more a n = let next : n + 1 ≡ suc n = omega arith in ap (λ k. range_wit
 pub with_step : (es : List Entry) (vs : List ℕ) (live : List (Option ℕ)) (i m v : ℕ) (d : Entry) → i < length es → i < length vs
     → with_prints (drop i es) (drop i vs) (drop i live) m
     ≡ record { evaluation = get_or vs i v; print = print_of (get_or es i d) (first_print (drop i live)) m }
-    ∷ with_prints (drop (i + 1) es) (drop (i + 1) vs) (drop (i + 1) live) (behind (get_or es i d) (first_print (drop i live)) m)
+    ∷ with_prints (drop (i + 1) es) (drop (i + 1) vs) (drop (i + 1) live) (number_behind (get_or es i d) (first_print (drop i live)) m)
 with_step es vs live i m v d le lv =
     ap (λ xs. with_prints xs (drop i vs) (drop i live) m) (drop_more es i d le)
     ∙ ap (λ xs. with_prints (get_or es i d ∷ drop (i + 1) es) xs (drop i live) m) (drop_more vs i v lv)
     ∙ ap (λ xs. record { evaluation = get_or vs i v; print = print_of (get_or es i d) (first_print (drop i live)) m }
-    ∷ with_prints (drop (i + 1) es) (drop (i + 1) vs) xs (behind (get_or es i d) (first_print (drop i live)) m)) (drop_one live i)
+    ∷ with_prints (drop (i + 1) es) (drop (i + 1) vs) xs (number_behind (get_or es i d) (first_print (drop i live)) m)) (drop_one live i)
 
 pub behind_step : (es : List Entry) (vs : List ℕ) (live : List (Option ℕ)) (i m : ℕ) (d : Entry) → i < length es → i < length vs
     → behind_prints (drop i es) (drop i vs) (drop i live) m
-    ≡ behind_prints (drop (i + 1) es) (drop (i + 1) vs) (drop (i + 1) live) (behind (get_or es i d) (first_print (drop i live)) m)
+    ≡ behind_prints (drop (i + 1) es) (drop (i + 1) vs) (drop (i + 1) live) (number_behind (get_or es i d) (first_print (drop i live)) m)
 behind_step es vs live i m d le lv =
     ap (λ xs. behind_prints xs (drop i vs) (drop i live) m) (drop_more es i d le)
     ∙ ap (λ xs. behind_prints (get_or es i d ∷ drop (i + 1) es) xs (drop i live) m) (drop_more vs i 0 lv)
-    ∙ ap (λ xs. behind_prints (drop (i + 1) es) (drop (i + 1) vs) xs (behind (get_or es i d) (first_print (drop i live)) m)) (drop_one live i)
+    ∙ ap (λ xs. behind_prints (drop (i + 1) es) (drop (i + 1) vs) xs (number_behind (get_or es i d) (first_print (drop i live)) m)) (drop_one live i)
 
 with_none : (es : List Entry) (live : List (Option ℕ)) (m : ℕ) → with_prints es [] live m ≡ []
 with_none [] live m = refl
@@ -67,7 +67,7 @@ pub behind_rises : (es : List Entry) (vs : List ℕ) (live : List (Option ℕ)) 
 behind_rises [] vs live m = omega arith
 behind_rises (e ∷ es) [] live m = omega arith
 behind_rises (e ∷ es) (v ∷ vs) live m =
-    omega (arith, behind_rises es vs (drop 1 live) (behind e (first_print live) m), next_or (takes_print e (first_print live)) m)
+    omega (arith, behind_rises es vs (drop 1 live) (number_behind e (first_print live) m), next_or (takes_print e (first_print live)) m)
 
 -- the home of the next command's print
 pub print_step : (node : Node) (blobs : BlobList) (es : List Entry) (vs : List ℕ) (live : List (Option ℕ)) (i v : ℕ) (d : Entry)

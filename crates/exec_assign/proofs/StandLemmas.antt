@@ -16,10 +16,10 @@ use Rattle.exec_rules.specs.declared.row.Assigned.{Assigned}
 use Rattle.exec_rules.specs.declared.home.Head.{Head}
 use Rattle.exec_rules.specs.declared.home.Home.{Home}
 use Rattle.exec_rules.specs.Keys.{same_key}
-use Rattle.exec_rules.specs.Kept.{agree, kept}
+use Rattle.exec_rules.specs.Kept.{agree, kept_count}
 use Rattle.exec_rules.specs.Rows.{live_print, evaluations, live_prints, with_prints, behind_prints}
 use Rattle.exec_rules.specs.Homes.{eval_homes, print_homes}
-use Rattle.exec_rules.specs.Assigning.{Update, Given, times, entries_in, rows_in, assigned_in, kept_of, greater, given_by, head_at, given}
+use Rattle.exec_rules.specs.Assigning.{Update, Given, times, entries_in, rows_in, assigned_in, kept_of, greater, node_given, head_at, given}
 use Rattle.exec_assign.specs.Fitting.{Fit}
 use Rattle.exec_assign.specs.Untouched.{IsAlive, IsUntouched}
 use Rattle.exec_assign.proofs.HomeLemmas.{eval_over}
@@ -70,10 +70,11 @@ shaped_again u pair head k rs m fit all =
 
 by_again : (u : Update) (pair : List ℕ × Node) (head : Head) (k n : ℕ) (rs : List Row) (next : ℕ) → rows_in u.tip pair.0 ≡ rs → Fit pair.1.entries rs
     → ((i : ℕ) (row : Row) → slice_get rs i ≡ Some row → IsAlive u.cancelled row) → k ≡ length rs → n ≡ k
-    → given_by u pair head k n next ≡ record { assigned = record { key = head.key; rows = rs }; homes = []; next = next }
+    → node_given u pair head k n next ≡ record
+    { assigned = record { key = head.key; rows = rs }; homes = []; next = next }
 by_again u pair head k n rs next rows fit alive all same =
     let none : next + (k - k) ≡ next = omega arith in
-    ap (λ (m : ℕ). given_by u pair head k m next) same
+    ap (λ (m : ℕ). node_given u pair head k m next) same
     ∙ ap (λ (xs : List Row). shaped u pair head k (evaluations xs k k next) (live_prints u.cancelled xs k) (next + (k - k))) rows
     ∙ ap (λ (m : ℕ). shaped u pair head k (evaluations rs k k next) (live_prints u.cancelled rs k) m) none
     ∙ ap (λ (vs : List ℕ). shaped u pair head k vs (live_prints u.cancelled rs k) next) (evaluations_all rs next k all)
@@ -93,9 +94,10 @@ given_again u p pair key old untouched agrees fits had same keys wanted next =
     let alive : (i : ℕ) (row : Row) → slice_get old.rows i ≡ Some row → IsAlive u.cancelled row =
     subst (λ (xs : List Row). (i : ℕ) (row : Row) → slice_get xs i ≡ Some row → IsAlive u.cancelled row) rows untouched.alive in
     let all : kept_of u pair key ≡ length old.rows =
-    ap (λ (o : Option Assigned). option_map_or (λ a. cond (same_key key a.key) (kept (times u) pair.1.entries (entries_in u.tip pair.0) a.rows) 0) o 0) had
-    ∙ ap (λ b. cond b (kept (times u) pair.1.entries (entries_in u.tip pair.0) old.rows) 0) same
-    ∙ ap (λ (es : List Entry). kept (times u) pair.1.entries es old.rows) untouched.commands
+    ap (λ (o : Option Assigned). option_map_or (λ a. cond (same_key key a.key) (kept_count (times u) pair.1.entries (entries_in u.tip pair.0) a.rows) 0) o 0) had
+    ∙ ap (λ b. cond b (kept_count (times u) pair.1.entries (entries_in u.tip pair.0) old.rows) 0)
+    same
+    ∙ ap (λ (es : List Entry). kept_count (times u) pair.1.entries es old.rows) untouched.commands
     ∙ kept_whole (times u) agrees pair.1.entries old.rows fit alive in
     by_again u pair (head_at u p pair key) (kept_of u pair key) (greater (kept_of u pair key) (wanted_at u.nodes p)) old.rows next rows fit alive all
     (greater_by (nat_lt (kept_of u pair key) (wanted_at u.nodes p)) (kept_of u pair key) (wanted_at u.nodes p) refl (omega arith))

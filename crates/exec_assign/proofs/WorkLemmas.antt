@@ -10,29 +10,31 @@ use Rattle.doc_nodes.specs.Imports.{order}
 use Rattle.doc_nodes.specs.Graph.{Graph}
 use Rattle.doc_nodes.specs.Graphs.{IsGraphOf}
 use Rattle.exec_rules.specs.declared.row.Assigned.{Assigned}
-use Rattle.exec_rules.specs.Keys.{nothing, assigned_at, key_of}
-use Rattle.exec_rules.specs.Assigning.{Update, Work, given, added, assign_one, assign_all, assigned_all}
+use Rattle.exec_rules.specs.Keys.{nothing_assigned, assigned_at, key_of}
+use Rattle.exec_rules.specs.Assigning.{Update, Work, given, extended_work, assign_one, assign_all, assigned_all}
 use Rattle.exec_rules.proofs.KnownGiven.{given_rises}
 use Rattle.exec_assign.specs.Found.{AreAssigned}
 use Rattle.exec_assign.specs.Work.{HasStood, HaveStood}
 
 pub at_more : (done : List (ℕ × Assigned)) (p q : ℕ) (a : Assigned) (b : Bool) → eqb p q ≡ b
     → assigned_at ((p, a) ∷ done) q ≡ cond b a (assigned_at done q)
-at_more done p q a true e = ap (λ b. option_map_or (λ (one : ℕ × Assigned). one.1) (cond b (Some (p, a)) (find (λ (one : ℕ × Assigned). eqb one.0 q) done)) nothing) e
-at_more done p q a false e = ap (λ b. option_map_or (λ (one : ℕ × Assigned). one.1) (cond b (Some (p, a)) (find (λ (one : ℕ × Assigned). eqb one.0 q) done)) nothing) e
+at_more done p q a true e = ap (λ b. option_map_or (λ (one : ℕ × Assigned). one.1) (cond b (Some (p, a)) (find (λ (one : ℕ × Assigned). eqb one.0 q) done)) nothing_assigned) e
+at_more done p q a false e = ap (λ b. option_map_or (λ (one : ℕ × Assigned). one.1) (cond b (Some (p, a)) (find (λ (one : ℕ × Assigned). eqb one.0 q) done)) nothing_assigned) e
 
 -- what is assigned at one place more
 pub assigned_more : (all : List Assigned) (done : List (ℕ × Assigned)) (p : ℕ) (a : Assigned) → AreAssigned all done → p < length all
     → AreAssigned (set all p a) ((p, a) ∷ done)
 assigned_more all done p a are lt = λ q. at q (eqb p q) refl
   where
-    at : (q : ℕ) (b : Bool) → eqb p q ≡ b → get_or (set all p a) q nothing ≡ assigned_at ((p, a) ∷ done) q
+    at : (q : ℕ) (b : Bool) → eqb p q ≡ b
+        → get_or (set all p a) q nothing_assigned ≡ assigned_at ((p, a) ∷ done) q
     at q true e =
         let same : p ≡ q = grind (arith, nat_tests) in
-        ap (λ r. get_or (set all p a) r nothing) (sym same) ∙ get_or-set_same all p a nothing lt ∙ sym (at_more done p q a true e)
+        ap (λ r. get_or (set all p a) r nothing_assigned) (sym same) ∙ get_or-set_same all p a nothing_assigned lt ∙ sym (at_more done p q a true e)
     at q false e =
         let other : q ≡ p → ⊥ = grind (arith, nat_tests) in
-        get_or-set_other all p q a nothing other ∙ are q ∙ sym (at_more done p q a false e)
+        get_or-set_other all p q a nothing_assigned other ∙ are q ∙ sym
+        (at_more done p q a false e)
 
 -- a mark more
 pub stood_more : (u : Update) (marks : List Bool) (done : List (ℕ × Assigned)) (p : ℕ) (a : Assigned) (m : Bool) → p < length marks
@@ -54,16 +56,17 @@ stood_more u marks done p a m lt here stood = λ q pair mark at. go q pair mark 
 
 -- where there is no node, nothing is done; where there is one, it is given what it is given
 pub one_none : (u : Update) (work : Work) (p : ℕ) → slice_get u.nodes p ≡ None → assign_one u work p ≡ work
-one_none u work p at = ap (λ (o : Option (List ℕ × Node)). option_map_or (λ pair. added work p (given u p pair (key_of u.nodes work.done pair.1) work.next)) o work) at
+one_none u work p at = ap (λ (o : Option (List ℕ × Node)). option_map_or (λ pair. extended_work work p (given u p pair (key_of u.nodes work.done pair.1) work.next)) o work) at
 
 pub one_some : (u : Update) (work : Work) (p : ℕ) (pair : List ℕ × Node) → slice_get u.nodes p ≡ Some pair
-    → assign_one u work p ≡ added work p (given u p pair (key_of u.nodes work.done pair.1) work.next)
-one_some u work p pair at = ap (λ (o : Option (List ℕ × Node)). option_map_or (λ pair. added work p (given u p pair (key_of u.nodes work.done pair.1) work.next)) o work) at
+    → assign_one u work p ≡ extended_work work p
+    (given u p pair (key_of u.nodes work.done pair.1) work.next)
+one_some u work p pair at = ap (λ (o : Option (List ℕ × Node)). option_map_or (λ pair. extended_work work p (given u p pair (key_of u.nodes work.done pair.1) work.next)) o work) at
 
 pub one_rises : (u : Update) (work : Work) (p : ℕ) → work.next ≤ (assign_one u work p).next
 one_rises u work p = go (slice_get u.nodes p)
   where
-    go : (o : Option (List ℕ × Node)) → work.next ≤ (option_map_or (λ pair. added work p (given u p pair (key_of u.nodes work.done pair.1) work.next)) o work).next
+    go : (o : Option (List ℕ × Node)) → work.next ≤ (option_map_or (λ pair. extended_work work p (given u p pair (key_of u.nodes work.done pair.1) work.next)) o work).next
     go None = omega arith
     go (Some pair) = given_rises u p pair (key_of u.nodes work.done pair.1) work.next
 

@@ -12,7 +12,7 @@ use Rattle.exec_rules.specs.declared.home.Home.{Home}
 use Rattle.exec_rules.specs.declared.home.Input.{Input}
 use Rattle.exec_rules.specs.declared.home.Input.TheVariants.{First, Next, Print}
 use Rattle.exec_rules.specs.declared.version.Version.{Version}
-use Rattle.exec_rules.specs.Keys.{nothing}
+use Rattle.exec_rules.specs.Keys.{nothing_assigned}
 use Rattle.exec_rules.specs.Kept.{BlobList}
 use Rattle.exec_rules.specs.Homes.{home}
 use Rattle.exec_rules.specs.Assigning.{Update, rows_in, head_at}
@@ -54,7 +54,7 @@ new_at u first assigned p =
 -- the new executions of all nodes, in the order of imports
 abbrev pub new_in : Update → ℕ → List Assigned → List (ℕ × Home)
 new_in u first assigned =
-    flat_map (new_at u first (λ p. slice_index_or assigned p nothing)) (order u.nodes)
+    flat_map (new_at u first (λ p. slice_index_or assigned p nothing_assigned)) (order u.nodes)
 
 -- homes with their numbers, the next ones from this on
 abbrev pub with_numbers : ℕ → List Home → List (ℕ × Home)

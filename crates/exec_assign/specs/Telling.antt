@@ -5,5 +5,5 @@ use Rattle.exec_rules.specs.declared.row.Assigned.{Assigned}
 use Rattle.exec_rules.specs.Assigning.{Update}
 
 -- the version that an update makes, when this is assigned
-abbrev pub made_by : Update → List Assigned → Version
-made_by u assigned = record { nodes = u.nodes; blobs = u.blobs; assigned = assigned }
+abbrev pub update_version : Update → List Assigned → Version
+update_version u assigned = record { nodes = u.nodes; blobs = u.blobs; assigned = assigned }

@@ -3,8 +3,8 @@ use Rattle.std.specs.Prelude.{ℕ, List, [], map, slice_index_or, Option, Some, 
 use Rattle.doc_nodes.specs.declared.node.Node.{Node}
 use Rattle.exec_rules.specs.declared.row.Row.{Row}
 use Rattle.exec_rules.specs.declared.row.Assigned.{Assigned}
-use Rattle.exec_rules.specs.Keys.{nothing}
-use Rattle.exec_rules.specs.Listed.{Told, executions, told}
+use Rattle.exec_rules.specs.Keys.{nothing_assigned}
+use Rattle.exec_rules.specs.Listed.{Told, executions, told_commands}
 use Rattle.exec_assign.specs.declared.told.ToldCommand.{ToldCommand}
 use Rattle.exec_assign.specs.declared.told.ToldNode.{ToldNode}
 
@@ -24,4 +24,4 @@ told_node n = (n.node, map told_command n.commands)
 -- the node at a place, when this is assigned to the nodes by place
 abbrev pub told_at : List Assigned → ℕ → List ℕ × Node → List ℕ × List Told
 told_at assigned p pair =
-    (pair.0, told pair.1.entries (slice_index_or assigned p nothing).rows)
+    (pair.0, told_commands pair.1.entries (slice_index_or assigned p nothing_assigned).rows)

@@ -1,11 +1,11 @@
 //! What an update assigns.
 ghost use Rattle.std.specs.Prelude.{◌≡◌, ◌<◌, ◌≤◌, ◌++◌, ℕ, [], true, false, length, slice_set, slice_index_or, Err, IfOk, OnOk};
 ghost use Rattle.pide_base.specs.Ids.{id_end};
-ghost use Rattle.exec_rules.specs.Keys.{nothing};
+ghost use Rattle.exec_rules.specs.Keys.{nothing_assigned};
 ghost use Rattle.exec_rules.specs.Assigning.{Work, assign_one, assignment};
 ghost use Rattle.exec_assign.specs.declared.fault.AssignFault.TheVariants.{Limit};
 ghost use Rattle.exec_assign.specs.Fitting.{RowsFit};
-ghost use Rattle.exec_assign.specs.Telling.{made_by};
+ghost use Rattle.exec_assign.specs.Telling.{update_version};
 ghost use Rattle.exec_assign.specs.Work.{HaveStood, IsWork};
 
 use crate::cancelled::Cancelled;
@@ -47,7 +47,7 @@ struct Progress {
 fn nothing(alloc: Global, count: usize) -> Result<Vec<Shared<Assigned>>, AllocError>
     ensures len { IfOk result (λ all. length all.items ≡ count) }
     ensures none { IfOk result (λ all. (p : ℕ)
-        → slice_index_or all.items p nothing ≡ nothing) }
+        → slice_index_or all.items p nothing_assigned ≡ nothing_assigned) }
 {
     let none = no_rows(alloc)?;
     let all = copies(alloc, &none, count);
@@ -57,7 +57,7 @@ fn nothing(alloc: Global, count: usize) -> Result<Vec<Shared<Assigned>>, AllocEr
 
 /// What a node without commands is assigned.
 fn no_rows(alloc: Global) -> Result<Shared<Assigned>, AllocError>
-    ensures { IfOk result (λ none. none ≡ nothing) }
+    ensures { IfOk result (λ none. none ≡ nothing_assigned) }
 {
     let key = shared(alloc, Key::Lasts(Items::new(alloc)))?;
     let rows = Items::new(alloc);
@@ -70,10 +70,10 @@ fn copies(
     none: &Shared<Assigned>,
     count: usize,
 ) -> Result<Vec<Shared<Assigned>>, AllocError>
-    requires { none.now ≡ nothing }
+    requires { none.now ≡ nothing_assigned }
     ensures len { IfOk result (λ all. length all.items ≡ count) }
     ensures none { IfOk result (λ all. (p : ℕ)
-        → slice_index_or all.items p nothing ≡ nothing) }
+        → slice_index_or all.items p nothing_assigned ≡ nothing_assigned) }
 {
     let mut all = Vec::new(alloc);
     'owners: for _ in 0..count {
@@ -135,9 +135,9 @@ impl<'a, C: Cancelled> Update<'a, C> {
         ensures next { IfOk result (λ made. made.next ≡ (assignment self.now next).next) }
         ensures within { IfOk result (λ made. made.next ≤ id_end) }
         ensures limit { result ≡ Err Limit → id_end < (assignment self.now next).next }
-        ensures rows { IfOk result (λ made. RowsFit (made_by self.now made.assigned)) }
+        ensures rows { IfOk result (λ made. RowsFit (update_version self.now made.assigned)) }
         ensures standing { IfOk result (λ made. HaveStood self.now made.standing
-            (λ p. slice_index_or made.assigned p nothing)) }
+            (λ p. slice_index_or made.assigned p nothing_assigned)) }
     {
         rows_law();
         let mut progress = self.begun(alloc, next)?;

@@ -3,7 +3,7 @@ ghost use Rattle.std.specs.Prelude.{◌≡◌, ◌<◌, ◌≤◌, ⊤, ℕ, Lis
 ghost use Rattle.import_rounds.specs.Looks.{marked};
 ghost use Rattle.pide_base.specs.Ids.{id_end};
 ghost use Rattle.doc_nodes.specs.Wanted.{wanted_at};
-ghost use Rattle.exec_rules.specs.Assigning.{kept_of, rows_in, assigned_in, greater, given_by, head_at, given};
+ghost use Rattle.exec_rules.specs.Assigning.{kept_of, rows_in, assigned_in, greater, node_given, head_at, given};
 ghost use Rattle.exec_assign.specs.declared.fault.AssignFault.TheVariants.{Limit};
 ghost use Rattle.exec_assign.specs.Untouched.{IsUntouched};
 ghost use Rattle.exec_assign.specs.Standing.{Stands};
@@ -121,10 +121,10 @@ impl<'a, C: Cancelled> Update<'a, C> {
         requires first { 1 ≤ next }
         requires next { next ≤ id_end }
         ensures ok { IfOk result (λ made. made
-            ≡ given_by self.now (name.now, node.now) head.now kept count next) }
+            ≡ node_given self.now (name.now, node.now) head.now kept count next) }
         ensures within { IfOk result (λ made. made.next ≤ id_end) }
         ensures limit { result ≡ Err Limit → id_end
-            < (given_by self.now (name.now, node.now) head.now kept count next).next }
+            < (node_given self.now (name.now, node.now) head.now kept count next).next }
     {
         let old = self.rows_before(name);
         let made = evaluations(alloc, old, kept, count, next)?;

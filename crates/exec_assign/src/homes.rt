@@ -4,7 +4,7 @@ ghost use Rattle.text_words.specs.Pieces.{text_between};
 ghost use Rattle.exec_rules.specs.Kept.{blob_of};
 ghost use Rattle.exec_rules.specs.declared.home.Input.TheVariants.{Print};
 ghost use Rattle.exec_rules.specs.Rows.{takes_print};
-ghost use Rattle.exec_rules.specs.Homes.{home, taken_up, eval_homes, print_homes};
+ghost use Rattle.exec_rules.specs.Homes.{home, taken_up_inputs, eval_homes, print_homes};
 ghost use Rattle.exec_rules.specs.Assigning.{head_at};
 
 use crate::cancelled::Cancelled;
@@ -210,7 +210,7 @@ impl<'a, C: Cancelled> Update<'a, C> {
 fn taken_up(head: &Shared<Head>, evaluations: &[ExecId], place: usize) -> Result<Input, AllocError>
     requires { place < length evaluations.now }
     ensures { IfOk result (λ input. Some input
-        ≡ slice_get (taken_up head.now evaluations.now) place) }
+        ≡ slice_get (taken_up_inputs head.now evaluations.now) place) }
 {
     match place.checked_sub(1) {
         Some(before) => Ok(Input::Next(evaluations[before])),

@@ -1,6 +1,6 @@
 //! How many commands keep their evaluations.
 ghost use Rattle.std.specs.Prelude.{◌≡◌, ◌≤◌, length, Some};
-ghost use Rattle.exec_rules.specs.Kept.{same_blob, keeps, kept};
+ghost use Rattle.exec_rules.specs.Kept.{same_blob, keeps, kept_count};
 ghost use Rattle.exec_rules.specs.Assigning.{times, rows_in, kept_of};
 ghost use Rattle.exec_assign.specs.Keeping.{keeps_at};
 
@@ -29,7 +29,7 @@ impl<'a, C: Cancelled> Update<'a, C> {
     }
 
     fn kept(&self, now: &[Entry], before: &[Entry], rows: &[Row]) -> usize
-        ensures count { result ≡ kept (times self.now) now.now before.now rows.now }
+        ensures count { result ≡ kept_count (times self.now) now.now before.now rows.now }
         ensures commands { result ≤ length now.now }
         ensures rows { result ≤ length rows.now }
     {

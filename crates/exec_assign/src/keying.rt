@@ -3,7 +3,7 @@ ghost use Rattle.std.specs.Prelude.{◌≡◌, ℕ, List, not, map, find, IfOk};
 ghost use Rattle.std.specs.Option.{option_copied};
 ghost use Rattle.import_rounds.specs.Rounds.{is_known};
 ghost use Rattle.doc_nodes.specs.Graphs.{IsGraphOf};
-ghost use Rattle.doc_nodes.specs.Imports.{place_of, ordered, is_bad, aims_of};
+ghost use Rattle.doc_nodes.specs.Imports.{place_of, ordered_places, is_bad, aims_of};
 ghost use Rattle.exec_rules.specs.declared.row.Assigned.{Assigned};
 ghost use Rattle.exec_rules.specs.Keys.{last_of, last_at, aimed, key_of};
 ghost use Rattle.exec_assign.specs.Found.{AreAssigned};
@@ -54,7 +54,7 @@ fn first_bad<'a>(
 
 fn is_bad_aim(nodes: &Nodes, graph: &ImportGraph, aim: Option<usize>) -> bool
     requires { IsGraphOf nodes.now graph.now }
-    ensures { result ≡ not (is_known (ordered nodes.now) aim) }
+    ensures { result ≡ not (is_known (ordered_places nodes.now) aim) }
 {
     match aim {
         Some(place) => !graph.is_ordered(place),

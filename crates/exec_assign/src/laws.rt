@@ -6,7 +6,7 @@ ghost use Rattle.exec_rules.specs.Kept.{BlobList};
 ghost use Rattle.exec_rules.specs.Assigning.{Update, assignment};
 ghost use Rattle.exec_assign.specs.Agreeing.{AgreeAt};
 ghost use Rattle.exec_assign.specs.Numbered.{new_in, with_numbers, AreBelow, AreHeld};
-ghost use Rattle.exec_assign.specs.Telling.{made_by};
+ghost use Rattle.exec_assign.specs.Telling.{update_version};
 ghost use Rattle.exec_assign.specs.Untouched.{AreUntouched};
 
 use doc_nodes::order_law;
@@ -43,9 +43,9 @@ pub fn new_numbers_law()
         → new_in u first (assignment u first).assigned
         ≡ with_numbers first (assignment u first).homes }
     ensures held { (u : Update) (first : ℕ)
-        → AreHeld first u.tip (made_by u (assignment u first).assigned) }
+        → AreHeld first u.tip (update_version u (assignment u first).assigned) }
     ensures below { (u : Update) (first : ℕ) → AreBelow first u.tip
-        → AreBelow (assignment u first).next (made_by u (assignment u first).assigned) }
+        → AreBelow (assignment u first).next (update_version u (assignment u first).assigned) }
 {
     kept_law();
     order_law();

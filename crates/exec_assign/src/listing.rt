@@ -3,10 +3,10 @@ ghost use Rattle.std.specs.Prelude.{◌≡◌, ◌==◌, ℕ, List, ◌∷◌, �
 ghost use Rattle.shared_map.specs.Pairs.{IsSorted};
 ghost use Rattle.import_rounds.specs.Looks.{marked};
 ghost use Rattle.doc_nodes.specs.Names.{in_order};
-ghost use Rattle.exec_rules.specs.Keys.{nothing};
+ghost use Rattle.exec_rules.specs.Keys.{nothing_assigned};
 ghost use Rattle.doc_nodes.specs.declared.node.Node.{Node};
-ghost use Rattle.exec_rules.specs.Listed.{told, print_list, same_by, same_told, is_other, listed};
-ghost use Rattle.exec_assign.specs.Telling.{made_by};
+ghost use Rattle.exec_rules.specs.Listed.{told_commands, print_list, same_by, same_told, is_other, listed};
+ghost use Rattle.exec_assign.specs.Telling.{update_version};
 ghost use Rattle.exec_assign.specs.Told.{told_row, told_command, told_node, told_at};
 ghost use Rattle.exec_assign.specs.Work.{HaveStood};
 
@@ -26,7 +26,7 @@ fn told_commands(
     entries: &[Entry],
     rows: &[Row],
 ) -> Result<Items<ToldCommand>, AllocError>
-    ensures { IfOk result (λ all. map told_command all ≡ told entries.now rows.now) }
+    ensures { IfOk result (λ all. map told_command all ≡ told_commands entries.now rows.now) }
 {
     let mut all = Items::new(alloc);
     'commands: for place in 0..entries.len() {
@@ -62,8 +62,8 @@ fn add_command(
 
 /// Whether the commands with these rows are told otherwise than those before with the old ones.
 fn is_other(entries: &[Entry], rows: &[Row], before: &[Entry], old: &[Row]) -> bool
-    ensures { result ≡ not (same_by same_told (told entries.now rows.now)
-        (told before.now old.now)) }
+    ensures { result ≡ not (same_by same_told (told_commands entries.now rows.now)
+        (told_commands before.now old.now)) }
 {
     if entries.len() != before.len() {
         return true;
@@ -112,7 +112,7 @@ fn same_print(print: &Option<ExecId>, had: &Option<ExecId>) -> bool
 impl Assignment {
     /// The rows of the node at the place.
     pub fn rows_at(&self, place: usize) -> &[Row]
-        ensures { result.now ≡ (slice_index_or self.now.assigned place nothing).rows }
+        ensures { result.now ≡ (slice_index_or self.now.assigned place nothing_assigned).rows }
     {
         match self.assigned.get(place) {
             Some(assigned) => assigned.get().rows.as_slice(),
@@ -142,9 +142,9 @@ impl<'a, C: Cancelled> Update<'a, C> {
     /// is not looked at.
     pub fn listed(&self, alloc: Global, made: &Assignment) -> Result<Vec<ToldNode>, AllocError>
         requires { HaveStood self.now made.now.standing
-            (λ p. slice_index_or made.now.assigned p nothing) }
+            (λ p. slice_index_or made.now.assigned p nothing_assigned) }
         ensures { IfOk result (λ all. map told_node all.items
-            ≡ listed self.now.tip (made_by self.now made.now.assigned)) }
+            ≡ listed self.now.tip (update_version self.now made.now.assigned)) }
     {
         names_law(self.nodes);
         let mut all = Vec::new(alloc);
@@ -163,7 +163,7 @@ impl<'a, C: Cancelled> Update<'a, C> {
         place: usize,
     ) -> Result<(), AllocError>
         requires { HaveStood self.now made.now.standing
-            (λ p. slice_index_or made.now.assigned p nothing) }
+            (λ p. slice_index_or made.now.assigned p nothing_assigned) }
         ensures { (pair : List ℕ × Node) → slice_get self.now.nodes place ≡ Some pair
             → OnOk result (map told_node all.new.items ≡ map told_node all.old.items
             ++ filter (is_other self.now.tip) (told_at made.now.assigned place pair ∷ [])) }
@@ -185,7 +185,8 @@ impl<'a, C: Cancelled> Update<'a, C> {
 
     /// Whether the node with these rows is told otherwise than before.
     fn is_told_otherwise(&self, name: &NodeName, node: &Node, rows: &[Row]) -> bool
-        ensures { result ≡ is_other self.now.tip (name.now, told node.now.entries rows.now) }
+        ensures { result ≡ is_other self.now.tip
+            (name.now, told_commands node.now.entries rows.now) }
     {
         is_other(
             node.entries.get().as_slice(),
@@ -203,7 +204,11 @@ fn told_node(
     node: &Node,
     rows: &[Row],
 ) -> Result<ToldNode, AllocError>
-    ensures { IfOk result (λ one. told_node one ≡ (name.now, told node.now.entries rows.now)) }
+    ensures { IfOk result (λ one. told_node one ≡ (
+      name.now,
+      told_commands node.now.entries
+          rows.now,
+    )) }
 {
     let commands = told_commands(alloc, node.entries.get().as_slice(), rows)?;
     Ok(ToldNode {

@@ -1,7 +1,7 @@
 //! The prints of a node.
 ghost use Rattle.std.specs.Prelude.{◌≡◌, ◌<◌, ◌≤◌, ◌∷◌, ◌++◌, [], length, drop, Err, IfOk, OnOk};
 ghost use Rattle.pide_base.specs.Ids.{id_end};
-ghost use Rattle.exec_rules.specs.Rows.{live_print, live_prints, first_print, print_of, takes_print, behind, with_prints, behind_prints};
+ghost use Rattle.exec_rules.specs.Rows.{live_print, live_prints, first_print, print_of, takes_print, number_behind, with_prints, behind_prints};
 ghost use Rattle.exec_assign.specs.declared.fault.AssignFault.TheVariants.{Limit};
 
 use crate::cancelled::Cancelled;
@@ -72,8 +72,8 @@ fn print_of(entry: &Entry, live: &Option<ExecId>, next: u64) -> Result<Option<Ex
     requires first { 1 ≤ next }
     requires next { next ≤ id_end }
     ensures ok { IfOk result (λ print. print ≡ print_of entry.now live.now next) }
-    ensures within { IfOk result (λ _. behind entry.now live.now next ≤ id_end) }
-    ensures limit { result ≡ Err Limit → id_end < behind entry.now live.now next }
+    ensures within { IfOk result (λ _. number_behind entry.now live.now next ≤ id_end) }
+    ensures limit { result ≡ Err Limit → id_end < number_behind entry.now live.now next }
 {
     if !entry.visible {
         return Ok(None);
@@ -87,7 +87,7 @@ fn print_of(entry: &Entry, live: &Option<ExecId>, next: u64) -> Result<Option<Ex
 /// The next number behind the print of a command.
 fn behind(entry: &Entry, live: &Option<ExecId>, next: u64) -> u64
     requires { next ≤ id_end }
-    ensures { result ≡ behind entry.now live.now next }
+    ensures { result ≡ number_behind entry.now live.now next }
 {
     if takes_print(entry, live) {
         next + 1

@@ -15,8 +15,8 @@ use Rattle.core_jobs.specs.declared.done.Done.{Done}
 use Rattle.exec_lists.specs.declared.results.PartResult.{PartResult}
 
 -- a part that is told, as one that is shown
-abbrev pub told : PartResult → PartShown
-told part = record { exec = part.exec; span = part.span; reports = Some part.reports.now }
+abbrev pub told_part : PartResult → PartShown
+told_part part = record { exec = part.exec; span = part.span; reports = Some part.reports.now }
 
 -- a part of an execution that came to this, at the place of its command
 abbrev pub part_of : {S : Type 0} → Range → ℕ → Done S → PartShown

@@ -5,7 +5,7 @@ ghost use Rattle.text_words.specs.Members.{has};
 ghost use Rattle.core_tables.specs.Rows.{execution_of};
 ghost use Rattle.exec_rules.specs.Assigning.{entries_at};
 ghost use Rattle.exec_rules.specs.Listed.{executions};
-ghost use Rattle.exec_lists.specs.Parts.{told, rows_at, rows_known, is_unfinished};
+ghost use Rattle.exec_lists.specs.Parts.{told_part, rows_at, rows_known, is_unfinished};
 
 use crate::opened::pending_in;
 use crate::shown::finished_parts;
@@ -44,7 +44,7 @@ pub fn results_at<'a, S>(
     version: &Version,
     place: usize,
 ) -> Result<NodeResults<'a>, AllocError>
-    ensures parts { IfOk result (λ found. map told found.parts.items
+    ensures parts { IfOk result (λ found. map told_part found.parts.items
         ≡ rows_known (λ e. execution_of execs.now.rows e)
         (entries_at version.now.nodes place) (rows_at version.now place)) }
     ensures rises { IfOk result (λ found. IsStrictlyIncreasing found.pending.items) }

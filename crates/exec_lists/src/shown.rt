@@ -2,7 +2,7 @@
 ghost use Rattle.std.specs.Prelude.{◌≡◌, ◌∷◌, [], ◌++◌, map, flat_map, Some, IfOk, OnOk};
 ghost use Rattle.core_tables.specs.Rows.{execution_of};
 ghost use Rattle.exec_rules.specs.Listed.{executions};
-ghost use Rattle.exec_lists.specs.Parts.{told, parts_by, parts_known, rows_known};
+ghost use Rattle.exec_lists.specs.Parts.{told_part, parts_by, parts_known, rows_known};
 
 use crate::results::PartResult;
 use core_jobs::Done;
@@ -20,7 +20,7 @@ pub(crate) fn finished_parts<'a, S>(
     entries: &[Entry],
     rows: &[Row],
 ) -> Result<Vec<PartResult<'a>>, AllocError>
-    ensures { IfOk result (λ parts. map told parts.items
+    ensures { IfOk result (λ parts. map told_part parts.items
         ≡ rows_known (λ e. execution_of execs.now.rows e) entries.now rows.now) }
 {
     let mut parts = Vec::new(alloc);
@@ -40,7 +40,7 @@ fn add_command<'a, S>(
     span: Range,
     row: &Row,
 ) -> Result<(), AllocError>
-    ensures { OnOk result (map told parts.new.items ≡ map told parts.old.items
+    ensures { OnOk result (map told_part parts.new.items ≡ map told_part parts.old.items
         ++ flat_map (λ e. parts_known span e (execution_of execs.now.rows e))
         (executions row.now)) }
 {
@@ -58,7 +58,7 @@ fn add_execution<'a, S>(
     span: Range,
     exec: ExecId,
 ) -> Result<(), AllocError>
-    ensures { OnOk result (map told parts.new.items ≡ map told parts.old.items
+    ensures { OnOk result (map told_part parts.new.items ≡ map told_part parts.old.items
         ++ parts_known span exec (execution_of execs.now.rows exec)) }
 {
     match execs.get(exec) {
@@ -74,7 +74,7 @@ fn add_finished<'a, S>(
     span: Range,
     exec: ExecId,
 ) -> Result<(), AllocError>
-    ensures { OnOk result (map told parts.new.items ≡ map told parts.old.items
+    ensures { OnOk result (map told_part parts.new.items ≡ map told_part parts.old.items
         ++ parts_by span exec progress.now) }
 {
     match progress {
@@ -99,7 +99,7 @@ fn add_part<'a>(
     span: Range,
     exec: ExecId,
 ) -> Result<(), AllocError>
-    ensures { OnOk result (map told parts.new.items ≡ map told parts.old.items
+    ensures { OnOk result (map told_part parts.new.items ≡ map told_part parts.old.items
         ++ record { exec = exec; span = span; reports = Some reports.now } ∷ []) }
 {
     let part = PartResult {

@@ -3,7 +3,7 @@ use Rattle.std.proofs.Common.{◌≡◌, ℕ, zero, suc, ◌<◌, ◌≤◌, Boo
 use Rattle.std.specs.Prelude.{slice_get}
 use Rattle.doc_nodes.specs.declared.node.Entry.{Entry}
 use Rattle.exec_rules.specs.declared.row.Row.{Row}
-use Rattle.exec_rules.specs.Kept.{Times, keeps, kept, KeepsAt}
+use Rattle.exec_rules.specs.Kept.{Times, keeps, kept_count, KeepsAt}
 
 first_at : (t : Times) (e b : Entry) (r : Row) (es bs : List Entry) (rs : List Row) → keeps t e b r ≡ true
     → KeepsAt t (e ∷ es) (b ∷ bs) (r ∷ rs) zero
@@ -34,13 +34,15 @@ first_keeps t e b r es bs rs at =
     ∙ ap (λ x. keeps t at.command at.old x) row ∙ at.keeping
 
 all_by : (t : Times) (e b : Entry) (r : Row) (es bs : List Entry) (rs : List Row) (k : Bool) → keeps t e b r ≡ k
-    → ((j : ℕ) → j < kept t es bs rs → KeepsAt t es bs rs j) → (i : ℕ) → i < cond k (suc (kept t es bs rs)) 0
+    → ((j : ℕ) → j < kept_count t es bs rs → KeepsAt t es bs rs j) → (i : ℕ)
+    → i < cond k (suc (kept_count t es bs rs)) 0
     → KeepsAt t (e ∷ es) (b ∷ bs) (r ∷ rs) i
 all_by t e b r es bs rs false same rest i lt = absurd (omega arith)
 all_by t e b r es bs rs true same rest zero lt = first_at t e b r es bs rs same
 all_by t e b r es bs rs true same rest (suc i) lt = at_other t es bs rs i (e ∷ es) (b ∷ bs) (r ∷ rs) (suc i) refl refl refl (rest i (omega arith))
 
-pub kept_all : (t : Times) (es bs : List Entry) (rs : List Row) (i : ℕ) → i < kept t es bs rs → KeepsAt t es bs rs i
+pub kept_all : (t : Times) (es bs : List Entry) (rs : List Row) (i : ℕ)
+    → i < kept_count t es bs rs → KeepsAt t es bs rs i
 kept_all t [] bs rs i lt = absurd (omega arith)
 kept_all t (e ∷ es) [] rs i lt = absurd (omega arith)
 kept_all t (e ∷ es) (b ∷ bs) [] i lt = absurd (omega arith)
@@ -52,11 +54,12 @@ one_more true n m same le = omega arith
 one_more false n m same le = absurd (cc)
 
 pub kept_greatest : (t : Times) (es bs : List Entry) (rs : List Row) (n : ℕ)
-    → ((i : ℕ) → i < n → KeepsAt t es bs rs i) → n ≤ kept t es bs rs
+    → ((i : ℕ) → i < n → KeepsAt t es bs rs i) → n ≤ kept_count t es bs rs
 kept_greatest t es bs rs zero all = omega arith
 kept_greatest t [] bs rs (suc n) all = let at = all zero (omega arith) in let none = at.stands in absurd (cc)
 kept_greatest t (e ∷ es) [] rs (suc n) all = let at = all zero (omega arith) in let none = at.stood in absurd (cc)
 kept_greatest t (e ∷ es) (b ∷ bs) [] (suc n) all = let at = all zero (omega arith) in let none = at.had in absurd (cc)
 kept_greatest t (e ∷ es) (b ∷ bs) (r ∷ rs) (suc n) all =
-    one_more (keeps t e b r) n (kept t es bs rs) (first_keeps t e b r es bs rs (all zero (omega arith)))
+    one_more (keeps t e b r) n (kept_count t es bs rs)
+    (first_keeps t e b r es bs rs (all zero (omega arith)))
     (kept_greatest t es bs rs n (λ i less. at_other t (e ∷ es) (b ∷ bs) (r ∷ rs) (suc i) es bs rs i refl refl refl (all (suc i) (omega arith))))

@@ -12,7 +12,7 @@ use Rattle.exec_rules.specs.declared.row.Assigned.{Assigned}
 use Rattle.exec_rules.specs.declared.row.Row.{Row}
 use Rattle.exec_rules.specs.Rows.{evaluations}
 use Rattle.exec_rules.specs.Keys.{same_key}
-use Rattle.exec_rules.specs.Kept.{kept}
+use Rattle.exec_rules.specs.Kept.{kept_count}
 use Rattle.exec_rules.specs.Assigning.{Update, times, assigned_in, rows_in, entries_in, kept_of, greater}
 use Rattle.exec_rules.proofs.KnownKept.{kept_commands, kept_rows}
 
@@ -31,7 +31,8 @@ pub kept_of_commands : (u : Update) (pair : List ℕ × Node) (key : Key) → ke
 kept_of_commands u pair key = go (assigned_in u.tip pair.0)
   where
     go : (old : Option Assigned) → option_map_or (λ old. cond (same_key key old.key)
-        (kept (times u) pair.1.entries (entries_in u.tip pair.0) old.rows) 0) old 0 ≤ length pair.1.entries
+        (kept_count (times u) pair.1.entries (entries_in u.tip pair.0) old.rows) 0) old 0 ≤ length
+        pair.1.entries
     go None = omega arith
     go (Some old) = zero_or (same_key key old.key) _ _
         (kept_commands (times u) pair.1.entries (entries_in u.tip pair.0) old.rows)
@@ -40,7 +41,7 @@ pub kept_of_rows : (u : Update) (pair : List ℕ × Node) (key : Key) → kept_o
 kept_of_rows u pair key = go (assigned_in u.tip pair.0)
   where
     go : (old : Option Assigned) → option_map_or (λ old. cond (same_key key old.key)
-        (kept (times u) pair.1.entries (entries_in u.tip pair.0) old.rows) 0) old 0
+        (kept_count (times u) pair.1.entries (entries_in u.tip pair.0) old.rows) 0) old 0
         ≤ length (option_map_or (λ assigned. assigned.rows) old [])
     go None = omega arith
     go (Some old) = zero_or (same_key key old.key) _ _

@@ -3,26 +3,28 @@ use Rattle.std.proofs.Common.{ℕ, suc, ◌≤◌, Bool, true, false, cond, List
 use Rattle.doc_nodes.specs.declared.node.Entry.{Entry}
 use Rattle.doc_nodes.proofs.KnownNames.{name_is}
 use Rattle.exec_rules.specs.declared.row.Row.{Row}
-use Rattle.exec_rules.specs.Kept.{Times, keeps, kept, agree}
+use Rattle.exec_rules.specs.Kept.{Times, keeps, kept_count, agree}
 
 within_by : (k : Bool) (n m : ℕ) → n ≤ m → cond k (suc n) 0 ≤ suc m
 within_by true n m le = omega arith
 within_by false n m le = omega arith
 
 -- no more are kept than there are commands, or rows before
-pub kept_commands : (t : Times) (es bs : List Entry) (rs : List Row) → kept t es bs rs ≤ length es
+pub kept_commands : (t : Times) (es bs : List Entry) (rs : List Row)
+    → kept_count t es bs rs ≤ length es
 kept_commands t [] bs rs = omega arith
 kept_commands t (e ∷ es) [] rs = omega arith
 kept_commands t (e ∷ es) (b ∷ bs) [] = omega arith
 kept_commands t (e ∷ es) (b ∷ bs) (r ∷ rs) =
-    within_by (keeps t e b r) (kept t es bs rs) (length es) (kept_commands t es bs rs)
+    within_by (keeps t e b r) (kept_count t es bs rs) (length es) (kept_commands t es bs rs)
 
-pub kept_rows : (t : Times) (es bs : List Entry) (rs : List Row) → kept t es bs rs ≤ length rs
+pub kept_rows : (t : Times) (es bs : List Entry) (rs : List Row)
+    → kept_count t es bs rs ≤ length rs
 kept_rows t [] bs rs = omega arith
 kept_rows t (e ∷ es) [] rs = omega arith
 kept_rows t (e ∷ es) (b ∷ bs) [] = omega arith
 kept_rows t (e ∷ es) (b ∷ bs) (r ∷ rs) =
-    within_by (keeps t e b r) (kept t es bs rs) (length rs) (kept_rows t es bs rs)
+    within_by (keeps t e b r) (kept_count t es bs rs) (length rs) (kept_rows t es bs rs)
 
 -- names that agree are the same
 pub agree_is : (a b : Option (List ℕ)) → agree a b ≡ true → a ≡ b

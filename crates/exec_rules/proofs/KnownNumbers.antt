@@ -9,7 +9,7 @@ use Rattle.exec_rules.specs.declared.home.Head.{Head}
 use Rattle.exec_rules.specs.declared.home.Input.TheVariants.{Next, Print}
 use Rattle.exec_rules.specs.Kept.{BlobList}
 use Rattle.exec_rules.specs.Rows.{first_print, takes_print, behind_prints}
-use Rattle.exec_rules.specs.Homes.{home, taken_up, eval_homes, print_homes}
+use Rattle.exec_rules.specs.Homes.{home, taken_up_inputs, eval_homes, print_homes}
 
 -- the next number behind the prints is told by their homes
 pub print_numbers : (node : Node) (blobs : BlobList) (es : List Entry) (vs : List ℕ) (live : List (Option ℕ)) (m : ℕ)
@@ -29,6 +29,7 @@ print_numbers node blobs (e ∷ es) (v ∷ vs) live m = go (takes_print e (first
 pub eval_count : (node : Node) (blobs : BlobList) (head : Head) (vs : List ℕ) → length vs ≤ length node.entries
     → length (eval_homes node blobs head vs) ≡ length vs
 eval_count node blobs head vs le =
-    length-map (zip (take (length vs) node.entries) (taken_up head vs)) (λ pair. home node blobs pair.0 pair.1)
-    ∙ length-zip (take (length vs) node.entries) (taken_up head vs)
+    length-map (zip (take (length vs) node.entries) (taken_up_inputs head vs))
+    (λ pair. home node blobs pair.0 pair.1)
+    ∙ length-zip (take (length vs) node.entries) (taken_up_inputs head vs)
     ∙ omega (arith, length-take-le (length vs) node.entries le, length-map vs (λ x. Next x))

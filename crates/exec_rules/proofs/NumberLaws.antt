@@ -11,7 +11,7 @@ use Rattle.exec_rules.specs.declared.key.Key.{Key}
 use Rattle.exec_rules.specs.Keys.{key_of}
 use Rattle.exec_rules.specs.Rows.{evaluations, live_prints}
 use Rattle.exec_rules.specs.Homes.{eval_homes, print_homes}
-use Rattle.exec_rules.specs.Assigning.{Update, Work, added, rows_in, kept_of, greater, head_at, given, assign_one, assign_all}
+use Rattle.exec_rules.specs.Assigning.{Update, Work, extended_work, rows_in, kept_of, greater, head_at, given, assign_one, assign_all}
 use Rattle.exec_rules.proofs.KnownCounts.{kept_of_rows, greater_least, evaluations_long}
 use Rattle.exec_rules.proofs.KnownNumbers.{print_numbers, eval_count}
 use Rattle.exec_rules.proofs.RowLaws.{count_within}
@@ -43,8 +43,9 @@ one_numbers : (within : (es : List Entry) → wanted_prefix es ≤ length es) (u
 one_numbers within u work p next e = go (slice_get u.nodes p) refl
   where
     go : (o : Option (List ℕ × Node)) → slice_get u.nodes p ≡ o
-        → (option_map_or (λ pair. added work p (given u p pair (key_of u.nodes work.done pair.1) work.next)) o work).next
-        ≡ next + length (option_map_or (λ pair. added work p (given u p pair (key_of u.nodes work.done pair.1) work.next)) o work).homes
+        → (option_map_or (λ pair. extended_work work p (given u p pair (key_of u.nodes work.done
+        pair.1) work.next)) o work).next
+        ≡ next + length (option_map_or (λ pair. extended_work work p (given u p pair (key_of u.nodes work.done pair.1) work.next)) o work).homes
     go None at = e
     go (Some pair) at = omega (
       arith,

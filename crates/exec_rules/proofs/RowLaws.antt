@@ -12,7 +12,7 @@ use Rattle.doc_nodes.specs.Imports.{NodeList}
 use Rattle.doc_nodes.specs.Prefix.{wanted_prefix, own_wanted}
 use Rattle.doc_nodes.specs.Wanted.{is_reached, wanted_at}
 use Rattle.exec_rules.specs.declared.key.Key.{Key}
-use Rattle.exec_rules.specs.Kept.{kept}
+use Rattle.exec_rules.specs.Kept.{kept_count}
 use Rattle.exec_rules.specs.Assigning.{Update, rows_in, kept_of, greater}
 use Rattle.exec_rules.proofs.KnownCounts.{evaluations_long, kept_of_commands, kept_of_rows, all_or, greater_within, greater_least, greater_most}
 use Rattle.exec_rules.proofs.KnownGiven.{rows_given}

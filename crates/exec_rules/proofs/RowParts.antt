@@ -6,7 +6,7 @@ use Rattle.std.specs.List.{range_with_len}
 use Rattle.std.specs.Option.{option_map_or}
 use Rattle.doc_nodes.specs.declared.node.Entry.{Entry}
 use Rattle.exec_rules.specs.declared.row.Row.{Row}
-use Rattle.exec_rules.specs.Rows.{evaluations, live_print, live_prints, first_print, print_of, behind, with_prints}
+use Rattle.exec_rules.specs.Rows.{evaluations, live_print, live_prints, first_print, print_of, number_behind, with_prints}
 use Rattle.exec_rules.proofs.KnownGiven.{live_at, first_live, rest_live}
 
 -- the rows have these evaluations
@@ -16,7 +16,8 @@ rows_evaluate [] [] live m le = refl
 rows_evaluate [] (v ∷ vs) live m le = absurd (omega arith)
 rows_evaluate (e ∷ es) [] live m le = refl
 rows_evaluate (e ∷ es) (v ∷ vs) live m le =
-    ap (λ xs. v ∷ xs) (rows_evaluate es vs (drop 1 live) (behind e (first_print live) m) (omega arith))
+    ap (λ xs. v ∷ xs) (rows_evaluate es vs (drop 1 live) (number_behind e (first_print live) m)
+    (omega arith))
 
 print_seen : (v : Bool) (x : ℕ) → v ≡ is_some (cond v (Some x) None)
 print_seen true x = refl
@@ -33,7 +34,7 @@ rows_print (e ∷ es) (v ∷ vs) live m zero row at =
     ap (λ b. Some b) (print_seen e.visible (option_map_or (λ print. print) (first_print live) m)
     ∙ ap (λ (r : Row). is_some r.print) same)
 rows_print (e ∷ es) (v ∷ vs) live m (suc i) row at =
-    rows_print es vs (drop 1 live) (behind e (first_print live) m) i row at
+    rows_print es vs (drop 1 live) (number_behind e (first_print live) m) i row at
 
 kept_first : (v : Bool) (live : Option ℕ) (m print : ℕ) → live ≡ Some print
     → IsSome (cond v (Some (option_map_or (λ p. p) live m)) None)
@@ -52,7 +53,8 @@ rows_keep (e ∷ es) (v ∷ vs) live m zero print row at here some =
     ap (λ (r : Row). r.print) same
     ∙ kept_first e.visible (first_print live) m print (first_live live ∙ here) (subst (λ (r : Row). IsSome r.print) same some)
 rows_keep (e ∷ es) (v ∷ vs) live m (suc i) print row at here some =
-    rows_keep es vs (drop 1 live) (behind e (first_print live) m) i print row at (rest_live live i ∙ here) some
+    rows_keep es vs (drop 1 live) (number_behind e (first_print live) m) i print row at
+    (rest_live live i ∙ here) some
 
 -- what can be kept of a front
 pub live_front : (cancelled : List ℕ) (rows : List Row) (k i print : ℕ) (old : Row) → i < k → slice_get rows i ≡ Some old

@@ -14,7 +14,7 @@ use Rattle.exec_rules.specs.declared.home.Head.{Head}
 use Rattle.exec_rules.specs.declared.home.Home.{Home}
 use Rattle.exec_rules.specs.declared.version.Version.{Version}
 use Rattle.exec_rules.specs.Keys.{key_of, same_key, assigned_at}
-use Rattle.exec_rules.specs.Kept.{BlobList, Times, kept}
+use Rattle.exec_rules.specs.Kept.{BlobList, Times, kept_count}
 use Rattle.exec_rules.specs.Rows.{evaluations, live_prints, with_prints, behind_prints}
 use Rattle.exec_rules.specs.Homes.{eval_homes, print_homes}
 
@@ -51,7 +51,7 @@ times u = record { before = u.tip.blobs; now = u.blobs; cancelled = u.cancelled 
 abbrev pub kept_of : Update → List ℕ × Node → Key → ℕ
 kept_of u pair key = option_map_or
     (λ old. if same_key key old.key
-    then kept (times u) pair.1.entries (entries_in u.tip pair.0) old.rows else 0)
+    then kept_count (times u) pair.1.entries (entries_in u.tip pair.0) old.rows else 0)
     (assigned_in u.tip pair.0) 0
 
 -- the greater of two numbers
@@ -66,8 +66,8 @@ pub record Given : Type 0 where
 
 -- what a node with this head is given, when its first k commands keep their evaluations, and n
 -- are assigned
-abbrev pub given_by : Update → List ℕ × Node → Head → ℕ → ℕ → ℕ → Given
-given_by u pair head k n next =
+abbrev pub node_given : Update → List ℕ × Node → Head → ℕ → ℕ → ℕ → Given
+node_given u pair head k n next =
     let vs = evaluations (rows_in u.tip pair.0) k n next in
     let live = live_prints u.cancelled (rows_in u.tip pair.0) k in
     record {
@@ -93,7 +93,7 @@ head_at u p pair key = record {
 abbrev pub given : Update → ℕ → List ℕ × Node → Key → ℕ → Given
 given u p pair key next =
     let k = kept_of u pair key in
-    given_by u pair (head_at u p pair key) k (greater k (wanted_at u.nodes p)) next
+    node_given u pair (head_at u p pair key) k (greater k (wanted_at u.nodes p)) next
 
 -- what is done so far: what the nodes at some places are assigned, the last first; what the new
 -- executions go by, in the order of their numbers; and the next number
@@ -103,8 +103,8 @@ pub record Work : Type 0 where
   pub next : ℕ
 
 -- the work with what the node at a place is given
-abbrev pub added : Work → ℕ → Given → Work
-added work p g = record {
+abbrev pub extended_work : Work → ℕ → Given → Work
+extended_work work p g = record {
   done = (p, g.assigned) ∷ work.done;
   homes = work.homes ++ g.homes;
   next = g.next;
@@ -113,7 +113,7 @@ added work p g = record {
 -- one node more, by its place
 abbrev pub assign_one : Update → Work → ℕ → Work
 assign_one u work p = option_map_or
-    (λ pair. added work p (given u p pair (key_of u.nodes work.done pair.1) work.next))
+    (λ pair. extended_work work p (given u p pair (key_of u.nodes work.done pair.1) work.next))
     (slice_get u.nodes p) work
 
 -- the nodes at these places, one after the other

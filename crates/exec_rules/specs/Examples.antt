@@ -42,19 +42,19 @@ abbrev pub start : Version
 start = record { nodes = []; blobs = []; assigned = [] }
 
 -- what is assigned by an update to these nodes and blobs, with these executions cancelled
-abbrev pub updated : Version → NodeList → BlobList → List ℕ → ℕ → Assignment
-updated tip nodes blobs cancelled next = assignment
+abbrev pub updated_assignment : Version → NodeList → BlobList → List ℕ → ℕ → Assignment
+updated_assignment tip nodes blobs cancelled next = assignment
     (record { tip = tip; nodes = nodes; blobs = blobs; cancelled = cancelled })
     next
 
 -- the version after such an update
-abbrev pub after : Version → NodeList → BlobList → List ℕ → ℕ → Version
-after tip nodes blobs cancelled next = record {
+abbrev pub version_after : Version → NodeList → BlobList → List ℕ → ℕ → Version
+version_after tip nodes blobs cancelled next = record {
   nodes = nodes;
   blobs = blobs;
-  assigned = (updated tip nodes blobs cancelled next).assigned;
+  assigned = (updated_assignment tip nodes blobs cancelled next).assigned;
 }
 
 -- what the update tells: the nodes whose rows changed
 abbrev pub tells : Version → NodeList → BlobList → List ℕ → ℕ → List (List ℕ × List Told)
-tells tip nodes blobs cancelled next = listed tip (after tip nodes blobs cancelled next)
+tells tip nodes blobs cancelled next = listed tip (version_after tip nodes blobs cancelled next)

@@ -21,14 +21,14 @@ home node blobs e input = record {
 
 -- what the evaluations of a node take up: the first the node's beginning, each other the one
 -- before it
-abbrev pub taken_up : Head → List ℕ → List Input
-taken_up head evaluations = First head ∷ map Next evaluations
+abbrev pub taken_up_inputs : Head → List ℕ → List Input
+taken_up_inputs head evaluations = First head ∷ map Next evaluations
 
 -- the homes of a node's evaluations
 abbrev pub eval_homes : Node → BlobList → Head → List ℕ → List Home
 eval_homes node blobs head evaluations =
     map (λ pair. home node blobs pair.0 pair.1)
-    (zip (take (length evaluations) node.entries) (taken_up head evaluations))
+    (zip (take (length evaluations) node.entries) (taken_up_inputs head evaluations))
 
 -- the homes of the prints that have new numbers
 abbrev pub print_homes : Node → BlobList → List Entry → List ℕ → List (Option ℕ) → List Home

@@ -39,10 +39,10 @@ keeps times now before row = (now.command == before.command)
     && (not (has times.cancelled row.evaluation) && same_blob times now.needs before.needs)
 
 -- how many commands at the front keep their evaluations, beside the commands before and their rows
-abbrev pub kept : Times → List Entry → List Entry → List Row → ℕ
-kept times (e ∷ es) (b ∷ bs) (r ∷ rs) =
-    if keeps times e b r then suc (kept times es bs rs) else 0
-kept times es bs rs = 0
+abbrev pub kept_count : Times → List Entry → List Entry → List Row → ℕ
+kept_count times (e ∷ es) (b ∷ bs) (r ∷ rs) =
+    if keeps times e b r then suc (kept_count times es bs rs) else 0
+kept_count times es bs rs = 0
 
 -- the command at a place can keep its evaluation
 pub record KeepsAt (times : Times) (now before : List Entry) (rows : List Row) (i : ℕ)

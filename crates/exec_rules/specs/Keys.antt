@@ -23,12 +23,12 @@ last_of [] rows = Empty
 last_of (e ∷ es) rows = by_row (slice_get rows (length es))
 
 -- nothing is assigned
-abbrev pub nothing : Assigned
-nothing = record { key = Lasts []; rows = [] }
+abbrev pub nothing_assigned : Assigned
+nothing_assigned = record { key = Lasts []; rows = [] }
 
 -- what the node at a place is assigned, among what is assigned so far
 abbrev pub assigned_at : List (ℕ × Assigned) → ℕ → Assigned
-assigned_at done p = option_map_or (λ one. one.1) (find (λ one. one.0 == p) done) nothing
+assigned_at done p = option_map_or (λ one. one.1) (find (λ one. one.0 == p) done) nothing_assigned
 
 -- what the last command of the node at a place has
 abbrev pub last_at : NodeList → List (ℕ × Assigned) → ℕ → Last

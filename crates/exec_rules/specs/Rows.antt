@@ -33,18 +33,18 @@ abbrev pub takes_print : Entry → Option ℕ → Bool
 takes_print e live = e.visible && not (is_some live)
 
 -- the next number behind it
-abbrev pub behind : Entry → Option ℕ → ℕ → ℕ
-behind e live next = if takes_print e live then suc next else next
+abbrev pub number_behind : Entry → Option ℕ → ℕ → ℕ
+number_behind e live next = if takes_print e live then suc next else next
 
 -- the rows of commands with these evaluations, given the prints that can be kept
 abbrev pub with_prints : List Entry → List ℕ → List (Option ℕ) → ℕ → List Row
 with_prints (e ∷ es) (v ∷ vs) live next =
     record { evaluation = v; print = print_of e (first_print live) next }
-    ∷ with_prints es vs (drop 1 live) (behind e (first_print live) next)
+    ∷ with_prints es vs (drop 1 live) (number_behind e (first_print live) next)
 with_prints es vs live next = []
 
 -- the next number behind them
 abbrev pub behind_prints : List Entry → List ℕ → List (Option ℕ) → ℕ → ℕ
 behind_prints (e ∷ es) (v ∷ vs) live next =
-    behind_prints es vs (drop 1 live) (behind e (first_print live) next)
+    behind_prints es vs (drop 1 live) (number_behind e (first_print live) next)
 behind_prints es vs live next = next

@@ -3,7 +3,7 @@
 use Rattle.std.specs.Prelude.{◌≡◌, ℕ, List, [], ◌∷◌, codes}
 use Rattle.doc_nodes.specs.Imports.{NodeList}
 use Rattle.exec_rules.specs.declared.version.Version.{Version}
-use Rattle.exec_rules.specs.Examples.{hidden, seen, loads, required, watched, start, after, tells}
+use Rattle.exec_rules.specs.Examples.{hidden, seen, loads, required, watched, start, version_after, tells}
 
 -- a node of five commands
 abbrev pub five : NodeList
@@ -16,7 +16,7 @@ third_changed =
 
 -- the changed command and all behind it have new executions
 abbrev pub AChangedCommand : Type 0
-AChangedCommand = tells (after start five [] [] 1) third_changed [] [] 6
+AChangedCommand = tells (version_after start five [] [] 1) third_changed [] [] 6
     ≡ (codes "A", (1, 1 ∷ []) ∷ (2, 2 ∷ []) ∷ (6, 6 ∷ []) ∷ (4, 7 ∷ []) ∷ (5, 8 ∷ []) ∷ []) ∷ []
 
 -- a node of five commands, of which the first two are seen
@@ -33,11 +33,11 @@ one_seen = (codes "A", watched (seen 1 ∷ hidden 2 ∷ hidden 3 ∷ hidden 4 �
 
 -- the version where two are seen
 abbrev pub after_two : Version
-after_two = after start two_seen [] [] 1
+after_two = version_after start two_seen [] [] 1
 
 -- the version behind it, where all are
 abbrev pub after_all : Version
-after_all = after after_two all_seen [] [] 5
+after_all = version_after after_two all_seen [] [] 5
 
 -- what is seen is assigned and printed; what was assigned stays so, though not printed
 pub record APerspective : Type 0 where
@@ -76,14 +76,14 @@ importer_changed = (codes "A", required [] (hidden 1 ∷ hidden 2 ∷ hidden 8 �
 
 -- the version where the import has changed
 abbrev pub after_import : Version
-after_import = after (after start importing [] [] 1) import_changed [] [] 8
+after_import = version_after (version_after start importing [] [] 1) import_changed [] [] 8
 
 -- an importer has new executions where what it imports has, and not the other way round
 pub record AChangedImport : Type 0 where
   pub first : tells start importing [] [] 1
       ≡ (codes "A", (1, 1 ∷ []) ∷ (2, 2 ∷ []) ∷ (3, 3 ∷ []) ∷ [])
       ∷ (codes "B", (4, 4 ∷ []) ∷ (5, 5 ∷ []) ∷ (6, 6 ∷ []) ∷ (7, 7 ∷ []) ∷ []) ∷ []
-  pub import : tells (after start importing [] [] 1) import_changed [] [] 8
+  pub import : tells (version_after start importing [] [] 1) import_changed [] [] 8
       ≡ (codes "A", (1, 1 ∷ []) ∷ (2, 2 ∷ []) ∷ (8, 8 ∷ []) ∷ [])
       ∷ (codes "B", (4, 9 ∷ []) ∷ (5, 10 ∷ []) ∷ (6, 11 ∷ []) ∷ (7, 12 ∷ []) ∷ []) ∷ []
   pub importer : tells after_import importer_changed [] [] 13
@@ -100,11 +100,11 @@ pub record BadImports : Type 0 where
   pub first : tells start cycle [] [] 1
       ≡ (codes "A", (1, 1 ∷ []) ∷ (2, 2 ∷ []) ∷ []) ∷ (codes "B", (3, 3 ∷ []) ∷ (4, 4 ∷ []) ∷ [])
       ∷ (codes "C", (5, 5 ∷ []) ∷ (6, 6 ∷ []) ∷ []) ∷ []
-  pub again : tells (after start cycle [] [] 1) cycle [] [] 7 ≡ []
+  pub again : tells (version_after start cycle [] [] 1) cycle [] [] 7 ≡ []
 
 -- a cancelled execution is not kept, nor what stands behind it; a cancelled print is replaced alone
 pub record ACancellation : Type 0 where
-  pub evaluation : tells (after start five [] [] 1) five [] (3 ∷ []) 6
+  pub evaluation : tells (version_after start five [] [] 1) five [] (3 ∷ []) 6
       ≡ (codes "A", (1, 1 ∷ []) ∷ (2, 2 ∷ []) ∷ (3, 6 ∷ []) ∷ (4, 7 ∷ []) ∷ (5, 8 ∷ []) ∷ []) ∷ []
   pub print : tells after_two two_seen [] (3 ∷ []) 5
       ≡ (codes "A", (1, 1 ∷ 5 ∷ []) ∷ (2, 2 ∷ 4 ∷ []) ∷ (3, []) ∷ (4, []) ∷ (5, []) ∷ []) ∷ []
@@ -115,7 +115,7 @@ loading = (codes "A", required [] (hidden 1 ∷ loads 2 ∷ hidden 3 ∷ [])) �
 
 -- the version of the node that loads
 abbrev pub after_loading : Version
-after_loading = after start loading ((codes "x", codes "a: P") ∷ []) [] 1
+after_loading = version_after start loading ((codes "x", codes "a: P") ∷ []) [] 1
 
 -- a blob that changes or goes changes what asks for it, and what stands behind; another does not
 pub record ABlob : Type 0 where
@@ -140,5 +140,5 @@ filled_import = (codes "A", watched (hidden 2 ∷ [])) ∷ one_command (codes "B
 
 -- an importer's executions are not kept when the import gets commands
 abbrev pub AnEmptyImport : Type 0
-AnEmptyImport = tells (after start empty_import [] [] 1) filled_import [] [] 2
+AnEmptyImport = tells (version_after start empty_import [] [] 1) filled_import [] [] 2
     ≡ (codes "A", (2, 2 ∷ []) ∷ []) ∷ (codes "B", (1, 3 ∷ []) ∷ []) ∷ []

@@ -7,7 +7,7 @@ ghost use Rattle.doc_nodes.specs.Wanted.{wanted_at};
 ghost use Rattle.exec_rules.specs.declared.key.Key.{Key};
 ghost use Rattle.exec_rules.specs.declared.row.Row.{Row};
 ghost use Rattle.exec_rules.specs.Keys.{same_key};
-ghost use Rattle.exec_rules.specs.Kept.{Times, KeepsAt, kept};
+ghost use Rattle.exec_rules.specs.Kept.{Times, KeepsAt, kept_count};
 ghost use Rattle.exec_rules.specs.Rows.{live_print};
 ghost use Rattle.exec_rules.specs.Worked.{AChangedCommand, APerspective, AChangedImport, BadImports, ACancellation, ABlob, AnEmptyImport};
 ghost use Rattle.exec_rules.specs.Assigning.{Update, kept_of, rows_in, given, assignment};
@@ -23,10 +23,10 @@ pub fn key_law()
 /// front can.
 pub fn kept_law()
     ensures all { (times : Times) (now before : List Entry) (rows : List Row) (i : ℕ)
-        → i < kept times now before rows → KeepsAt times now before rows i }
+        → i < kept_count times now before rows → KeepsAt times now before rows i }
     ensures greatest { (times : Times) (now before : List Entry) (rows : List Row) (n : ℕ)
         → ((i : ℕ) → i < n → KeepsAt times now before rows i)
-        → n ≤ kept times now before rows }
+        → n ≤ kept_count times now before rows }
 {}
 
 /// The commands of a node that are assigned are those that keep their evaluations and all that are

@@ -2,7 +2,7 @@
 ghost use Rattle.std.specs.Prelude.{◌≡◌, ◌∷◌, [], ℕ, IfOk, drop};
 ghost use Rattle.pide_base.specs.Questions.{risen_by};
 ghost use Rattle.report_markup.specs.declared.kind.ReportKind.TheVariants as kinds;
-ghost use Rattle.report_markup.specs.Sorting.{in_order};
+ghost use Rattle.report_markup.specs.Sorting.{ordered_reports};
 ghost use Rattle.proof_terms.specs.Marks.{marks};
 ghost use Rattle.proof_terms.specs.Reading.{proof_of};
 ghost use Rattle.proof_terms.specs.Texts.{fault_text};
@@ -12,7 +12,7 @@ ghost use Rattle.language.specs.Answers.{IsAnswer};
 ghost use Rattle.language.specs.Questions.{AsksSo};
 ghost use Rattle.isar_rules.specs.Reports.{report, whole, error_report};
 ghost use Rattle.isar_rules.specs.Cites.{refs};
-ghost use Rattle.isar_rules.specs.Forks.{verdict, judged, forked_at};
+ghost use Rattle.isar_rules.specs.Forks.{verdict, judged_reports, forked_at};
 ghost use Rattle.fork_steps.specs.Questions.{questions_of, questions_at};
 
 use crate::citing::add_cites;
@@ -49,7 +49,7 @@ fn accepted(
     scope: &Scope,
     term: &Term,
 ) -> Result<Items<Report>, AllocError>
-    ensures { IfOk result (λ reports. reports ≡ in_order
+    ensures { IfOk result (λ reports. reports ≡ ordered_reports
         (report kinds.Proved (whole source.now) [] [] ∷ refs scope.now term.now)) }
 {
     let mut reports = Items::new(alloc);
@@ -112,7 +112,7 @@ fn judged<P: Stop>(
     scope: &Scope,
     stop: &mut P,
 ) -> Answer<Items<Report>>
-    ensures answer { IsAnswer result (judged source.now goal.now scope.now
+    ensures answer { IsAnswer result (judged_reports source.now goal.now scope.now
         (proof_of (marks source.now tokens.now))) (P.yeses stop.old) (P.yeses stop.new) }
     ensures asks { AsksSo result
         (questions_of goal.now scope.now (proof_of (marks source.now tokens.now)))

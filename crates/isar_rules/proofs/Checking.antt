@@ -21,10 +21,10 @@ use Rattle.suggest_rules.specs.proof_checks_below.Rows.{step_of, imp_i}
 use Rattle.suggest_rules.specs.proof_checks_below.Scopes.{inside, remaining}
 use Rattle.report_markup.specs.declared.kind.ReportKind.TheVariants as kind
 use Rattle.report_markup.specs.declared.report.Report.{Report}
-use Rattle.report_markup.specs.Sorting.{in_order}
+use Rattle.report_markup.specs.Sorting.{ordered_reports}
 use Rattle.isar_rules.specs.Reports.{report, error_report, whole}
 use Rattle.isar_rules.specs.Cites.{Cited, cited_layer, refs, cited as cites}
-use Rattle.isar_rules.specs.Forks.{judged, verdict}
+use Rattle.isar_rules.specs.Forks.{judged_reports, verdict}
 use Rattle.proof_terms.specs.Texts.{fault_text}
 use Rattle.proof_state.proofs.KnownFirst.{is_first_of}
 
@@ -72,8 +72,9 @@ checked-ImpI x c f scope is =
 
 module _ (source : List ℕ) (goal : Formula) (scope : Scoped) (t : Term) where
   pub judged_well : (s : List Statement) (r : List Report) → checked t goal scope ≡ Ok s → refs scope t ≡ r
-      → judged source goal scope (Ok t) ≡ in_order (report kind.Proved (whole source) [] [] ∷ r)
-  judged_well s r e is = ap (verdict source (refs scope t)) e ∙ ap (λ r. in_order (report kind.Proved (whole source) [] [] ∷ r)) is
+      → judged_reports source goal scope (Ok t) ≡ ordered_reports
+      (report kind.Proved (whole source) [] [] ∷ r)
+  judged_well s r e is = ap (verdict source (refs scope t)) e ∙ ap (λ r. ordered_reports (report kind.Proved (whole source) [] [] ∷ r)) is
 
-  pub judged_ill : (fault : TermFault) → checked t goal scope ≡ Err fault → judged source goal scope (Ok t) ≡ error_report source (fault_text fault) ∷ []
+  pub judged_ill : (fault : TermFault) → checked t goal scope ≡ Err fault → judged_reports source goal scope (Ok t) ≡ error_report source (fault_text fault) ∷ []
   judged_ill fault e = ap (verdict source (refs scope t)) e

@@ -26,7 +26,7 @@ use Rattle.isar_rules.specs.declared.state.Place.{Place}
 use Rattle.isar_rules.specs.declared.state.Place.TheVariants as place
 use Rattle.isar_rules.specs.Cites.{Cited, cited, cited_layer, refers, both, under, refs}
 use Rattle.isar_rules.specs.Reports.{report, name_is, whole}
-use Rattle.isar_rules.specs.Forks.{scope_at, verdict, judged, forked_at}
+use Rattle.isar_rules.specs.Forks.{scope_at, verdict, judged_reports, forked_at}
 use Rattle.isar_rules.proofs.Good.{IsPlaced}
 use Rattle.isar_rules.proofs.KnownQuiet.{sorted}
 
@@ -102,7 +102,7 @@ module _ (source : List ℕ) (tokens : List Token) where
 
   of_term : (goal : Formula) (scope : Scoped) (read : Result Term TermFault)
       → ((t : Term) → read ≡ Ok t → AllByRecursion (λ c. IsPlaced source tokens c.range) (cites_of t))
-      → AllByRecursion Placed (judged source goal scope read)
+      → AllByRecursion Placed (judged_reports source goal scope read)
   of_term goal scope (Ok t) each = of_verdict (refs scope t) (checked t goal scope) (of_refs (IsPlaced source tokens) scope t (each t refl))
   of_term goal scope (Err fault) each = (inl refl, tt)
 

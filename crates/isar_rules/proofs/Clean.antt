@@ -19,12 +19,12 @@ use Rattle.isar_rules.specs.declared.state.Theory.{Theory}
 use Rattle.isar_rules.specs.declared.state.Place.{Place}
 use Rattle.isar_rules.specs.declared.state.Place.TheVariants as place
 use Rattle.isar_rules.specs.Errors.{and_then, formula_in, name_differs, name_taken}
-use Rattle.isar_rules.specs.BlobLines.{facts_of}
+use Rattle.isar_rules.specs.BlobLines.{listed_facts}
 use Rattle.isar_rules.specs.Reports.{def_report, formula_report, local_report, import_report}
 use Rattle.isar_rules.specs.Effects.{Effect, makes}
-use Rattle.isar_rules.specs.Theories.{facts_or, begins, begun, has_fact, stated}
-use Rattle.isar_rules.specs.Loads.{load_made, blob_or, with_all, facts_or as listed_or}
-use Rattle.isar_rules.specs.Proofs.{Ordered, with_formula, ordered, levels_or, effect_of, stands, proof_made}
+use Rattle.isar_rules.specs.Theories.{facts_or_bad_import, begins, beginning_effect, has_fact, stated_effect}
+use Rattle.isar_rules.specs.Loads.{load_made, blob_or, with_all, facts_or_bad_line as listed_or}
+use Rattle.isar_rules.specs.Proofs.{Ordered, with_formula, ordered_command, levels_or, effect_of, stands, proof_made}
 use Rattle.isar_rules.specs.Steps.{acted}
 use Rattle.proof_terms.specs.Cited.{IsPlaceOf}
 use Rattle.isar_rules.proofs.Good.{IsGood, good_token}
@@ -58,16 +58,17 @@ module _ (source : List ℕ) (tokens : List Token) where
   begins-clean name imports None facts here all = (good_token source tokens _ here refl, imports-good imports all)
 
   begun-clean : (node : List ℕ) (given : Given) (keyword : Option (List ℕ)) (name : Spot) (imports : List Spot)
-      → InSource name.range → AllByRecursion (λ s. InSource s.range) imports → IfTried IsClean (begun node given keyword name imports)
+      → InSource name.range → AllByRecursion (λ s. InSource s.range) imports → IfTried IsClean (beginning_effect node given keyword name imports)
   begun-clean node given keyword name imports here all = go (equal name.text node)
     where
-      go : (b : Bool) → IfTried IsClean (if b then and_then (facts_or given) (begins name imports keyword) else Err name_differs)
+      go : (b : Bool) → IfTried IsClean (if b then and_then (facts_or_bad_import given) (begins name imports keyword) else Err name_differs)
       go true =
-          chained (λ _. ⊤) IsClean (facts_or given) (begins name imports keyword) (always (facts_or given))
+          chained (λ _. ⊤) IsClean (facts_or_bad_import given) (begins name imports keyword)
+          (always (facts_or_bad_import given))
           (λ facts _. begins-clean name imports keyword facts here all)
       go false = tt
 
-  stated-clean : (next : Formula → Place) (theory : Theory) (name quoted : Spot) → InSource name.range → InSource quoted.range → IfTried IsClean (stated next theory name quoted)
+  stated-clean : (next : Formula → Place) (theory : Theory) (name quoted : Spot) → InSource name.range → InSource quoted.range → IfTried IsClean (stated_effect next theory name quoted)
   stated-clean next theory name quoted here there =
       chained (λ _. ⊤) IsClean (formula_in quoted.text) _ (always (formula_in quoted.text)) (λ f _. go f (has_fact name.text theory))
     where
@@ -79,7 +80,7 @@ module _ (source : List ℕ) (tokens : List Token) where
   load-clean : (blob : Option (List ℕ)) (theory : Theory) (name : Spot) → InSource name.range → IfTried IsClean (load_made blob theory name)
   load-clean blob theory name here =
       chained (λ _. ⊤) IsClean (blob_or name.text blob) _ (always _)
-      (λ text _. chained (λ _. ⊤) IsClean (listed_or (facts_of text)) _ (always _)
+      (λ text _. chained (λ _. ⊤) IsClean (listed_or (listed_facts text)) _ (always _)
       (λ facts _. chained (λ _. ⊤) IsClean (with_all theory facts) _ (always _) (λ more _. (good_token source tokens _ here refl, tt))))
 
   abbrev OrderGood : Ordered → Type 0
@@ -89,7 +90,7 @@ module _ (source : List ℕ) (tokens : List Token) where
   formula-clean command name quoted here there =
       chained (λ _. ⊤) OrderGood (formula_in quoted.text) _ (always (formula_in quoted.text)) (λ f _. (good_token source tokens _ there refl, local-good name here))
 
-  ordered-clean : (facts : List Fact) (s : Shape) (levels : Levels) → SpotsAre InSource s → IfTried OrderGood (ordered facts s levels)
+  ordered-clean : (facts : List Fact) (s : Shape) (levels : Levels) → SpotsAre InSource s → IfTried OrderGood (ordered_command facts s levels)
   ordered-clean facts (shape.Proof dash) (Prove goal around) spots = tt
   ordered-clean facts shape.By (Prove goal around) spots = tt
   ordered-clean facts (shape.Fix x) (State block around) spots = (good_token source tokens _ spots refl, tt)
@@ -106,7 +107,8 @@ module _ (source : List ℕ) (tokens : List Token) where
 
   proof-clean : (theory : Theory) (name : List ℕ) (goal : Formula) (levels : Levels) (s : Shape) → SpotsAre InSource s → IfTried IsClean (proof_made theory name goal levels s)
   proof-clean theory name goal levels s spots =
-      chained OrderGood IsClean (ordered theory.facts s levels) _ (ordered-clean theory.facts s levels spots)
+      chained OrderGood IsClean (ordered_command theory.facts s levels) _
+      (ordered-clean theory.facts s levels spots)
       (λ o good. chained (λ _. ⊤) IsClean (levels_or (step o.0 levels)) _ (always (levels_or (step o.0 levels)))
       (λ after _. effect-clean o.0 (stands theory name goal after) o.1 good))
 

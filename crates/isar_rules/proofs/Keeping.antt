@@ -9,7 +9,7 @@ use Rattle.outer_tokens.specs.declared.token.Token.{Token}
 use Rattle.report_markup.specs.declared.report.Report.{Report}
 use Rattle.report_markup.specs.Order.{report_cmp}
 use Rattle.report_markup.specs.Ranges.{AreTreelike, IsTreelike}
-use Rattle.report_markup.specs.Sorting.{insert_if, in_order}
+use Rattle.report_markup.specs.Sorting.{insert_if, ordered_reports}
 use Rattle.language.specs.Laws.{LiesIn, reports_of}
 use Rattle.doc_blobs.specs.Needs.{source_tokens}
 use Rattle.isar_rules.specs.declared.shape.Shape.{Shape}
@@ -20,7 +20,7 @@ use Rattle.isar_rules.specs.Reports.{announced, error_report}
 use Rattle.isar_rules.specs.Effects.{Effect}
 use Rattle.isar_rules.specs.Shapes.{shape_of}
 use Rattle.isar_rules.specs.Isar.{isar}
-use Rattle.isar_rules.specs.Steps.{tried, made_by, aliases_at, step}
+use Rattle.isar_rules.specs.Steps.{tried, made_effect, aliases_at, step}
 use Rattle.isar_rules.specs.Kept.{errors_in, IsDoneOrRefused}
 use Rattle.isar_rules.specs.Shown.{suggested_at, suggestion}
 use Rattle.proof_terms.specs.Cited.{IsPlaceOf}
@@ -44,7 +44,7 @@ tried-clean : (source : List ℕ) (tokens : List Token) (blob : Option (List ℕ
 tried-clean source tokens blob p None spots = tt
 tried-clean source tokens blob p (Some s) spots = acted-clean source tokens blob p s spots
 
-one-error : (source : List ℕ) (tokens : List Token) (text : List ℕ) → errors_in (in_order (announced source tokens ++ error_report source text ∷ [])) ≡ text ∷ []
+one-error : (source : List ℕ) (tokens : List Token) (text : List ℕ) → errors_in (ordered_reports (announced source tokens ++ error_report source text ∷ [])) ≡ text ∷ []
 one-error source [] text = refl
 one-error source (t ∷ ts) text = go (is_command t.kind)
   where
@@ -52,11 +52,11 @@ one-error source (t ∷ ts) text = go (is_command t.kind)
     by_order true = refl
     by_order false = refl
 
-    go : (b : Bool) → errors_in (in_order ((if b then word_report source t ∷ [] else []) ++ error_report source text ∷ [])) ≡ text ∷ []
+    go : (b : Bool) → errors_in (ordered_reports ((if b then word_report source t ∷ [] else []) ++ error_report source text ∷ [])) ≡ text ∷ []
     go true = by_order (is_gt (report_cmp (word_report source t) (error_report source text)))
     go false = refl
 
-made-kept : (source : List ℕ) (tokens : List Token) (before : State) (t : Tried Effect) → IfTried (IsClean source tokens) t → IsDoneOrRefused before (made_by source tokens before t)
+made-kept : (source : List ℕ) (tokens : List Token) (before : State) (t : Tried Effect) → IfTried (IsClean source tokens) t → IsDoneOrRefused before (made_effect source tokens before t)
 made-kept source tokens before (Ok e) clean =
     inl (no_errors _ (each-so (IsGood source tokens) IsQuiet (λ r g. g.quiet) _
     (sorted (IsGood source tokens) _ (each-both (IsGood source tokens) _ _ (good_announced source tokens) clean))))
@@ -74,7 +74,7 @@ module _ (source : List ℕ) (tokens : List Token) where
   suggestion-placed None = tt
   suggestion-placed (Some t) = (inl refl, tt)
 
-  made-placed : (before : State) (t : Tried Effect) → IfTried (IsClean source tokens) t → AllByRecursion Placed (made_by source tokens before t).reports
+  made-placed : (before : State) (t : Tried Effect) → IfTried (IsClean source tokens) t → AllByRecursion Placed (made_effect source tokens before t).reports
   made-placed before (Ok e) clean =
       sorted Placed _ (each-both Placed _ _ (each-so (IsGood source tokens) Placed (λ r g. g.placed) _ (good_announced source tokens))
       (each-so (IsGood source tokens) Placed (λ r g. g.placed) _ clean))

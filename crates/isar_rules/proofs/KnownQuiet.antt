@@ -4,7 +4,7 @@ use Rattle.std.specs.List.{AllByRecursion, cons_option}
 use Rattle.std.specs.Ordering.{is_gt}
 use Rattle.report_markup.specs.declared.report.Report.{Report}
 use Rattle.report_markup.specs.Order.{report_cmp}
-use Rattle.report_markup.specs.Sorting.{insert_if, insert_report, in_order}
+use Rattle.report_markup.specs.Sorting.{insert_if, insert_report, ordered_reports}
 use Rattle.isar_rules.specs.Kept.{error_at, errors_in}
 
 -- sorting keeps what holds of each
@@ -17,9 +17,9 @@ module _ (P : Report → Type 0) where
       go true more = (all.0, more)
       go false more = (p, all)
 
-  pub sorted : (rs : List Report) → AllByRecursion P rs → AllByRecursion P (in_order rs)
+  pub sorted : (rs : List Report) → AllByRecursion P rs → AllByRecursion P (ordered_reports rs)
   sorted [] all = tt
-  sorted (r ∷ rs) all = inserted r (in_order rs) all.0 (sorted rs all.1)
+  sorted (r ∷ rs) all = inserted r (ordered_reports rs) all.0 (sorted rs all.1)
 
 abbrev pub IsQuiet : Report → Type 0
 IsQuiet r = error_at r.kind r.text ≡ None

@@ -6,7 +6,7 @@ use Rattle.proof_state.specs.declared.levels.Levels.TheVariants.{Prove, State as
 use Rattle.proof_state.specs.declared.frame.Purpose.TheVariants as purpose
 use Rattle.proof_state.specs.declared.fault.ProofFault.{ProofFault}
 use Rattle.proof_state.specs.Fits.{fits}
-use Rattle.proof_state.specs.Steps.{step as stepped, show, shown as opened_for}
+use Rattle.proof_state.specs.Steps.{step as stepped, show, shown_levels as opened_for}
 use Rattle.report_markup.specs.declared.kind.ReportKind.TheVariants as kind
 use Rattle.language.specs.declared.made.Made.{Made}
 use Rattle.doc_blobs.specs.Needs.{source_tokens}
@@ -15,7 +15,7 @@ use Rattle.isar_rules.specs.Words.{spot}
 use Rattle.isar_rules.specs.Errors.{and_then}
 use Rattle.isar_rules.specs.Reports.{formula_report}
 use Rattle.isar_rules.specs.Proofs.{levels_or, effect_of, stands}
-use Rattle.isar_rules.specs.Steps.{made_by}
+use Rattle.isar_rules.specs.Steps.{made_effect}
 use Rattle.isar_rules.specs.Small.{range, said, says_word, errors, reports, behind, in_block}
 use Rattle.isar_rules.specs.WorkedProofs.{not_p, itself, block, h, subgoal, assumed, shown}
 use Rattle.isar_rules.proofs.Printing.{same_itself, not_p_text}
@@ -32,7 +32,7 @@ levels_shown = ap (λ b. opened_for not_p (block (subgoal ∷ []) (h ∷ [])) []
 
 made : Result Levels ProofFault → Made State
 made r =
-    made_by (codes "show \"~P\"") (source_tokens [] (codes "show \"~P\"")) assumed
+    made_effect (codes "show \"~P\"") (source_tokens [] (codes "show \"~P\"")) assumed
     (and_then (levels_or r)
     (λ after. Ok (effect_of (show not_p) (stands (record { name = codes "A"; facts = [] }) (codes "l") itself after)
     (formula_report (spot (codes "~P") (range 5 9)) not_p ∷ []))))

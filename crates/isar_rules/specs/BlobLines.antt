@@ -58,17 +58,17 @@ fact_in line = option_map_or (λ n. named_fact (take n line) (past_gap (drop n l
     (longest_front is_identifier line) None
 
 -- the fact of a line before those of later lines; the first bad line is told by its number
-abbrev pub before : ℕ → Option Listed → Result (List Listed) ℕ → Result (List Listed) ℕ
-before number None later = Err number
-before number (Some fact) (Ok facts) = Ok (fact ∷ facts)
-before number (Some fact) (Err line) = Err line
+abbrev pub listed_before : ℕ → Option Listed → Result (List Listed) ℕ → Result (List Listed) ℕ
+listed_before number None later = Err number
+listed_before number (Some fact) (Ok facts) = Ok (fact ∷ facts)
+listed_before number (Some fact) (Err line) = Err line
 
 -- the facts of lines, the first of which has this number; a line of spaces and tabs is skipped
 abbrev pub facts_from : ℕ → List (List ℕ) → Result (List Listed) ℕ
 facts_from number [] = Ok []
 facts_from number (line ∷ more) = if list_all is_gap line then facts_from (number + 1) more
-    else before number (fact_in line) (facts_from (number + 1) more)
+    else listed_before number (fact_in line) (facts_from (number + 1) more)
 
 -- the facts that a text lists, or the number of its first bad line, from 1
-abbrev pub facts_of : List ℕ → Result (List Listed) ℕ
-facts_of text = facts_from 1 (lines_of text)
+abbrev pub listed_facts : List ℕ → Result (List Listed) ℕ
+listed_facts text = facts_from 1 (lines_of text)

@@ -15,7 +15,7 @@ use Rattle.proof_terms.specs.Texts.{fault_text}
 use Rattle.suggest_rules.specs.proof_checks_below.Checks.{checked}
 use Rattle.report_markup.specs.declared.kind.ReportKind.TheVariants as kind
 use Rattle.report_markup.specs.declared.report.Report.{Report}
-use Rattle.report_markup.specs.Sorting.{in_order}
+use Rattle.report_markup.specs.Sorting.{ordered_reports}
 use Rattle.doc_blobs.specs.Needs.{source_tokens}
 use Rattle.isar_rules.specs.declared.state.Theory.{Theory}
 use Rattle.isar_rules.specs.declared.state.Place.{Place}
@@ -32,18 +32,19 @@ scope_at theory levels =
 
 -- a proof that was checked, with the names that it cites; or its first fault
 abbrev pub verdict : List ℕ → List Report → Result (List Statement) TermFault → List Report
-verdict source cites (Ok assumed) = in_order (report kind.Proved (whole source) [] [] ∷ cites)
+verdict source cites (Ok assumed) = ordered_reports
+    (report kind.Proved (whole source) [] [] ∷ cites)
 verdict source cites (Err fault) = error_report source (fault_text fault) ∷ []
 
 -- a term against its goal; or the first fault of its words
-abbrev pub judged : List ℕ → Formula → Scoped → Result Term TermFault → List Report
-judged source goal scope (Ok t) = verdict source (refs scope t) (checked t goal scope)
-judged source goal scope (Err fault) = error_report source (fault_text fault) ∷ []
+abbrev pub judged_reports : List ℕ → Formula → Scoped → Result Term TermFault → List Report
+judged_reports source goal scope (Ok t) = verdict source (refs scope t) (checked t goal scope)
+judged_reports source goal scope (Err fault) = error_report source (fault_text fault) ∷ []
 
 -- the tokens behind `by`, as a proof of the open goal
 abbrev pub forked_at : List ℕ → List Token → Place → List Report
 forked_at source tokens (place.Proof theory name start (Prove goal around)) =
-    judged source goal (scope_at theory (Prove goal around))
+    judged_reports source goal (scope_at theory (Prove goal around))
     (proof_of (marks source (drop 1 tokens)))
 forked_at source tokens _ = []
 

@@ -5,7 +5,7 @@ use Rattle.report_markup.specs.declared.kind.ReportKind.TheVariants as kind
 use Rattle.isar_rules.specs.declared.shape.Spot.{Spot}
 use Rattle.isar_rules.specs.declared.state.Theory.{Theory}
 use Rattle.isar_rules.specs.declared.state.Place.TheVariants as place
-use Rattle.isar_rules.specs.BlobLines.{Listed, facts_of}
+use Rattle.isar_rules.specs.BlobLines.{Listed, listed_facts}
 use Rattle.isar_rules.specs.Errors.{Tried, and_then, unknown_blob, bad_blob_line, name_taken}
 use Rattle.isar_rules.specs.Reports.{report}
 use Rattle.isar_rules.specs.Theories.{with_fact, has_fact}
@@ -17,9 +17,9 @@ blob_or name None = Err (unknown_blob name)
 blob_or name (Some text) = Ok text
 
 -- the facts that it lists, if all of its lines are good
-abbrev pub facts_or : Result (List Listed) ℕ → Tried (List Listed)
-facts_or (Ok facts) = Ok facts
-facts_or (Err line) = Err (bad_blob_line line)
+abbrev pub facts_or_bad_line : Result (List Listed) ℕ → Tried (List Listed)
+facts_or_bad_line (Ok facts) = Ok facts
+facts_or_bad_line (Err line) = Err (bad_blob_line line)
 
 -- the theory with all of these facts more, unless a name is taken
 abbrev pub with_all : Theory → List Listed → Tried Theory
@@ -35,5 +35,5 @@ loaded name facts theory = makes (place.Theory theory)
 -- `load`, with the text of the blob where there is one
 abbrev pub load_made : Option (List ℕ) → Theory → Spot → Tried Effect
 load_made blob theory name = and_then (blob_or name.text blob)
-    (λ text. and_then (facts_or (facts_of text))
+    (λ text. and_then (facts_or_bad_line (listed_facts text))
     (λ facts. and_then (with_all theory facts) (λ more. Ok (loaded name facts more))))

@@ -34,18 +34,19 @@ text_of_name name = option_map (λ n. n.text) name
 
 -- the proof command of a shape, where the mode has it: `proof` and `by` in mode prove, others in
 -- mode state
-abbrev pub ordered : List Fact → Shape → Levels → Tried Ordered
-ordered facts (shape.Proof dash) (Prove goal around) = Ok (proof dash, [])
-ordered facts shape.By (Prove goal around) = Ok (by, [])
-ordered facts (shape.Fix x) (State block around) = Ok (fix facts x.text, local_report (Some x))
-ordered facts (shape.Assume name quoted) (State block around) =
+abbrev pub ordered_command : List Fact → Shape → Levels → Tried Ordered
+ordered_command facts (shape.Proof dash) (Prove goal around) = Ok (proof dash, [])
+ordered_command facts shape.By (Prove goal around) = Ok (by, [])
+ordered_command facts (shape.Fix x) (State block around) = Ok
+    (fix facts x.text, local_report (Some x))
+ordered_command facts (shape.Assume name quoted) (State block around) =
     with_formula (assume (text_of_name name)) name quoted
-ordered facts (shape.Have name quoted) (State block around) =
+ordered_command facts (shape.Have name quoted) (State block around) =
     with_formula (have (text_of_name name)) name quoted
-ordered facts (shape.Show quoted) (State block around) = with_formula show None quoted
-ordered facts shape.Next (State block around) = Ok (next, [])
-ordered facts shape.Qed (State block around) = Ok (qed, [])
-ordered facts _ _ = Err not_allowed
+ordered_command facts (shape.Show quoted) (State block around) = with_formula show None quoted
+ordered_command facts shape.Next (State block around) = Ok (next, [])
+ordered_command facts shape.Qed (State block around) = Ok (qed, [])
+ordered_command facts _ _ = Err not_allowed
 
 -- the levels after a command, unless it is refused
 abbrev pub levels_or : Result Levels ProofFault → Tried Levels
@@ -64,6 +65,6 @@ effect_of _ after reports = makes after reports
 
 -- a command in the proof of a lemma
 abbrev pub proof_made : Theory → List ℕ → Formula → Levels → Shape → Tried Effect
-proof_made theory name goal levels s = and_then (ordered theory.facts s levels)
+proof_made theory name goal levels s = and_then (ordered_command theory.facts s levels)
     (λ o. and_then (levels_or (step o.0 levels))
     (λ after. Ok (effect_of o.0 (stands theory name goal after) o.1)))

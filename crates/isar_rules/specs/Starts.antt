@@ -2,7 +2,7 @@
 use Rattle.std.specs.Prelude.{ℕ, List, find, is_none, Option, Some, None}
 use Rattle.std.specs.List.{filter_map}
 use Rattle.theory_ctx.specs.Facts.{Fact}
-use Rattle.theory_ctx.specs.Merged.{merged}
+use Rattle.theory_ctx.specs.Merged.{merged_facts}
 use Rattle.doc_nodes.specs.declared.inherited.NodeAliases.{NodeAliases}
 use Rattle.language.specs.declared.made.Imported.{Imported}
 use Rattle.language.specs.declared.made.Imports.{Imports}
@@ -21,22 +21,22 @@ facts_at (place.End theory) = Some theory.facts
 facts_at _ = None
 
 -- the facts that an import has
-abbrev pub facts_of : Imported State → Option (List Fact)
-facts_of i = facts_at i.state.place
+abbrev pub imported_facts : Imported State → Option (List Fact)
+imported_facts i = facts_at i.state.place
 
 -- the facts of all imports, unless one has none to give
-abbrev pub given_by : List (Imported State) → Option (Imported State) → Given
-given_by all None = Facts (merged (filter_map facts_of all))
-given_by all (Some bad) = Bad bad.name
+abbrev pub imports_given : List (Imported State) → Option (Imported State) → Given
+imports_given all None = Facts (merged_facts (filter_map imported_facts all))
+imports_given all (Some bad) = Bad bad.name
 
 -- what a node has from its imports
 abbrev pub given_from : Imports State → Given
-given_from (imports.Ordered all) = given_by all (find (λ i. is_none (facts_of i)) all)
+given_from (imports.Ordered all) = imports_given all (find (λ i. is_none (imported_facts i)) all)
 given_from (imports.Bad name) = Bad name
 
 -- the state before the first command of a node
-abbrev pub start : List ℕ → Imports State → NodeAliases → State
-start node imports aliases = record {
+abbrev pub start_state : List ℕ → Imports State → NodeAliases → State
+start_state node imports aliases = record {
   place = place.Start node (given_from imports) aliases.bad;
   aliases = aliases.pairs;
 }

@@ -1,7 +1,7 @@
 -- What a command makes of the state before it (the Isar language, Wenzel 1999).
 use Rattle.std.specs.Prelude.{ℕ, false, List, [], ◌∷◌, ◌++◌, Option, Some, None, Ok, Err}
 use Rattle.outer_tokens.specs.declared.token.Token.{Token}
-use Rattle.report_markup.specs.Sorting.{in_order}
+use Rattle.report_markup.specs.Sorting.{ordered_reports}
 use Rattle.language.specs.declared.made.Made.{Made}
 use Rattle.doc_blobs.specs.Needs.{AliasList, source_tokens}
 use Rattle.isar_rules.specs.declared.shape.Shape.{Shape}
@@ -12,7 +12,7 @@ use Rattle.isar_rules.specs.declared.state.State.{State}
 use Rattle.isar_rules.specs.Shapes.{shape_of}
 use Rattle.isar_rules.specs.Errors.{Tried, malformed, not_allowed}
 use Rattle.isar_rules.specs.Reports.{announced, error_report}
-use Rattle.isar_rules.specs.Theories.{begun, axiom_made, lemma_made}
+use Rattle.isar_rules.specs.Theories.{beginning_effect, axiom_made, lemma_made}
 use Rattle.isar_rules.specs.Loads.{load_made}
 use Rattle.isar_rules.specs.Proofs.{proof_made}
 use Rattle.isar_rules.specs.Effects.{Effect, makes}
@@ -20,7 +20,7 @@ use Rattle.isar_rules.specs.Effects.{Effect, makes}
 -- a command of this shape at a place: each is allowed at some places alone
 abbrev pub acted : Option (List ℕ) → Place → Shape → Tried Effect
 acted blob (place.Start node given keyword) (shape.Theory name imports) =
-    begun node given keyword name imports
+    beginning_effect node given keyword name imports
 acted blob (place.Theory theory) shape.End = Ok (makes (place.End theory) [])
 acted blob (place.Theory theory) (shape.Axiom name quoted) = axiom_made theory name quoted
 acted blob (place.Theory theory) (shape.Lemma name quoted) = lemma_made theory name quoted
@@ -44,21 +44,21 @@ after_error (place.Start node given keyword) = place.Outside
 after_error place = place
 
 -- what is made, of the source and its tokens
-abbrev pub made_by : List ℕ → List Token → State → Tried Effect → Made State
-made_by source tokens before (Ok effect) = record {
+abbrev pub made_effect : List ℕ → List Token → State → Tried Effect → Made State
+made_effect source tokens before (Ok effect) = record {
   state = record before { place = effect.place };
-  reports = in_order (announced source tokens ++ effect.reports);
+  reports = ordered_reports (announced source tokens ++ effect.reports);
   forks = effect.forks;
 }
-made_by source tokens before (Err text) = record {
+made_effect source tokens before (Err text) = record {
   state = record before { place = after_error before.place };
-  reports = in_order (announced source tokens ++ error_report source text ∷ []);
+  reports = ordered_reports (announced source tokens ++ error_report source text ∷ []);
   forks = false;
 }
 
 -- what a command of these tokens makes
 abbrev pub step_on : List ℕ → Option (List ℕ) → State → AliasList → List Token → Made State
-step_on source blob before aliases tokens = made_by source tokens before
+step_on source blob before aliases tokens = made_effect source tokens before
     (tried blob before.place (shape_of aliases source tokens))
 
 -- what a command makes of the state before it, with the text of the blob that it asks for

@@ -7,7 +7,7 @@ use Rattle.language.specs.declared.made.Imports.TheVariants as imports
 use Rattle.isar_rules.specs.declared.state.Place.TheVariants as place
 use Rattle.isar_rules.specs.declared.state.State.{State}
 use Rattle.isar_rules.specs.Reports.{name_is, theory_is}
-use Rattle.isar_rules.specs.Starts.{start}
+use Rattle.isar_rules.specs.Starts.{start_state}
 use Rattle.isar_rules.specs.Small.{said, says_word, errors, reports, behind, at_end, outside}
 
 -- `claim` stands for `lemma`
@@ -16,7 +16,7 @@ claim = record { pairs = (codes "claim", codes "lemma") ∷ []; bad = None }
 
 -- a node that imports `A` and has the alias from it
 abbrev pub importer : NodeAliases → State
-importer aliases = start (codes "B")
+importer aliases = start_state (codes "B")
     (imports.Ordered (record { name = codes "A"; state = at_end } ∷ [])) aliases
 
 -- the alias is in force behind the header
@@ -38,7 +38,7 @@ pub record AnAlias : Type 0 where
       ∷ said kind.Formula 9 18 [] (codes "P --> P") ∷ []
   pub no_name : errors (codes "axiom claim: \"P\"") in_b ≡ codes "malformed command" ∷ []
   pub in_header : errors (codes "theory claim begin")
-      (start (codes "claim") (imports.Ordered []) claim) ≡ []
+      (start_state (codes "claim") (imports.Ordered []) claim) ≡ []
 
 -- without the alias its word is part of the header's command
 pub record AMissingAlias : Type 0 where

@@ -2,7 +2,7 @@
 use Rattle.std.specs.Prelude.{◌≡◌, ℕ, List, [], ◌∷◌, ◌++◌, codes, Option, Some, None, Ok, Err}
 use Rattle.report_markup.specs.declared.kind.ReportKind.TheVariants as kind
 use Rattle.isar_rules.specs.declared.state.State.{State}
-use Rattle.isar_rules.specs.BlobLines.{facts_of}
+use Rattle.isar_rules.specs.BlobLines.{listed_facts}
 use Rattle.isar_rules.specs.Steps.{step}
 use Rattle.isar_rules.specs.Kept.{errors_in}
 use Rattle.isar_rules.specs.Small.{said, says_word, in_theory, prop}
@@ -35,14 +35,15 @@ pub record ALoad : Type 0 where
 
 -- lines of blobs
 pub record BlobLines : Type 0 where
-  pub none : facts_of [] ≡ Ok []
-  pub blank : facts_of (two (codes " ") (9 ∷ [])) ≡ Ok []
-  pub return_dropped : facts_of (two (codes "a : P" ++ 13 ∷ []) (codes "b:Q"))
+  pub none : listed_facts [] ≡ Ok []
+  pub blank : listed_facts (two (codes " ") (9 ∷ [])) ≡ Ok []
+  pub return_dropped : listed_facts (two (codes "a : P" ++ 13 ∷ []) (codes "b:Q"))
       ≡ Ok ((codes "a", prop (codes "P")) ∷ (codes "b", prop (codes "Q")) ∷ [])
-  pub return_alone : facts_of (13 ∷ []) ≡ Err 1
-  pub last_return : facts_of (codes "a: P" ++ 13 ∷ []) ≡ Ok ((codes "a", prop (codes "P")) ∷ [])
-  pub blank_first : facts_of (codes " a: P") ≡ Err 1
-  pub long_name : facts_of (codes "A.a: P") ≡ Err 1
-  pub command : facts_of (codes "lemma: P") ≡ Err 1
-  pub keyword : facts_of (codes "imports: P") ≡ Err 1
-  pub bad_formula : facts_of (two [] (codes "a: P &")) ≡ Err 2
+  pub return_alone : listed_facts (13 ∷ []) ≡ Err 1
+  pub last_return : listed_facts (codes "a: P" ++ 13 ∷ []) ≡ Ok
+      ((codes "a", prop (codes "P")) ∷ [])
+  pub blank_first : listed_facts (codes " a: P") ≡ Err 1
+  pub long_name : listed_facts (codes "A.a: P") ≡ Err 1
+  pub command : listed_facts (codes "lemma: P") ≡ Err 1
+  pub keyword : listed_facts (codes "imports: P") ≡ Err 1
+  pub bad_formula : listed_facts (two [] (codes "a: P &")) ≡ Err 2

@@ -11,7 +11,7 @@ use Rattle.language.specs.declared.made.Imports.TheVariants as imports
 use Rattle.isar_rules.specs.declared.state.Place.TheVariants as place
 use Rattle.isar_rules.specs.declared.state.State.{State}
 use Rattle.isar_rules.specs.Reports.{name_is, theory_is}
-use Rattle.isar_rules.specs.Starts.{start}
+use Rattle.isar_rules.specs.Starts.{start_state}
 use Rattle.isar_rules.specs.Small.{said, says_word, errors, reports, behind, state_at, at_start, outside, in_theory, in_prove, with_facts, at_end, prop, proving}
 
 -- a fact of the theory `A`
@@ -32,7 +32,7 @@ seen_in_b = state_at (place.Theory (record { name = codes "B"; facts = a_is_p �
 
 -- the commands of a theory, its reports in order
 pub record ATheory : Type 0 where
-  pub begins : start (codes "A") (imports.Ordered []) no_aliases ≡ at_start
+  pub begins : start_state (codes "A") (imports.Ordered []) no_aliases ≡ at_start
   pub header : reports (codes "theory A begin") at_start
       ≡ says_word 6 (codes "theory") ∷ said kind.Theory 7 8 (name_is (codes "A") ∷ []) [] ∷ []
   pub inside : behind (codes "theory A begin") at_start ≡ in_theory.place
@@ -66,28 +66,30 @@ pub record StatedFacts : Type 0 where
 
 -- a node that imports a theory of these facts
 abbrev pub importing : List Fact → State
-importing facts = start (codes "B") (imports.Ordered
+importing facts = start_state (codes "B") (imports.Ordered
     (record { name = codes "A"; state = with_facts facts } ∷ [])) no_aliases
 
 -- a node that imports one whose proof is open
 abbrev pub importing_a_proof : State
-importing_a_proof = start (codes "B") (imports.Ordered
+importing_a_proof = start_state (codes "B") (imports.Ordered
     (record { name = codes "A"; state = in_prove } ∷ [])) no_aliases
 
 -- a node of three imports, of which two have begun no theory
 abbrev pub importing_none : State
-importing_none = start (codes "B") (imports.Ordered
+importing_none = start_state (codes "B") (imports.Ordered
     (record { name = codes "A"; state = in_theory } ∷ record { name = codes "C"; state = outside }
     ∷ record { name = codes "D"; state = at_start } ∷ [])) no_aliases
 
 -- a node that imports what is no node, and whose aliases have a bad pair
 abbrev pub badly_importing : State
 badly_importing =
-    start (codes "B") (imports.Bad (codes "D")) (record { pairs = []; bad = Some (codes "k") })
+    start_state (codes "B") (imports.Bad (codes "D"))
+    (record { pairs = []; bad = Some (codes "k") })
 
 -- a node whose aliases have a bad pair
 abbrev pub bad_keyword : State
-bad_keyword = start (codes "A") (imports.Ordered []) (record { pairs = []; bad = Some (codes "k") })
+bad_keyword = start_state (codes "A") (imports.Ordered [])
+    (record { pairs = []; bad = Some (codes "k") })
 
 -- headers with imports, and their errors in order
 pub record Headers : Type 0 where

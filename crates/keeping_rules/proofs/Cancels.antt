@@ -21,7 +21,7 @@ use Rattle.session_rules.specs.Services.{mode_of}
 use Rattle.session_rules.specs.Session.{Session, document, answered, with_event}
 use Rattle.session_rules.specs.Accepting.{taken}
 use Rattle.session_rules.specs.Replies.{told_to}
-use Rattle.session_replies.specs.Spelling.{spelling}
+use Rattle.session_replies.specs.Spelling.{reply_spelling}
 use Rattle.session_replies.specs.Cancelled.{cancelling_told}
 use Rattle.session_replies.specs.Works.{Work}
 use Rattle.keeping_rules.specs.Kept.{session_of, IsKept}
@@ -39,21 +39,24 @@ module _ {S : Type 0} (l : Lang S) (service : Service) (old new : Log Service En
       → answered s (taken l service s (Ok (asks.Cancel exec))) ≡ record (with_event s (event.Cancel exec)) { called = true }
   known is = ap (λ (b : Bool). answered s (if b then Ok (with_event s (event.Cancel exec)) else Err UnknownExecution)) is
 
-  unknown_kept : (told : List Told) → WasAdded old new (entry.Call message) (map spelling told) holding
+  unknown_kept : (told : List Told)
+      → WasAdded old new (entry.Call message) (map reply_spelling told) holding
       → told_to l service s (Ok (asks.Cancel exec)) ≡ told → is_assigned (document l s).live exec ≡ false
       → IsKept l service new (record s { called = true }) last holding jobs
   unknown_kept told added is none = answered_as l service old new s last holding jobs k message (Ok (asks.Cancel exec)) asks_it
-      (map spelling told) (record s { called = true }) last added going tt (ap (λ (ts : List Told). map spelling ts) is) (unknown none)
+      (map reply_spelling told) (record s { called = true }) last added going tt (ap (λ (ts : List Told). map reply_spelling ts) is) (unknown none)
       (nothing_due (taken l service s (Ok (asks.Cancel exec)))) k.last_is
       (jobs_on l s (record s { called = true }) refl (λ who. refl) (λ e x at. at) service jobs k.jobs_are) refl going k.blobs_are
 
-  known_kept : (told : List Told) → WasAdded old new (entry.Call message) (map spelling told) holding
+  known_kept : (told : List Told)
+      → WasAdded old new (entry.Call message) (map reply_spelling told) holding
       → told_to l service s (Ok (asks.Cancel exec)) ≡ told → is_assigned (document l s).live exec ≡ true
       → IsKept l service new (record (with_event s (event.Cancel exec)) { called = true }) last holding jobs
   known_kept told added is some =
       let s' : Session = record (with_event s (event.Cancel exec)) { called = true } in
       answered_as l service old new s last holding jobs k message (Ok (asks.Cancel exec)) asks_it
-      (map spelling told) s' last added going tt (ap (λ (ts : List Told). map spelling ts) is) (known some)
+      (map reply_spelling told) s' last added going tt
+      (ap (λ (ts : List Told). map reply_spelling ts) is) (known some)
       (nothing_due (taken l service s (Ok (asks.Cancel exec)))) k.last_is
       (jobs_on l s s' refl (λ who. refl) (λ e x at. at) service jobs k.jobs_are) refl going k.blobs_are
 
@@ -63,7 +66,8 @@ module _ {S : Type 0} (l : Lang S) (service : Service) (old new : Log Service En
 
   pub cancelled_kept : (given : Cancelling) (after : List Event) → CancelledSo l exec s.events given after
       → told_to l service s (Ok (asks.Cancel exec)) ≡ cancelling_told exec given ∷ []
-      → WasAdded old new (entry.Call message) (spelling (cancelling_told exec given) ∷ []) holding
+      → WasAdded old new (entry.Call message) (reply_spelling (cancelling_told exec given) ∷ [])
+      holding
       → IsKept l service new (session_of s.buffer after s.protocol true) last holding jobs
   cancelled_kept answer.Unknown after so told added =
       as_after s.events after so.1 (unknown_kept (cancelling_told exec answer.Unknown ∷ []) added told so.0)

@@ -20,12 +20,12 @@ use Rattle.session_rules.specs.Services.{free_workers}
 use Rattle.session_rules.specs.Session.{Session, document, with_event}
 use Rattle.session_rules.specs.Replies.{claim_told, report_of}
 use Rattle.session_rules.specs.Steps.{Due}
-use Rattle.session_replies.specs.Spelling.{spelling}
+use Rattle.session_replies.specs.Spelling.{reply_spelling}
 use Rattle.session_replies.specs.Works.{Work, WorkDone}
 use Rattle.session_replies.specs.Works as jobs
 use Rattle.keeping_rules.specs.Holders.{holders, without}
 use Rattle.keeping_rules.specs.Kept.{session_of, AreKeptJobs, IsKept}
-use Rattle.keeping_rules.specs.Turns.{entry_of, told_of}
+use Rattle.keeping_rules.specs.Turns.{entry_of, finish_reply}
 use Rattle.keeping_rules.proofs.Held.{has_holders, holders_differ, one_less}
 use Rattle.keeping_rules.proofs.Turns.{none_named, jobs_taken, claimed_others}
 use Rattle.keeping_rules.proofs.WorkerTurns.{claimed_from, dropped_from, ended_from}
@@ -46,7 +46,7 @@ module _ {S : Type 0} (l : Lang S) (service : Service) (old new : Log Service En
   claimed_kept part going idle first items waiting room past is =
       subst (λ (h : List Event). IsKept l service new (session_of s.buffer h s.protocol s.called) last (holding + 1) works) (sym is)
       (claimed_from l service old.items old.waiting s last k.listed k.last_is k.workers k.blobs_are new works who part [] holding going idle first
-      (inr (k.at_rest, free)) (ap (λ (d : Due). map spelling (claim_told part d)) k.at_rest) items waiting k.holders_are room
+      (inr (k.at_rest, free)) (ap (λ (d : Due). map reply_spelling (claim_told part d)) k.at_rest) items waiting k.holders_are room
       (jobs_taken l service s (with_event s (event.Claimed who part)) works works k.jobs_are who refl refl (λ w e. refl)
       (λ w e. claimed_others who w part (held s.events w) e)
       (λ work at. let is = k.jobs_are.only who work at in absurd (none_named service who free is.0 is.1))
@@ -67,7 +67,7 @@ module _ {S : Type 0} (l : Lang S) (service : Service) (old new : Log Service En
 
     -- it lets its part go
     pub given_up_kept : is_wanted (document l s) part.exec ≡ false → (past : List Event) → past ≡ event.Dropped who part ∷ s.events
-        → new.items ≡ item.Made (entry.Dropped who part) ∷ old.items → new.waiting ≡ old.waiting ++ spelling (tells.Dropped part) ∷ []
+        → new.items ≡ item.Made (entry.Dropped who part) ∷ old.items → new.waiting ≡ old.waiting ++ reply_spelling (tells.Dropped part) ∷ []
         → IsKept l service new (session_of s.buffer past s.protocol s.called) last holding' works
     given_up_kept unwanted past is items waiting =
         dropped_from l service old.items old.waiting s last k.listed k.last_is k.workers k.blobs_are new works who part holds
@@ -76,7 +76,7 @@ module _ {S : Type 0} (l : Lang S) (service : Service) (old new : Log Service En
     -- it ends it
     pub ended_kept : (work : WorkDone S) → work.done.part ≡ part → report_of l s part ≡ jobs.work_report work → (f : Finish) (past : List Event)
         → FinishedSo l who part s.events f past
-        → new.items ≡ item.Made (entry_of f who part) ∷ old.items → new.waiting ≡ old.waiting ++ spelling (told_of f work) ∷ []
+        → new.items ≡ item.Made (entry_of f who part) ∷ old.items → new.waiting ≡ old.waiting ++ reply_spelling (finish_reply f work) ∷ []
         → IsKept l service new (session_of s.buffer past s.protocol s.called) last holding' works
     ended_kept work same told_is f past so items waiting =
         ended_from l service old.items old.waiting s last k.listed k.last_is k.workers k.blobs_are new works who part holds

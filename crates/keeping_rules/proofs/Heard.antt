@@ -8,7 +8,7 @@ use Rattle.message_values.specs.declared.refusal.Refusal.{Refusal}
 use Rattle.core_rules.specs.declared.event.Event.{Event}
 use Rattle.core_rules.specs.Doc.{doc}
 use Rattle.core_rules.specs.Ready.{is_part, is_wanted, has_inputs, is_ready}
-use Rattle.core_rules.specs.Standing.{standing, is_free}
+use Rattle.core_rules.specs.Standing.{standing, is_unclaimed}
 use Rattle.reply_outbox.specs.declared.item.Item.TheVariants as item
 use Rattle.session_rules.specs.declared.service.Service.{Service}
 use Rattle.session_rules.specs.Heard.{Heard, Message, Claimed, Finished, Dropped, Ended}
@@ -24,7 +24,7 @@ module _ {S : Type 0} (l : Lang S) where
   unready : (h : List Event) (p : Part) → (doc l h).homes ≡ [] → is_ready l h p ≡ true → ⊥
   unready h p none ready =
       let e : false ≡ true = subst (λ (hs : List Home). (is_part l hs p && (is_wanted (doc l h) p.exec
-      && (is_free (standing h p) && has_inputs h hs p))) ≡ true) none ready in
+      && (is_unclaimed (standing h p) && has_inputs h hs p))) ≡ true) none ready in
       absurd (cc)
 
   called : (s : Session) (r : Result Session Refusal) → (answered s r).called ≡ false → ⊥

@@ -21,7 +21,7 @@ use Rattle.session_rules.specs.Accepting.{taken}
 use Rattle.session_rules.specs.Legal.{IsSettledIn, awaited_of}
 use Rattle.session_rules.specs.Replies.{told_to}
 use Rattle.session_rules.specs.Steps.{Nothing, due, due_of}
-use Rattle.session_replies.specs.Spelling.{spelling}
+use Rattle.session_replies.specs.Spelling.{reply_spelling}
 use Rattle.session_replies.specs.Works.{Work}
 use Rattle.keeping_rules.specs.Items.{SessionItem, heard_in}
 use Rattle.keeping_rules.specs.Holders.{holders}
@@ -44,7 +44,8 @@ module _ {S : Type 0} (l : Lang S) (service : Service) (old new : Log Service En
 
   -- a message that nothing waits for
   pub answered_with : (replies : List (List ℕ)) (s' : Session) (last' : ℕ) → WasAdded old new (entry.Call message) replies holding → has_ended s.events ≡ false
-      → IsSettledIn l s (awaited_of l service s read) → map spelling (told_to l service s read) ≡ replies
+      → IsSettledIn l s (awaited_of l service s read)
+      → map reply_spelling (told_to l service s read) ≡ replies
       → answered s (taken l service s read) ≡ s' → due_of l service s read ≡ Nothing
       → last' ≡ (document l s').last → AreKeptJobs l service s' jobs → holders s'.events ≡ holders s.events → has_ended s'.events ≡ false
       → (document l s').tip.blobs ≡ s'.buffer.document.blobs → IsKept l service new s' last' holding jobs
@@ -56,7 +57,8 @@ module _ {S : Type 0} (l : Lang S) (service : Service) (old new : Log Service En
           k.at_rest,
           subst (λ (t : Session). IsSettledIn l t (awaited_of l service t read)) (sym k.listed.stands) settled,
         )
-        (ap (λ (t : Session). map spelling (told_to l service t read)) k.listed.stands ∙ told) after));
+        (ap (λ (t : Session). map reply_spelling (told_to l service t read)) k.listed.stands ∙
+        told) after));
     at_rest = ap (λ (is : List SessionItem). due l service (heard_in service is)) added.items
         ∙ ap (λ (t : Session). due_of l service t read) k.listed.stands ∙ rests;
     last_is = last_is;
@@ -70,23 +72,26 @@ module _ {S : Type 0} (l : Lang S) (service : Service) (old new : Log Service En
   -- the same of what the message asks
   pub answered_as : (r : Result EditorMessage Refusal) → read ≡ r → (replies : List (List ℕ)) (s' : Session) (last' : ℕ)
       → WasAdded old new (entry.Call message) replies holding → has_ended s.events ≡ false
-      → IsSettledIn l s (awaited_of l service s r) → map spelling (told_to l service s r) ≡ replies
+      → IsSettledIn l s (awaited_of l service s r)
+      → map reply_spelling (told_to l service s r) ≡ replies
       → answered s (taken l service s r) ≡ s' → due_of l service s r ≡ Nothing
       → last' ≡ (document l s').last → AreKeptJobs l service s' jobs → holders s'.events ≡ holders s.events → has_ended s'.events ≡ false
       → (document l s').tip.blobs ≡ s'.buffer.document.blobs → IsKept l service new s' last' holding jobs
   answered_as r is replies s' last' added going settled told after rests = answered_with replies s' last' added going
       (subst (λ (x : Result EditorMessage Refusal). IsSettledIn l s (awaited_of l service s x)) (sym is) settled)
-      (ap (λ (x : Result EditorMessage Refusal). map spelling (told_to l service s x)) is ∙ told)
+      (ap (λ (x : Result EditorMessage Refusal). map reply_spelling (told_to l service s x)) is ∙
+      told)
       (ap (λ (x : Result EditorMessage Refusal). answered s (taken l service s x)) is ∙ after)
       (ap (λ (x : Result EditorMessage Refusal). due_of l service s x) is ∙ rests)
 
   -- a message that is refused
-  pub refused_kept : (reason : Refusal) → WasAdded old new (entry.Call message) (spelling (tells.Refused reason) ∷ []) holding
+  pub refused_kept : (reason : Refusal) → WasAdded old new (entry.Call message) (reply_spelling (tells.Refused reason) ∷ []) holding
       → has_ended s.events ≡ false → taken l service s read ≡ Err reason
       → IsKept l service new (answered s (Err reason)) last holding jobs
-  refused_kept reason added going refused = answered_with (spelling (tells.Refused reason) ∷ []) (answered s (Err reason)) last added going
+  refused_kept reason added going refused = answered_with (reply_spelling (tells.Refused reason) ∷ []) (answered s (Err reason)) last added going
       (subst (λ (o : Option Version). IsSettledIn l s o) (sym (refused_awaits l service s read reason refused)) tt)
-      (ap (λ (ts : List Told). map spelling ts) (refused_told l service s read reason refused))
+      (ap (λ (ts : List Told). map reply_spelling ts)
+      (refused_told l service s read reason refused))
       (ap (λ (r : Result Session Refusal). answered s r) refused)
       (refused_due l service s read reason refused) k.last_is
       (jobs_on l s (answered s (Err reason)) refl (λ who. refl) (λ e x at. at) service jobs k.jobs_are) refl going k.blobs_are

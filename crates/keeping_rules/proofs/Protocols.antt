@@ -18,7 +18,7 @@ use Rattle.session_rules.specs.Services.{mode_of}
 use Rattle.session_rules.specs.Session.{Session, answered}
 use Rattle.session_rules.specs.Accepting.{taken}
 use Rattle.session_rules.specs.Replies.{or_refusal, told_to}
-use Rattle.session_replies.specs.Spelling.{spelling}
+use Rattle.session_replies.specs.Spelling.{reply_spelling}
 use Rattle.session_replies.specs.Works.{Work}
 use Rattle.keeping_rules.specs.Kept.{session_of, AreKeptJobs, IsKept}
 use Rattle.keeping_rules.specs.Unheard.{IsUnheard}
@@ -51,10 +51,10 @@ module _ {S : Type 0} (l : Lang S) (service : Service) (old new : Log Service En
     only = k.jobs_are.only;
   }
 
-  pub protocol_kept : (bytes : List ℕ) → WasAdded old new (entry.Call message) (bytes ∷ []) holding → bytes ≡ spelling (tells.Protocol protocol)
+  pub protocol_kept : (bytes : List ℕ) → WasAdded old new (entry.Call message) (bytes ∷ []) holding → bytes ≡ reply_spelling (tells.Protocol protocol)
       → IsKept l service new s' last holding jobs
   protocol_kept bytes added is = answered_as l service old new s last holding jobs k message (Ok (asks.Protocol protocol)) asks_it
       (bytes ∷ []) s' last added going tt
-      (ap (λ (ts : List Told). map spelling ts) (protocol_told l service s protocol none) ∙ ap (λ (x : List ℕ). x ∷ []) (sym is))
+      (ap (λ (ts : List Told). map reply_spelling ts) (protocol_told l service s protocol none) ∙ ap (λ (x : List ℕ). x ∷ []) (sym is))
       (ap (λ (r : Result Session Refusal). answered s r) (protocol_taken l service s protocol none))
       (nothing_due (taken l service s (Ok (asks.Protocol protocol)))) k.last_is jobs_are refl going k.blobs_are

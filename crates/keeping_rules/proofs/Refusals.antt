@@ -12,7 +12,7 @@ use Rattle.session_rules.specs.Session.{Session}
 use Rattle.session_rules.specs.Looking.{settles}
 use Rattle.session_rules.specs.Accepting.{taken}
 use Rattle.session_rules.specs.Legal.{awaited_by, awaited_of}
-use Rattle.session_rules.specs.Replies.{or_refusal, told_of, told_to}
+use Rattle.session_rules.specs.Replies.{or_refusal, message_replies, told_to}
 use Rattle.session_rules.specs.Steps.{Nothing, called_for, due_by, due_of}
 
 module _ {S : Type 0} (l : Lang S) (service : Service) (s : Session) where
@@ -20,7 +20,8 @@ module _ {S : Type 0} (l : Lang S) (service : Service) (s : Session) where
       → told_to l service s read ≡ tells.Refused reason ∷ []
   refused_told (Err other) reason e = let same : other ≡ reason = cc in ap (λ r. tells.Refused r ∷ []) same
   refused_told (Ok m) reason e =
-      ap (λ (r : Result Session Refusal). or_refusal (r >>= λ after. told_of l service s after m)) e
+      ap (λ (r : Result Session Refusal). or_refusal
+      (r >>= λ after. message_replies l service s after m)) e
 
   pub refused_due : (read : Result EditorMessage Refusal) (reason : Refusal) → taken l service s read ≡ Err reason
       → due_of l service s read ≡ Nothing

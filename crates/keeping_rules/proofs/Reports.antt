@@ -10,7 +10,7 @@ use Rattle.core_jobs.specs.declared.input.Input.TheVariants.{State}
 use Rattle.core_jobs.specs.Jobs.{JobContent}
 use Rattle.core_jobs.specs.Fits.{IsJobOf, IsDoneOf}
 use Rattle.session_rules.specs.Session.{Session, document}
-use Rattle.session_rules.specs.Shown.{told_in}
+use Rattle.session_rules.specs.Shown.{protocol_reports}
 use Rattle.session_rules.specs.Replies.{report_of}
 use Rattle.session_replies.specs.Reported.{source_of}
 use Rattle.session_replies.specs.Works.{WorkDone}
@@ -18,7 +18,7 @@ use Rattle.session_replies.specs.Works as jobs
 use Rattle.keeping_rules.specs.Works.{IsDoneWorkOf}
 
 module _ {S : Type 0} (l : Lang S) (s : Session)
-    (told : (done : Done S) → IsDoneOf l (document l s).homes done → report_of l s done.part ≡ tells.Report done.part (told_in s.protocol
+    (told : (done : Done S) → IsDoneOf l (document l s).homes done → report_of l s done.part ≡ tells.Report done.part (protocol_reports s.protocol
     (source_of (document l s).homes done.part.exec) done.reports))
     (source : (job : JobContent S) → IsJobOf l (document l s).homes job → source_of (document l s).homes job.part.exec ≡ job.source) where
   source_is : (who : ℕ) (work : WorkDone S) → IsDoneWorkOf l s who work → source_of (document l s).homes work.done.part.exec ≡ work.source
@@ -33,5 +33,5 @@ module _ {S : Type 0} (l : Lang S) (s : Session)
 
   pub reported : (who : ℕ) (work : WorkDone S) → IsDoneWorkOf l s who work → report_of l s work.done.part ≡ jobs.work_report work
   reported who work is = told work.done is.right
-      ∙ ap (λ (p : Protocol). tells.Report work.done.part (told_in p (source_of (document l s).homes work.done.part.exec) work.done.reports)) (sym is.protocol)
-      ∙ ap (λ (text : List ℕ). tells.Report work.done.part (told_in work.protocol text work.done.reports)) (source_is who work is)
+      ∙ ap (λ (p : Protocol). tells.Report work.done.part (protocol_reports p (source_of (document l s).homes work.done.part.exec) work.done.reports)) (sym is.protocol)
+      ∙ ap (λ (text : List ℕ). tells.Report work.done.part (protocol_reports work.protocol text work.done.reports)) (source_is who work is)

@@ -10,8 +10,8 @@ use Rattle.reply_writing.specs.declared.told.Told.{Told}
 use Rattle.session_rules.specs.declared.entry.Entry.{Entry}
 use Rattle.session_rules.specs.declared.service.Service.{Service}
 use Rattle.session_rules.specs.Heard.{Heard, heard}
-use Rattle.session_rules.specs.Replies.{bytes_of, replies, told}
-use Rattle.session_replies.specs.Spelling.{spelling}
+use Rattle.session_rules.specs.Replies.{bytes_of, replies, entry_replies}
+use Rattle.session_replies.specs.Spelling.{reply_spelling}
 use Rattle.keeping_rules.specs.Items.{SessionItem, heard_in}
 use Rattle.keeping_rules.specs.Legal.{AreLegal, MaySend}
 use Rattle.keeping_rules.specs.Pieces.{pieces}
@@ -26,17 +26,18 @@ same_front (x ∷ a) (y ∷ b) c d e n =
     let rest : a ++ c ≡ b ++ d = cc in
     ap (λ v. v ∷ a) head ∙ ap (λ r. y ∷ r) (same_front a b c d rest (omega (arith, n)))
 
-joined_some : (ts : List Told) → flat_map (λ bytes. bytes) (map spelling ts) ≡ bytes_of ts
+joined_some : (ts : List Told) → flat_map (λ bytes. bytes) (map reply_spelling ts) ≡ bytes_of ts
 joined_some [] = refl
-joined_some (t ∷ ts) = ap (λ r. spelling t ++ r) (joined_some ts)
+joined_some (t ∷ ts) = ap (λ r. reply_spelling t ++ r) (joined_some ts)
 
 module _ {S : Type 0} (l : Lang S) (service : Service) where
   -- the replies one by one are all that is written
   pub joined : (h : List Heard) → flat_map (λ bytes. bytes) (pieces l service h) ≡ replies l service h
   joined [] = refl
-  joined (e ∷ h) = flat_map-append (λ (bytes : List ℕ). bytes) (pieces l service h) (map spelling (told l service h e))
-      ∙ ap (λ r. r ++ flat_map (λ bytes. bytes) (map spelling (told l service h e))) (joined h)
-      ∙ ap (λ r. replies l service h ++ r) (joined_some (told l service h e))
+  joined (e ∷ h) = flat_map-append (λ (bytes : List ℕ). bytes) (pieces l service h) (map reply_spelling (entry_replies l service h e))
+      ∙ ap (λ r. r ++ flat_map (λ bytes. bytes)
+      (map reply_spelling (entry_replies l service h e))) (joined h)
+      ∙ ap (λ r. replies l service h ++ r) (joined_some (entry_replies l service h e))
 
   counted : (items : List SessionItem) (f : IsFrontSent l service items) → length f.sent ≡ length (lengths_sent items)
   counted items f = sym (length-map f.sent length) ∙ ap (λ (ns : List ℕ). length ns) f.lengths ∙ length-reverse (lengths_sent items)
@@ -46,7 +47,7 @@ module _ {S : Type 0} (l : Lang S) (service : Service) where
       (record { sent = []; waiting = []; front = refl; lengths = refl })
 
   made : (entry : Entry) (items : List SessionItem) → IsFrontSent l service items → IsFrontSent l service (item.Made entry ∷ items)
-  made entry items f = let more = map spelling (told l service (heard_in service items) (heard service entry)) in record {
+  made entry items f = let more = map reply_spelling (entry_replies l service (heard_in service items) (heard service entry)) in record {
     sent = f.sent;
     waiting = f.waiting ++ more;
     front = ap (λ (all : List (List ℕ)). all ++ more) f.front ∙ append_assoc f.sent f.waiting more;

@@ -31,12 +31,12 @@ use Rattle.session_rules.specs.Accepting.{accepted, taken}
 use Rattle.session_rules.specs.Legal.{IsSettledIn, awaited_of}
 use Rattle.session_rules.specs.Replies.{claim_told, or_refusal, report_of, told_to}
 use Rattle.session_rules.specs.Steps.{Due, due, due_by, due_of, called_for}
-use Rattle.session_replies.specs.Spelling.{spelling}
+use Rattle.session_replies.specs.Spelling.{reply_spelling}
 use Rattle.session_replies.specs.Works.{Work, WorkDone}
 use Rattle.session_replies.specs.Works as jobs
 use Rattle.keeping_rules.specs.Items.{heard_in}
 use Rattle.keeping_rules.specs.Kept.{session_of, IsListed, IsKept}
-use Rattle.keeping_rules.specs.Turns.{entry_of, told_of}
+use Rattle.keeping_rules.specs.Turns.{entry_of, finish_reply}
 use Rattle.keeping_rules.specs.Workers.{AreOthers}
 use Rattle.keeping_rules.specs.Works.{IsWorkOf}
 use Rattle.keeping_rules.proofs.Free.{one_held}
@@ -62,8 +62,9 @@ module _ {S : Type 0} (l : Lang S) (service : Service) (old new : Log Service En
           (subst (λ (r : Result EditorMessage Refusal). IsSettledIn l s (awaited_of l service s r)) (sym asks_it)
           (subst (λ o. IsSettledIn l s o) (sym still) tt)),
     )
-        (ap (λ (t : Session). map spelling (told_to l service t (asked (mode_of service) message))) k.listed.stands
-        ∙ ap (λ (r : Result EditorMessage Refusal). map spelling (told_to l service s r)) asks_it ∙ ap (λ (ts : List Told). map spelling ts) told_none)
+        (ap (λ (t : Session). map reply_spelling
+        (told_to l service t (asked (mode_of service) message))) k.listed.stands
+        ∙ ap (λ (r : Result EditorMessage Refusal). map reply_spelling (told_to l service s r)) asks_it ∙ ap (λ (ts : List Told). map reply_spelling ts) told_none)
         (ap (λ (r : Result EditorMessage Refusal). answered s (taken l service s r)) asks_it ∙ ap (λ (r : Result Session Refusal). answered s r) accepts)
 
     calls : due l service (heard_in service (item.Made (entry.Call message) ∷ old.items)) ≡ called_for m
@@ -74,7 +75,8 @@ module _ {S : Type 0} (l : Lang S) (service : Service) (old new : Log Service En
   pub claim_stepped : asked (mode_of service) message ≡ Ok (asks.Claim who) → (part : Part) → held s.events who ≡ None
       → first_ready l s.events ≡ Some part → IsFirst l s.events part
       → new.items ≡ item.Made (entry.Claimed who part) ∷ item.Made (entry.Call message) ∷ old.items
-      → new.waiting ≡ (old.waiting ++ []) ++ spelling (tells.Claimed who part) ∷ [] → holding + 2 ≤ new.free
+      → new.waiting ≡ (old.waiting ++ []) ++ reply_spelling (tells.Claimed who part) ∷ []
+      → holding + 2 ≤ new.free
       → (work : Work S) → now who ≡ Some work → work.job.part ≡ part → IsJobOf l (document l s).homes work.job → work.protocol ≡ s.protocol
       → service ≡ Script → IsWorker who → (past : List Event) → past ≡ event.Claimed who part ∷ s.events
       → IsKept l service new (session_of s.buffer past s.protocol true) last (holding + 1) now
@@ -86,8 +88,8 @@ module _ {S : Type 0} (l : Lang S) (service : Service) (old new : Log Service En
       let holds : held s2.events who ≡ Some part = ap (λ b. cond b (Some part) (held s.events who)) (eq-eqb who who refl) in
       subst (λ (h : List Event). IsKept l service new (session_of s.buffer h s.protocol true) last (holding + 1) now) (sym is)
       (claimed_from l service (item.Made (entry.Call message) ∷ old.items) (old.waiting ++ []) s1 last
-      (listed (asks.Claim who) asks_it accepts refl none) k.last_is k.workers k.blobs_are new now who part (spelling (tells.Claimed who part) ∷ [])
-      holding going idle first (inl due_is) (ap (λ (d : Due). map spelling (claim_told part d)) due_is) items waiting k.holders_are room
+      (listed (asks.Claim who) asks_it accepts refl none) k.last_is k.workers k.blobs_are new now who part (reply_spelling (tells.Claimed who part) ∷ [])
+      holding going idle first (inl due_is) (ap (λ (d : Due). map reply_spelling (claim_told part d)) due_is) items waiting k.holders_are room
       (jobs_taken l service s s2 works now k.jobs_are who refl refl others (λ w e. claimed_others who w part (held s.events w) e)
       (λ other there. let is_it : work ≡ other = cc in subst (λ (x : Work S). IsWorkOf l s2 who x × (service ≡ Script) × IsWorker who) is_it
       (record { holds = holds ∙ ap (λ (p : Part). Some p) (sym same); right = right; protocol = protocol }, script, worker))
@@ -98,7 +100,7 @@ module _ {S : Type 0} (l : Lang S) (service : Service) (old new : Log Service En
       → held s.events who ≡ Some work.done.part → report_of l s work.done.part ≡ jobs.work_report work → now who ≡ None
       → (f : Finish) (past : List Event) → FinishedSo l who work.done.part s.events f past
       → new.items ≡ item.Made (entry_of f who work.done.part) ∷ item.Made (entry.Call message) ∷ old.items
-      → new.waiting ≡ (old.waiting ++ []) ++ spelling (told_of f work) ∷ [] → (holding' : ℕ) → holding' + 1 ≡ holding → holding' + 1 ≤ new.free
+      → new.waiting ≡ (old.waiting ++ []) ++ reply_spelling (finish_reply f work) ∷ [] → (holding' : ℕ) → holding' + 1 ≡ holding → holding' + 1 ≤ new.free
       → IsKept l service new (session_of s.buffer past s.protocol true) last holding' now
   finish_stepped asks_it legal work holds told_is gone f past so items waiting holding' less room =
       let accepts = finishes_so l service s who work.done.part holds in

@@ -28,7 +28,7 @@ use Rattle.session_rules.specs.Session.{Session, document, answered}
 use Rattle.session_rules.specs.Accepting.{taken}
 use Rattle.session_rules.specs.Updating.{with_buffer}
 use Rattle.session_rules.specs.Replies.{or_refusal, rows_told, told_to}
-use Rattle.session_replies.specs.Spelling.{spelling}
+use Rattle.session_replies.specs.Spelling.{reply_spelling}
 use Rattle.session_replies.specs.Works.{Work}
 use Rattle.keeping_rules.specs.Kept.{session_of, IsKept}
 use Rattle.keeping_rules.proofs.Jobs.{jobs_on}
@@ -63,18 +63,20 @@ module _ {S : Type 0} (l : Lang S) (service : Service) (old new : Log Service En
   s' = record (with_buffer s version b) { called = true }
 
   made_kept : (bytes : List ℕ) → WasAdded old new (entry.Call message) (bytes ∷ []) holding
-      → bytes ≡ spelling (tells.Assign version (rows_told (document l s).tip (document l (with_buffer s version b)).tip))
+      → bytes ≡ reply_spelling (tells.Assign version (rows_told (document l s).tip (document l
+      (with_buffer s version b)).tip))
       → IsKept l service new s' version holding jobs
   made_kept bytes added is = answered_as l service old new s last holding jobs k message (Ok (asks.Update version wanted.items wanted.blobs)) asks_it
       (bytes ∷ []) s' version added going tt
-      (ap (λ (ts : List Told). map spelling ts) (update_told l service s version wanted newer b after fits) ∙ ap (λ (x : List ℕ). x ∷ []) (sym is))
+      (ap (λ (ts : List Told). map reply_spelling ts) (update_told l service s version wanted newer b after fits) ∙ ap (λ (x : List ℕ). x ∷ []) (sym is))
       (ap (λ (r : Result Session Refusal). answered s r) (made_so l service s version wanted newer b after fits))
       (nothing_due (taken l service s (Ok (asks.Update version wanted.items wanted.blobs)))) refl
       (jobs_on l s s' refl (λ who. refl) (λ e x at. setting_stays l (event.Update version b.nodes b.document.blobs) s.events e x at)
       service jobs k.jobs_are) refl going refl
 
   pub updated_kept : (bytes : List ℕ) → WasAdded old new (entry.Call message) (bytes ∷ []) holding
-      → bytes ≡ spelling (tells.Assign version (rows_told (document l s).tip (document l (with_buffer s version b)).tip))
+      → bytes ≡ reply_spelling (tells.Assign version (rows_told (document l s).tip (document l
+      (with_buffer s version b)).tip))
       → (past : List Event) (now : Buffer) (newest : ℕ) → past ≡ event.Update version b.nodes b.document.blobs ∷ s.events → now ≡ b → newest ≡ version
       → IsKept l service new (session_of now past s.protocol true) newest holding jobs
   updated_kept bytes added is past now newest past_is buffer_is newest_is =

@@ -24,17 +24,17 @@ use Rattle.session_rules.specs.declared.service.Service.{Service}
 use Rattle.session_rules.specs.Services.{free_workers}
 use Rattle.session_rules.specs.Session.{Session, document, with_event}
 use Rattle.session_rules.specs.Heard.{heard}
-use Rattle.session_rules.specs.History.{after}
+use Rattle.session_rules.specs.History.{session_after}
 use Rattle.session_rules.specs.Legal.{MayFollow, IsTurn}
-use Rattle.session_rules.specs.Replies.{claim_told, report_of, told}
+use Rattle.session_rules.specs.Replies.{claim_told, report_of, entry_replies}
 use Rattle.session_rules.specs.Steps.{Due, Nothing, Claims, Finishes, due}
-use Rattle.session_replies.specs.Spelling.{spelling}
+use Rattle.session_replies.specs.Spelling.{reply_spelling}
 use Rattle.session_replies.specs.Works.{Work, WorkDone}
 use Rattle.session_replies.specs.Works as jobs
 use Rattle.keeping_rules.specs.Items.{SessionItem, heard_in}
 use Rattle.keeping_rules.specs.Holders.{holders, without}
 use Rattle.keeping_rules.specs.Kept.{session_of, IsListed, AreKeptJobs, IsKept}
-use Rattle.keeping_rules.specs.Turns.{entry_of, told_of}
+use Rattle.keeping_rules.specs.Turns.{entry_of, finish_reply}
 use Rattle.keeping_rules.proofs.Made.{made}
 use Rattle.keeping_rules.proofs.Turns.{finished_others, dropped_others}
 
@@ -47,8 +47,9 @@ module _ {S : Type 0} (l : Lang S) (service : Service) (items : List SessionItem
   -- an entry of a worker's
   turned : (added : Entry) (s' : Session) (replies : List (List ℕ)) (holding : ℕ)
       → MayFollow l service (heard_in service items) (heard service added)
-      → map spelling (told l service (heard_in service items) (heard service added)) ≡ replies
-      → after l service s (heard service added) ≡ s' → due l service (heard service added ∷ heard_in service items) ≡ Nothing
+      → map reply_spelling (entry_replies l service (heard_in service items) (heard service
+      added)) ≡ replies
+      → session_after l service s (heard service added) ≡ s' → due l service (heard service added ∷ heard_in service items) ≡ Nothing
       → new.items ≡ item.Made added ∷ items → new.waiting ≡ waiting ++ replies
       → document l s' ≡ document l s → s'.buffer ≡ s.buffer → has_ended s'.events ≡ has_ended s.events
       → holding ≡ length (holders s'.events) → holding + (if has_ended s.events then 0 else 1) ≤ new.free
@@ -68,7 +69,8 @@ module _ {S : Type 0} (l : Lang S) (service : Service) (items : List SessionItem
 
   -- it takes the first ready part
   pub claimed_from : (who : ℕ) (part : Part) (replies : List (List ℕ)) (holding : ℕ) → has_ended s.events ≡ false → held s.events who ≡ None
-      → IsFirst l s.events part → IsTurn service called who (Claims who) → map spelling (claim_told part called) ≡ replies
+      → IsFirst l s.events part → IsTurn service called who (Claims who)
+      → map reply_spelling (claim_told part called) ≡ replies
       → new.items ≡ item.Made (entry.Claimed who part) ∷ items → new.waiting ≡ waiting ++ replies
       → holding ≡ length (holders s.events) → holding + 2 ≤ new.free
       → AreKeptJobs l service (with_event s (event.Claimed who part)) now
@@ -87,27 +89,29 @@ module _ {S : Type 0} (l : Lang S) (service : Service) (items : List SessionItem
     itself o = ap (λ b. cond b None o) (eq-eqb who who refl)
 
     finished : is_wanted (document l s) part.exec ≡ true → (reply : Told) → report_of l s part ≡ reply
-        → new.items ≡ item.Made (entry.Finished who part) ∷ items → new.waiting ≡ waiting ++ spelling reply ∷ []
+        → new.items ≡ item.Made (entry.Finished who part) ∷ items
+        → new.waiting ≡ waiting ++ reply_spelling reply ∷ []
         → IsKept l service new (with_event s (event.Finished who part)) last holding now
     finished wanted reply told_is items_are waiting_are =
         let may = subst (λ (t : Session). (held t.events who ≡ Some part) × (is_wanted (document l t) part.exec ≡ true)) (sym listed.stands) (holds, wanted) in
-        turned (entry.Finished who part) (with_event s (event.Finished who part)) (spelling reply ∷ []) holding (may, turn)
-        (ap (λ (t : Session). spelling (report_of l t part) ∷ []) listed.stands ∙ ap (λ (r : Told). spelling r ∷ []) told_is)
+        turned (entry.Finished who part) (with_event s (event.Finished who part))
+        (reply_spelling reply ∷ []) holding (may, turn)
+        (ap (λ (t : Session). reply_spelling (report_of l t part) ∷ []) listed.stands ∙ ap (λ (r : Told). reply_spelling r ∷ []) told_is)
         refl refl items_are waiting_are refl refl refl holders_are room
         (jobs_are (with_event s (event.Finished who part)) refl refl (λ w e. finished_others who w part (held s.events w) e) (itself (held s.events who)))
 
     dropped : is_wanted (document l s) part.exec ≡ false
-        → new.items ≡ item.Made (entry.Dropped who part) ∷ items → new.waiting ≡ waiting ++ spelling (tells.Dropped part) ∷ []
+        → new.items ≡ item.Made (entry.Dropped who part) ∷ items → new.waiting ≡ waiting ++ reply_spelling (tells.Dropped part) ∷ []
         → IsKept l service new (with_event s (event.Dropped who part)) last holding now
     dropped unwanted items_are waiting_are =
         let may = subst (λ (t : Session). (held t.events who ≡ Some part) × (is_wanted (document l t) part.exec ≡ false)) (sym listed.stands) (holds, unwanted) in
-        turned (entry.Dropped who part) (with_event s (event.Dropped who part)) (spelling (tells.Dropped part) ∷ []) holding (may, turn) refl
+        turned (entry.Dropped who part) (with_event s (event.Dropped who part)) (reply_spelling (tells.Dropped part) ∷ []) holding (may, turn) refl
         refl refl items_are waiting_are refl refl refl holders_are room
         (jobs_are (with_event s (event.Dropped who part)) refl refl (λ w e. dropped_others who w part (held s.events w) e) (itself (held s.events who)))
 
     -- it lets its part go
     pub dropped_from : is_wanted (document l s) part.exec ≡ false → (past : List Event) → past ≡ event.Dropped who part ∷ s.events
-        → new.items ≡ item.Made (entry.Dropped who part) ∷ items → new.waiting ≡ waiting ++ spelling (tells.Dropped part) ∷ []
+        → new.items ≡ item.Made (entry.Dropped who part) ∷ items → new.waiting ≡ waiting ++ reply_spelling (tells.Dropped part) ∷ []
         → IsKept l service new (session_of s.buffer past s.protocol s.called) last holding now
     dropped_from unwanted past is items_are waiting_are =
         subst (λ (h : List Event). IsKept l service new (session_of s.buffer h s.protocol s.called) last holding now) (sym is)
@@ -116,11 +120,12 @@ module _ {S : Type 0} (l : Lang S) (service : Service) (items : List SessionItem
     -- it ends its part, one way or the other
     pub ended_from : (work : WorkDone S) → work.done.part ≡ part → report_of l s part ≡ jobs.work_report work → (f : Finish) (past : List Event)
         → FinishedSo l who part s.events f past
-        → new.items ≡ item.Made (entry_of f who part) ∷ items → new.waiting ≡ waiting ++ spelling (told_of f work) ∷ []
+        → new.items ≡ item.Made (entry_of f who part) ∷ items
+        → new.waiting ≡ waiting ++ reply_spelling (finish_reply f work) ∷ []
         → IsKept l service new (session_of s.buffer past s.protocol s.called) last holding now
     ended_from work same told_is finish.Finished past so items_are waiting_are =
         subst (λ (h : List Event). IsKept l service new (session_of s.buffer h s.protocol s.called) last holding now) (sym so.1)
         (finished so.0 (jobs.work_report work) told_is items_are waiting_are)
     ended_from work same told_is finish.Dropped past so items_are waiting_are =
         dropped_from so.0 past so.1 items_are
-        (waiting_are ∙ ap (λ (p : Part). waiting ++ spelling (tells.Dropped p) ∷ []) same)
+        (waiting_are ∙ ap (λ (p : Part). waiting ++ reply_spelling (tells.Dropped p) ∷ []) same)

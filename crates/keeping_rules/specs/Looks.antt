@@ -9,7 +9,7 @@ use Rattle.session_rules.specs.Accepting.{taken}
 use Rattle.session_rules.specs.Legal.{IsSettledIn, awaited_of}
 use Rattle.session_rules.specs.Replies.{told_to}
 use Rattle.session_rules.specs.Steps.{Nothing, due_of}
-use Rattle.session_replies.specs.Spelling.{spelling}
+use Rattle.session_replies.specs.Spelling.{reply_spelling}
 
 -- what was read is accepted and changes nothing, what it waits for is settled, it calls for no
 -- worker's step, and these bytes are what is told of it
@@ -17,5 +17,5 @@ pub record IsLook {S : Type 0} (l : Lang S) (service : Service) (s : Session)
     (read : Result EditorMessage Refusal) (bytes : List ℕ) : Type 0 where
   pub accepted : taken l service s read ≡ Ok s
   pub settled : IsSettledIn l s (awaited_of l service s read)
-  pub told : map spelling (told_to l service s read) ≡ bytes ∷ []
+  pub told : map reply_spelling (told_to l service s read) ≡ bytes ∷ []
   pub rests : due_of l service s read ≡ Nothing

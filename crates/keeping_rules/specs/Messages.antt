@@ -25,7 +25,7 @@ use Rattle.session_rules.specs.Session.{document}
 use Rattle.session_rules.specs.Accepting.{taken}
 use Rattle.session_rules.specs.Updating.{with_buffer}
 use Rattle.session_rules.specs.Replies.{live_among, rows_told}
-use Rattle.session_replies.specs.Spelling.{spelling}
+use Rattle.session_replies.specs.Spelling.{reply_spelling}
 use Rattle.session_replies.specs.Cancelled.{cancelling_told}
 use Rattle.keeping_rules.specs.Kept.{session_of}
 use Rattle.keeping_rules.specs.Looks.{IsLook}
@@ -35,7 +35,7 @@ use Rattle.keeping_rules.specs.States.{State, IsSound, IsAdded, moved, heard_wit
 pub record LookLaws {S : Type 0} (l : Lang S) : Type 0 where
   pub refused : (service : Service) (st : State S) (message : List (List ℕ)) (reason : Refusal)
       (new : Log Service Entry)
-      → IsAdded l service st (Call message) (spelling (tells.Refused reason) ∷ []) new
+      → IsAdded l service st (Call message) (reply_spelling (tells.Refused reason) ∷ []) new
       → taken l service st.session (asked (mode_of service) message) ≡ Err reason
       → IsSound l service (moved st new (record st.session { called = true }))
   pub looked : (service : Service) (st : State S) (message : List (List ℕ)) (bytes : List ℕ)
@@ -47,20 +47,20 @@ pub record LookLaws {S : Type 0} (l : Lang S) : Type 0 where
 pub record ChangeLaws {S : Type 0} (l : Lang S) : Type 0 where
   pub cancelled : (service : Service) (st : State S) (message : List (List ℕ)) (exec : ℕ)
       (given : Cancelling) (past : List Event) (new : Log Service Entry)
-      → IsAdded l service st (Call message) (spelling (cancelling_told exec given) ∷ []) new
+      → IsAdded l service st (Call message) (reply_spelling (cancelling_told exec given) ∷ []) new
       → asked (mode_of service) message ≡ Ok (asks.Cancel exec)
       → CancelledSo l exec st.session.events given past
       → IsSound l service (moved st new (heard_with st.session past))
   pub removed : (service : Service) (st : State S) (message : List (List ℕ)) (ids : List ℕ)
       (new : Log Service Entry) → IsAdded l service st (Call message)
-      (spelling (tells.Removed (live_among (document l st.session) ids)) ∷ []) new
+      (reply_spelling (tells.Removed (live_among (document l st.session) ids)) ∷ []) new
       → asked (mode_of service) message ≡ Ok (asks.RemoveVersions ids)
       → removing (document l st.session).live ids ≡ answer.Removed
       → IsSound l service
       (moved st new (heard_with st.session (event.Remove ids ∷ st.session.events)))
   pub protocol_set : (service : Service) (st : State S) (message : List (List ℕ))
       (protocol : Protocol) (new : Log Service Entry)
-      → IsAdded l service st (Call message) (spelling (tells.Protocol protocol) ∷ []) new
+      → IsAdded l service st (Call message) (reply_spelling (tells.Protocol protocol) ∷ []) new
       → asked (mode_of service) message ≡ Ok (asks.Protocol protocol)
       → st.session.called ≡ false → IsSound l service
       (moved st new (session_of st.session.buffer st.session.events protocol true))
@@ -69,7 +69,7 @@ pub record ChangeLaws {S : Type 0} (l : Lang S) : Type 0 where
 abbrev pub UpdateLaw : {S : Type 0} → Lang S → Type 0
 UpdateLaw {S} l = (service : Service) (st : State S) (message : List (List ℕ)) (version : ℕ)
     (wanted : Asked) (b : Buffer) (new : Log Service Entry)
-    → IsAdded l service st (Call message) (spelling (tells.Assign version (rows_told
+    → IsAdded l service st (Call message) (reply_spelling (tells.Assign version (rows_told
     (document l st.session).tip (document l (with_buffer st.session version b)).tip)) ∷ []) new
     → asked (mode_of service) message ≡ Ok (asks.Update version wanted.items wanted.blobs)
     → (document l st.session).last < version

@@ -15,6 +15,6 @@ entry_of finish.Finished who part = entry.Finished who part
 entry_of finish.Dropped who part = entry.Dropped who part
 
 -- what is told of it
-abbrev pub told_of : {S : Type 0} → Finish → WorkDone S → Told
-told_of finish.Finished work = work_report work
-told_of finish.Dropped work = tells.Dropped work.done.part
+abbrev pub finish_reply : {S : Type 0} → Finish → WorkDone S → Told
+finish_reply finish.Finished work = work_report work
+finish_reply finish.Dropped work = tells.Dropped work.done.part

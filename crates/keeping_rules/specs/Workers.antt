@@ -22,12 +22,12 @@ use Rattle.session_rules.specs.declared.service.Service.{Service}
 use Rattle.session_rules.specs.declared.service.Service.TheVariants.{Script}
 use Rattle.session_rules.specs.Services.{free_workers, mode_of}
 use Rattle.session_rules.specs.Session.{document}
-use Rattle.session_replies.specs.Spelling.{spelling}
+use Rattle.session_replies.specs.Spelling.{reply_spelling}
 use Rattle.session_replies.specs.Works.{Work, WorkDone}
 use Rattle.keeping_rules.specs.Items.{writer_of}
 use Rattle.keeping_rules.specs.Kept.{IsKept}
 use Rattle.keeping_rules.specs.States.{State, IsSound, moved, heard_with, with_past}
-use Rattle.keeping_rules.specs.Turns.{entry_of, told_of}
+use Rattle.keeping_rules.specs.Turns.{entry_of, finish_reply}
 use Rattle.keeping_rules.specs.Works.{IsDoneWorkOf}
 
 -- the tables have the same but for one worker
@@ -50,7 +50,7 @@ pub record FreeLaws {S : Type 0} (l : Lang S) : Type 0 where
       → IsSound l service st → who ≤ free_workers service → IsDoneWorkOf l st.session who work
       → FinishedSo l who work.done.part st.session.events f past
       → new.items ≡ item.Made (entry_of f who work.done.part) ∷ st.log.items
-      → new.waiting ≡ st.log.waiting ++ spelling (told_of f work) ∷ []
+      → new.waiting ≡ st.log.waiting ++ reply_spelling (finish_reply f work) ∷ []
       → new.free + 1 ≡ st.log.free → holding + 1 ≡ st.holding
       → IsKept l service new (with_past st.session past) st.last holding st.jobs
   pub given_up : (service : Service) (st : State S) (who : ℕ) (part : Part) (holding : ℕ)
@@ -59,7 +59,7 @@ pub record FreeLaws {S : Type 0} (l : Lang S) : Type 0 where
       → held st.session.events who ≡ Some part
       → is_wanted (document l st.session) part.exec ≡ false
       → new.items ≡ item.Made (entry.Dropped who part) ∷ st.log.items
-      → new.waiting ≡ st.log.waiting ++ spelling (tells.Dropped part) ∷ []
+      → new.waiting ≡ st.log.waiting ++ reply_spelling (tells.Dropped part) ∷ []
       → new.free + 1 ≡ st.log.free → holding + 1 ≡ st.holding
       → IsKept l service new
       (with_past st.session (event.Dropped who part ∷ st.session.events)) st.last holding st.jobs
@@ -75,7 +75,7 @@ pub record StepLaws {S : Type 0} (l : Lang S) : Type 0 where
       → work.protocol ≡ st.session.protocol → AreOthers who st.jobs jobs → jobs who ≡ Some work
       → new.items ≡ item.Made (entry.Claimed who part) ∷ item.Made (entry.Call message)
       ∷ st.log.items
-      → new.waiting ≡ (st.log.waiting ++ []) ++ spelling (tells.Claimed who part) ∷ []
+      → new.waiting ≡ (st.log.waiting ++ []) ++ reply_spelling (tells.Claimed who part) ∷ []
       → st.holding + 2 ≤ new.free → IsKept l service new
       (heard_with st.session (event.Claimed who part ∷ st.session.events)) st.last
       (st.holding + 1) jobs
@@ -89,7 +89,7 @@ pub record StepLaws {S : Type 0} (l : Lang S) : Type 0 where
       → AreOthers who st.jobs jobs → jobs who ≡ None
       → new.items ≡ item.Made (entry_of f who work.done.part) ∷ item.Made (entry.Call message)
       ∷ st.log.items
-      → new.waiting ≡ (st.log.waiting ++ []) ++ spelling (told_of f work) ∷ []
+      → new.waiting ≡ (st.log.waiting ++ []) ++ reply_spelling (finish_reply f work) ∷ []
       → holding + 1 ≡ st.holding → holding + 1 ≤ new.free
       → IsKept l service new (heard_with st.session past) st.last holding jobs
 

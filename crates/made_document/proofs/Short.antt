@@ -14,7 +14,7 @@ use Rattle.xml_tree.specs.declared.tree.Tree.TheVariants.{Elem}
 use Rattle.xml_tree.specs.Marks.{closing, marks, opening}
 use Rattle.xml_tree.proofs.KnownMarks.{tree_marks-Elem}
 use Rattle.xml_tree.specs.Normal.{equals_sign, x_byte, y_byte}
-use Rattle.yxml.specs.Spelling.{attribute_spelling, spelling, spellings, yxml}
+use Rattle.yxml.specs.Spelling.{attribute_spelling, mark_spelling, spellings, yxml}
 use Rattle.xml_codec.specs.Data.{bool_body, list_body, node, numbered_from, option_body, pair_body, string_body, variant_body}
 use Rattle.data_shapes.specs.Bodies.{edit_body}
 use Rattle.message_values.specs.Bodies.{item_body}
@@ -44,22 +44,25 @@ string_size bytes = ap length (string_yxml bytes)
 
 -- a variant by its start tag
 tag_size : (attributes : List Attribute) (body : List Tree)
-    → size (Elem (decimal 0) attributes body ∷ []) ≡ length (spelling (opening (decimal 0) attributes)) + size body + 3
+    → size (Elem (decimal 0) attributes body ∷ []) ≡ length
+    (mark_spelling (opening (decimal 0) attributes)) + size body + 3
 tag_size attributes body =
     ap (λ ms. length (spellings (ms ++ []))) (tree_marks-Elem (decimal 0) attributes body) ∙ omega (
       arith,
-      ap length (flat_map-append spelling (marks body ++ closing ∷ []) []),
-      ap length (flat_map-append spelling (marks body) (closing ∷ [])),
-      length-append (spelling (opening (decimal 0) attributes)) (spellings ((marks body ++ closing ∷ []) ++ [])),
+      ap length (flat_map-append mark_spelling (marks body ++ closing ∷ []) []),
+      ap length (flat_map-append mark_spelling (marks body) (closing ∷ [])),
+      length-append (mark_spelling (opening (decimal 0) attributes))
+          (spellings ((marks body ++ closing ∷ []) ++ [])),
       length-append (spellings (marks body ++ closing ∷ [])) [],
-      length-append (spellings (marks body)) (spelling closing ++ []),
+      length-append (spellings (marks body)) (mark_spelling closing ++ []),
     )
 
 number_short : length (decimal 0) ≤ 1
 number_short = length-decimal-le 1 0 (lit< tt) (lit< tt) (lit< tt)
 
 tag_length : (tag : List ℕ) (attributes : List Attribute)
-    → length (spelling (opening tag attributes)) ≡ length tag + length (flat_map attribute_spelling attributes) + 3
+    → length (mark_spelling (opening tag attributes)) ≡ length tag + length
+    (flat_map attribute_spelling attributes) + 3
 tag_length tag attributes = omega (
   arith,
   length-append (tag ++ flat_map attribute_spelling attributes) (x_byte ∷ []),
@@ -73,10 +76,10 @@ attribute_length key value = omega (
   length-append key (equals_sign ∷ value),
 )
 
-bare_tag : length (spelling (opening (decimal 0) [])) ≤ 4
+bare_tag : length (mark_spelling (opening (decimal 0) [])) ≤ 4
 bare_tag = omega (arith, number_short, tag_length (decimal 0) [])
 
-place_tag : (place : ℕ) → place < 10 ^ 10 → length (spelling (opening (decimal 0) (numbered_from 0 (decimal place ∷ [])))) ≤ 20
+place_tag : (place : ℕ) → place < 10 ^ 10 → length (mark_spelling (opening (decimal 0) (numbered_from 0 (decimal place ∷ [])))) ≤ 20
 place_tag place lt = omega (
   arith,
   number_short,

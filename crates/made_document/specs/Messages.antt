@@ -23,8 +23,8 @@ second_item number = record {
 }
 
 -- the nodes' numbers
-abbrev pub numbers : ℕ → List ℕ
-numbers count = range_with_len 1 count
+abbrev pub node_numbers : ℕ → List ℕ
+node_numbers count = range_with_len 1 count
 
 -- each third node has an axiom inserted
 abbrev pub is_third : ℕ → Bool
@@ -32,10 +32,10 @@ is_third number = number % 3 == 0
 
 -- the items of both updates
 abbrev pub first_items : ℕ → List Item
-first_items count = map first_item (numbers count)
+first_items count = map first_item (node_numbers count)
 
 abbrev pub second_items : ℕ → List Item
-second_items count = map second_item (filter is_third (numbers count))
+second_items count = map second_item (filter is_third (node_numbers count))
 
 -- the version that is settled
 abbrev pub last_version : ℕ

@@ -54,15 +54,15 @@ summary l count = let d = document_of l (made_updates count) in
     option_map (summary_of l d.live) (version_of d.live last_version)
 
 -- a word, a space and a number on a line
-abbrev pub line : List ℕ → ℕ → List ℕ
-line word number = word ++ (codes " " ++ (decimal number ++ codes "\n"))
+abbrev pub number_line : List ℕ → ℕ → List ℕ
+number_line word number = word ++ (codes " " ++ (decimal number ++ codes "\n"))
 
 -- a line for each number
-abbrev pub lines_of : Summary → List ℕ
-lines_of s = line (codes "nodes") s.nodes ++ (line (codes "commands") s.commands
-    ++ (line (codes "executions") s.executions ++ (line (codes "reports") s.reports
-    ++ line (codes "errors") s.errors)))
+abbrev pub summary_text : Summary → List ℕ
+summary_text s = number_line (codes "nodes") s.nodes ++ (number_line (codes "commands") s.commands
+    ++ (number_line (codes "executions") s.executions ++ (number_line (codes "reports") s.reports
+    ++ number_line (codes "errors") s.errors)))
 
 -- the lines for a document of so many nodes
 abbrev pub summary_lines : {S : Type 0} → Lang S → ℕ → List ℕ
-summary_lines l count = option_map_or lines_of (summary l count) []
+summary_lines l count = option_map_or summary_text (summary l count) []

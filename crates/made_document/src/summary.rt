@@ -1,6 +1,6 @@
 //! The five numbers.
 ghost use Rattle.std.specs.Prelude.{◌≡◌, ◌++◌, IfOk, OnOk, decimal, string_bytes};
-ghost use Rattle.made_document.specs.Summary.{line, lines_of};
+ghost use Rattle.made_document.specs.Summary.{number_line, summary_text};
 
 use itoa::Buffer;
 use std::alloc::{AllocError, Global};
@@ -18,7 +18,8 @@ pub struct Summary {
 
 /// Adds a line of a word and a number.
 fn put_line(out: &mut String, word: &str, number: u64) -> Result<(), AllocError>
-    ensures { OnOk result (string_bytes out.new ≡ string_bytes out.old ++ line word.now number) }
+    ensures { OnOk result (string_bytes out.new ≡ string_bytes out.old ++ number_line word.now
+        number) }
 {
     let mut buffer = Buffer::new();
     out.push_str(word)?;
@@ -30,7 +31,7 @@ fn put_line(out: &mut String, word: &str, number: u64) -> Result<(), AllocError>
 impl Summary {
     /// Its five lines.
     pub fn lines(&self, alloc: Global) -> Result<String, AllocError>
-        ensures { IfOk result (λ text. string_bytes text ≡ lines_of self.now) }
+        ensures { IfOk result (λ text. string_bytes text ≡ summary_text self.now) }
     {
         let mut text = String::new(alloc);
         put_line(&mut text, "nodes", self.nodes)?;

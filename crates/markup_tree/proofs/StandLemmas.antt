@@ -7,7 +7,7 @@ use Rattle.pide_base.specs.declared.range.Range.{Range}
 use Rattle.report_markup.specs.declared.report.Report.{Report}
 use Rattle.report_markup.specs.Order.{report_cmp}
 use Rattle.report_markup.specs.Ranges.{AreTreelike, IsTreelike}
-use Rattle.report_markup.specs.Sorting.{insert_if, insert_report, in_order}
+use Rattle.report_markup.specs.Sorting.{insert_if, insert_report, ordered_reports}
 use Rattle.report_markup.proofs.KnownOrders.{All-insert}
 use Rattle.markup_tree.specs.Crossing.{crosses, first_crossing}
 use Rattle.markup_tree.specs.Standing.{StandsBefore, Stand}
@@ -49,7 +49,7 @@ put_first : (r : Report) (xs : List Report) → AllByRecursion (StandsBefore r) 
 put_first r [] all = refl
 put_first r (x ∷ xs) all = ap (λ b. insert_if b r x xs (insert_report r xs)) all.0.0
 
-pub ordered : (xs : List Report) → Stand xs → in_order xs ≡ xs
+pub ordered : (xs : List Report) → Stand xs → ordered_reports xs ≡ xs
 ordered [] stand = refl
 ordered (r ∷ xs) stand = ap (insert_report r) (ordered xs stand.1) ∙ put_first r xs stand.0
 

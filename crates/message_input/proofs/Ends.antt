@@ -11,7 +11,7 @@ use Rattle.byte_message.specs.Stream.Ending.{Bad}
 use Rattle.byte_message.specs.declared.frame_fault.FrameFault.{FrameFault}
 use Rattle.message_input.specs.declared.answering.Halt.{Halt}
 use Rattle.message_input.specs.Answers.{AnswersAll, AnswersSome, KeepsUp}
-use Rattle.message_input.specs.Causes.{BadFrameSo, DoneSo, HasCause, TakesSo, Tells, TruncatedSo, place_of}
+use Rattle.message_input.specs.Causes.{BadFrameSo, DoneSo, HasCause, TakesSo, Tells, TruncatedSo, fault_place}
 use Rattle.message_input.specs.Inputs.{AnswersToEnd, IsAnswered, IsHalted, IsRead}
 use Rattle.message_input.specs.Steps.{EndsWith}
 use Rattle.message_input.proofs.Decoding.{all_read, ends_fine}
@@ -78,7 +78,7 @@ module _ {A : Type 0} (Goes : A → List (List (List ℕ)) → A → Type 0) (li
     }
 
   -- at a line at fault
-  pub bad_read : (fault : FrameFault) (at : ℕ) → at ≡ place_of fault → AnswersAll Goes old taken (Bad fault) new → length taken ≤ limit
+  pub bad_read : (fault : FrameFault) (at : ℕ) → at ≡ fault_place fault → AnswersAll Goes old taken (Bad fault) new → length taken ≤ limit
       → IsRead Goes limit (status.BadFrame at) left left' old new
   bad_read fault at place answers few = read_of (Bad fault) answers (status.BadFrame at) (fault, refl, place) tt few (λ at e. cc) (λ e. cc) (λ e. cc) (λ e. cc)
 

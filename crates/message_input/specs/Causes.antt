@@ -11,10 +11,10 @@ use Rattle.byte_message.specs.declared.frame_fault.FrameFault.{FrameFault}
 use Rattle.byte_message.specs.declared.frame_fault.FrameFault.TheVariants as frame
 
 -- where the message at fault begins
-abbrev pub place_of : FrameFault → ℕ
-place_of (frame.BadHeader at) = at
-place_of (frame.TooMany at count) = at
-place_of (frame.TooLong at chunk) = at
+abbrev pub fault_place : FrameFault → ℕ
+fault_place (frame.BadHeader at) = at
+fault_place (frame.TooMany at count) = at
+fault_place (frame.TooLong at chunk) = at
 
 -- how bytes end, whatever their messages
 abbrev pub HasEnding : List ℕ → Ending → Type 0
@@ -25,7 +25,7 @@ HasEnding bytes ending = (messages : List (List (List ℕ))) × IsReadAs bytes m
 abbrev pub Tells : Status → Ending → Type 0
 Tells status.Done ending = ending ≡ Whole
 Tells (status.BadFrame at) ending =
-    (fault : FrameFault) × (ending ≡ Bad fault) × (at ≡ place_of fault)
+    (fault : FrameFault) × (ending ≡ Bad fault) × (at ≡ fault_place fault)
 Tells (status.Truncated at) ending = ending ≡ Short at
 Tells status.LongInput ending = (fault : FrameFault) → ending ≢ Bad fault
 Tells _ ending = ⊤
@@ -42,7 +42,7 @@ TruncatedSo at old new =
 -- no frame: the bytes taken end at a line at fault, whose message begins at this place
 abbrev pub BadFrameSo : ℕ → Option (List ℕ) → Option (List ℕ) → Type 0
 BadFrameSo at old new = (taken : List ℕ) × Consumes old new taken
-    × ((fault : FrameFault) × HasEnding taken (Bad fault) × (at ≡ place_of fault))
+    × ((fault : FrameFault) × HasEnding taken (Bad fault) × (at ≡ fault_place fault))
 
 -- as many bytes as the limit says were taken, none of their lines at fault, or fewer; a run may
 -- stop at the last of them too

@@ -4,7 +4,7 @@ ghost use Rattle.std.specs.Io.KnownBytes.{Consumes};
 ghost use Rattle.pide_base.specs.Faults.{Rose};
 ghost use Rattle.byte_message.specs.Feeding.{ending_of};
 ghost use Rattle.message_input.specs.Answers.{KeepsUp};
-ghost use Rattle.message_input.specs.Causes.{HasCause, place_of};
+ghost use Rattle.message_input.specs.Causes.{HasCause, fault_place};
 ghost use Rattle.message_input.specs.Inputs.{AnswersSo, IsAnswered, IsHalted, IsRead};
 ghost use Rattle.message_input.specs.Steps.{EndsWith, StepSo};
 
@@ -35,7 +35,7 @@ fn buffer(alloc: Global, len: usize) -> Result<Vec<u8>, AllocError>
 
 /// Where the message at fault begins.
 fn place_of(fault: FrameFault) -> u64
-    ensures { result ≡ place_of fault }
+    ensures { result ≡ fault_place fault }
 {
     match fault {
         FrameFault::BadHeader { at } => at,

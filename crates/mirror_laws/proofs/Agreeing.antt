@@ -10,7 +10,7 @@ use Rattle.text_words.proofs.KnownMembers.{has_both}
 use Rattle.report_markup.specs.declared.report.Report.{Report}
 use Rattle.report_markup.specs.Ranges.{moved}
 use Rattle.core_rules.specs.Shown.{PartShown}
-use Rattle.session_rules.specs.Shown.{placed}
+use Rattle.session_rules.specs.Shown.{placed_reports}
 use Rattle.mirror_rules.specs.Looking.{unfinished_executions}
 use Rattle.mirror_laws.proofs.Known.{Same, SameTold}
 
@@ -39,7 +39,7 @@ moved_same n xs ys same measure = sum_map xs ∙ same (λ r. measure (moved n r)
 
 -- both show the same reports and leave the same executions unfinished
 pub record Alike (as_ bs_ : List PartShown) : Type 0 where
-  pub reports : Same (flat_map placed as_) (flat_map placed bs_)
+  pub reports : Same (flat_map placed_reports as_) (flat_map placed_reports bs_)
   pub waits : (x : ℕ) → has (unfinished_executions as_) x ≡ has (unfinished_executions bs_) x
 
 pub none_alike : Alike [] []
@@ -57,9 +57,9 @@ unfinished_both (a ∷ as_) bs_ = go (is_none a.reports) (unfinished_both as_ bs
 
 pub both_alike : (as_ bs_ cs ds : List PartShown) → Alike as_ cs → Alike bs_ ds → Alike (as_ ++ bs_) (cs ++ ds)
 both_alike as_ bs_ cs ds p q = record {
-  reports = λ measure. ap (sum_by measure) (flat_map-append placed as_ bs_)
-      ∙ both_same (flat_map placed as_) (flat_map placed bs_) (flat_map placed cs) (flat_map placed ds) p.reports q.reports measure
-      ∙ ap (sum_by measure) (sym (flat_map-append placed cs ds));
+  reports = λ measure. ap (sum_by measure) (flat_map-append placed_reports as_ bs_)
+      ∙ both_same (flat_map placed_reports as_) (flat_map placed_reports bs_) (flat_map placed_reports cs) (flat_map placed_reports ds) p.reports q.reports measure
+      ∙ ap (sum_by measure) (sym (flat_map-append placed_reports cs ds));
   waits = λ x. ap (λ xs. has xs x) (unfinished_both as_ bs_) ∙ has_both (unfinished_executions as_) (unfinished_executions bs_) x
       ∙ ap (λ b. b || has (unfinished_executions bs_) x) (p.waits x) ∙ ap (λ b. has (unfinished_executions cs) x || b) (q.waits x)
       ∙ sym (has_both (unfinished_executions cs) (unfinished_executions ds) x) ∙ ap (λ xs. has xs x) (sym (unfinished_both cs ds));

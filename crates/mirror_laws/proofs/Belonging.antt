@@ -18,7 +18,7 @@ use Rattle.core_rules.specs.Placed.{RowOf}
 use Rattle.core_rules.specs.Ready.{is_part}
 use Rattle.core_rules.proofs.KnownNamedRows.{found_row, row_place}
 use Rattle.core_rules.proofs.KnownPlaces.{place_found}
-use Rattle.session_rules.specs.Shown.{told_in}
+use Rattle.session_rules.specs.Shown.{protocol_reports}
 use Rattle.mirror_rules.specs.Images.{Image}
 use Rattle.mirror_rules.specs.Replies.{live_with}
 use Rattle.mirror_rules.specs.Reports.{PartReport, belongs_in, belongs_to}
@@ -38,7 +38,7 @@ module _ {S : Type 0} (l : Lang S) (laws : Laws) (told : IsTold l) (h : List Eve
   report = record {
     protocol = protocol;
     part = part;
-    reports = told_in protocol (source_of d.homes part) (reports_told l d.homes part);
+    reports = protocol_reports protocol (source_of d.homes part) (reports_told l d.homes part);
   }
 
   pub belongs_there : (v : Version) (im : Image) → ImageOf l h d.homes v im → AllFromScratch l d v → assigns v part.exec ≡ true

@@ -14,7 +14,7 @@ use Rattle.session_rules.specs.declared.service.Service.TheVariants.{Script}
 use Rattle.session_rules.specs.Alone.{IsAlone}
 use Rattle.session_rules.specs.Heard.{all_heard, heard}
 use Rattle.session_rules.specs.Legal.{IsLegal}
-use Rattle.session_rules.specs.Replies.{told}
+use Rattle.session_rules.specs.Replies.{entry_replies}
 use Rattle.session_rules.specs.Services.{mode_of}
 use Rattle.mirror_rules.specs.Answers.{Read}
 use Rattle.mirror_rules.specs.Events.{MirrorEvent, stream}
@@ -48,7 +48,7 @@ module _ {S : Type 0} (l : Lang S) (service : Service) where
   told_both [] h = ([], sym (append-nil (all_replies l service h)))
   told_both (e ∷ a) h =
       let r = told_both a h in
-      let own = told l service (all_heard service (a ++ h)) (heard service e) in
+      let own = entry_replies l service (all_heard service (a ++ h)) (heard service e) in
       (r.0 ++ own, ap (λ ts. ts ++ own) r.1 ∙ append_assoc (all_replies l service h) r.0 own)
 
   told_least : (a h : List Entry) → length (all_replies l service h) ≤ length (all_replies l service (a ++ h))
@@ -62,14 +62,14 @@ module _ {S : Type 0} (l : Lang S) (service : Service) where
   some_told (t ∷ ts) some = omega arith
 
   -- backs that tell as much, and begin with what tells, are the same
-  same_back : (h older : List Entry) (e : Entry) → ((x : Entry) (rest : List Entry) → h ≡ x ∷ rest → 0 < length (told l service (all_heard service rest) (heard service x)))
-      → told l service (all_heard service older) (heard service e) ≢ [] → length (all_replies l service h) ≡ length (all_replies l service (e ∷ older))
+  same_back : (h older : List Entry) (e : Entry) → ((x : Entry) (rest : List Entry) → h ≡ x ∷ rest → 0 < length (entry_replies l service (all_heard service rest) (heard service x)))
+      → entry_replies l service (all_heard service older) (heard service e) ≢ [] → length (all_replies l service h) ≡ length (all_replies l service (e ∷ older))
       → ((x : List Entry) × (h ≡ x ++ e ∷ older)) ⊎ ((x : List Entry) × (e ∷ older ≡ x ++ h)) → h ≡ e ∷ older
   same_back h older e newest some count (inl ([], is)) = is
   same_back h older e newest some count (inl (x ∷ a, is)) =
       let tells = newest x (a ++ e ∷ older) is in
       let least = told_least a (e ∷ older) in
-      let both = length-append (all_replies l service (a ++ e ∷ older)) (told l service (all_heard service (a ++ e ∷ older)) (heard service x)) in
+      let both = length-append (all_replies l service (a ++ e ∷ older)) (entry_replies l service (all_heard service (a ++ e ∷ older)) (heard service x)) in
       let long : length (all_replies l service h) ≡ length (all_replies l service (x ∷ (a ++ e ∷ older))) = ap (λ hs. length (all_replies l service hs)) is in
       absurd (omega (arith, tells, least, both, long, count))
   same_back h older e newest some count (inr ([], is)) = sym is
@@ -77,8 +77,9 @@ module _ {S : Type 0} (l : Lang S) (service : Service) where
       let rest : older ≡ a ++ h = cc in
       let least = told_least a h in
       let long : length (all_replies l service older) ≡ length (all_replies l service (a ++ h)) = ap (λ hs. length (all_replies l service hs)) rest in
-      let tells = some_told (told l service (all_heard service older) (heard service e)) some in
-      let both = length-append (all_replies l service older) (told l service (all_heard service older) (heard service e)) in
+      let tells = some_told (entry_replies l service (all_heard service older) (heard service e))
+      some in
+      let both = length-append (all_replies l service older) (entry_replies l service (all_heard service older) (heard service e)) in
       absurd (omega (arith, least, long, tells, both, count))
 
   module _ (laws : StreamLaws) (law : MovesLaw) (history : List Entry) (events : List MirrorEvent) (moves : List Move)

@@ -13,7 +13,7 @@ use Rattle.reply_writing.specs.Replies.{reply_chunks}
 use Rattle.session_rules.specs.declared.entry.Entry.{Entry}
 use Rattle.session_rules.specs.declared.service.Service.{Service}
 use Rattle.session_rules.specs.Heard.{all_heard, heard}
-use Rattle.session_rules.specs.Replies.{bytes_of, replies, told}
+use Rattle.session_rules.specs.Replies.{bytes_of, replies, entry_replies}
 use Rattle.session_rules.specs.Services.{mode_of}
 use Rattle.mirror_rules.specs.Answers.{Read}
 use Rattle.mirror_rules.specs.Events.{AreHeard, AreMoves, MirrorEvent, Given, Fed, heard_moves, stream}
@@ -31,7 +31,7 @@ module _ {S : Type 0} (l : Lang S) (service : Service) where
   pub replies_are : (h : List Entry) → replies l service (all_heard service h) ≡ bytes_of (all_replies l service h)
   replies_are [] = refl
   replies_are (e ∷ h) =
-      let own = told l service (all_heard service h) (heard service e) in
+      let own = entry_replies l service (all_heard service h) (heard service e) in
       ap (λ bs. bs ++ bytes_of own) (replies_are h) ∙ sym (flat_map-append (λ t. plain_spelling (reply_chunks t)) (all_replies l service h) own)
 
   module _ (laws : StreamLaws) (history : List Entry) (all : AllByRecursion CanBeHeard (all_replies l service history)) where

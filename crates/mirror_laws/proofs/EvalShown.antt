@@ -21,7 +21,7 @@ use Rattle.core_rules.specs.Doc.{Doc}
 use Rattle.core_rules.specs.FromScratch.{IsFromScratch, assigned_to, head_in, input_at}
 use Rattle.core_rules.specs.Legal.{IsLegal}
 use Rattle.core_rules.specs.Shown.{PartShown, shown_with}
-use Rattle.core_rules.specs.Standing.{Standing, is_done, is_finished, is_free, standing}
+use Rattle.core_rules.specs.Standing.{Standing, is_done, is_finished, is_unclaimed, standing}
 use Rattle.mirror_laws.proofs.CoreParts.{shown_parts}
 use Rattle.mirror_laws.proofs.Facts.{Facts}
 use Rattle.mirror_laws.proofs.HomeSources.{eval_input, is_eval}
@@ -61,7 +61,7 @@ pub fork_waits : {S : Type 0} (l : Lang S) → Facts l → (h : List Event) → 
     → is_finished h (part kind.Eval exec) ≡ false → is_finished h (part kind.Fork exec) ≡ false
 fork_waits l facts h legal exec unfinished = go (is_finished h (part kind.Fork exec)) refl
   where
-    taken : (s : Standing) → is_done s ≡ true → is_free s ≡ false
+    taken : (s : Standing) → is_done s ≡ true → is_unclaimed s ≡ false
     taken Standing.Free is = absurd (cc)
     taken (Standing.Held w) is = absurd (cc)
     taken Standing.Done is = refl

@@ -12,13 +12,13 @@ use Rattle.core_rules.specs.declared.event.Event.{Event}
 use Rattle.core_rules.specs.declared.event.Event.TheVariants as event
 use Rattle.core_rules.specs.Assigned.{is_assigned}
 use Rattle.core_rules.specs.Parts.{same_part}
-use Rattle.core_rules.specs.Standing.{Standing, Free, Held, Done, standing, is_done, is_free, is_finished, held}
+use Rattle.core_rules.specs.Standing.{Standing, Free, Held, Done, standing, is_done, is_unclaimed, is_finished, held}
 use Rattle.core_rules.specs.Doc.{doc}
 use Rattle.core_rules.specs.Legal.{IsLegal}
 use Rattle.core_rules.specs.Ready.{IsFirst, has_inputs, is_part, is_wanted}
 use Rattle.core_rules.proofs.KnownParts.{part_is}
 use Rattle.session_rules.specs.Session.{Session, document, with_event}
-use Rattle.session_rules.specs.Shown.{told_in}
+use Rattle.session_rules.specs.Shown.{protocol_reports}
 use Rattle.mirror_rules.specs.Images.{Mirror}
 use Rattle.mirror_rules.specs.Replies.{live_with, after_report}
 use Rattle.mirror_rules.specs.Reports.{belongs_in, with_report}
@@ -40,19 +40,21 @@ module _ {S : Type 0} (l : Lang S) where
       → is_finished (event.Claimed who q ∷ h) p ≡ is_finished h p
   claimed_same h who q first p = go (same_part q p) refl
     where
-      free : is_free (standing h q) ≡ true
-      free = (and_parts (is_free (standing h q)) (has_inputs h (doc l h).homes q)
-          (and_parts (is_wanted (doc l h) q.exec) (is_free (standing h q) && has_inputs h (doc l h).homes q)
-          (and_parts (is_part l (doc l h).homes q) (is_wanted (doc l h) q.exec && (is_free (standing h q) && has_inputs h (doc l h).homes q)) first.ready).1).1).0
+      free : is_unclaimed (standing h q) ≡ true
+      free = (and_parts (is_unclaimed (standing h q)) (has_inputs h (doc l h).homes q)
+          (and_parts (is_wanted (doc l h) q.exec)
+          (is_unclaimed (standing h q) && has_inputs h (doc l h).homes q)
+          (and_parts (is_part l (doc l h).homes q) (is_wanted (doc l h) q.exec && (is_unclaimed (standing h q) && has_inputs h (doc l h).homes q)) first.ready).1).1).0
 
-      not_done : (s : Standing) → is_free s ≡ true → false ≡ is_done s
+      not_done : (s : Standing) → is_unclaimed s ≡ true → false ≡ is_done s
       not_done Free is = refl
       not_done (Held w) is = refl
       not_done Done is = absurd (cc)
 
       go : (b : Bool) → same_part q p ≡ b → is_done (if b then Held who else standing h p) ≡ is_done (standing h p)
       go false other = refl
-      go true same = not_done (standing h p) (ap (λ x. is_free (standing h x)) (sym (part_is q p same)) ∙ free)
+      go true same = not_done (standing h p)
+          (ap (λ x. is_unclaimed (standing h x)) (sym (part_is q p same)) ∙ free)
 
   -- nor was one that is let go
   pub dropped_same : (h : List Event) (who : ℕ) (q : Part) → standing h q ≡ Held who → (p : Part)
@@ -76,7 +78,8 @@ module _ {S : Type 0} (l : Lang S) where
 
     module _ (who : ℕ) (part : Part) (holds : held s.events who ≡ Some part) where
       abbrev pub reports : List Report
-      reports = told_in s.protocol (source_of (document l s).homes part) (reports_told l (document l s).homes part)
+      reports = protocol_reports s.protocol (source_of (document l s).homes part)
+          (reports_told l (document l s).homes part)
 
       real : is_part l (document l s).homes part ≡ true
       real = held_real l s.events who part legal holds

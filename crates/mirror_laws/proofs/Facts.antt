@@ -14,7 +14,7 @@ use Rattle.buffer_rules.specs.Sheets.{SheetList}
 use Rattle.language.specs.Lang.{Lang}
 use Rattle.core_rules.specs.declared.event.Event.{Event}
 use Rattle.core_rules.specs.Assigned.{assigns, is_assigned}
-use Rattle.core_rules.specs.Standing.{standing, Free, Held, held, is_free}
+use Rattle.core_rules.specs.Standing.{standing, Free, Held, held, is_unclaimed}
 use Rattle.core_rules.specs.Doc.{doc}
 use Rattle.core_rules.specs.Ready.{has_inputs}
 use Rattle.core_rules.specs.FromScratch.{AllFromScratch}
@@ -39,7 +39,7 @@ pub record Facts {S : Type 0} (l : Lang S) : Type 0 where
   pub tells : (h : List Event) (who : ℕ) (p : Part) → IsLegalList l h → (held h who ≡ Some p) ↔ (standing h p ≡ Held who)
   pub made : (h : List Event) (e : ℕ) → IsLegalList l h → is_assigned (doc l h).live e ≡ true → e ≤ length (doc l h).homes
   pub unmade : (h : List Event) (p : Part) → IsLegalList l h → length (doc l h).homes < p.exec → standing h p ≡ Free
-  pub begun : (h : List Event) (p : Part) → IsLegalList l h → is_free (standing h p) ≡ false → has_inputs h (doc l h).homes p ≡ true
+  pub begun : (h : List Event) (p : Part) → IsLegalList l h → is_unclaimed (standing h p) ≡ false → has_inputs h (doc l h).homes p ≡ true
   pub there : (v : Version) (name : List ℕ) (i e : ℕ) (row : Row) → slice_get (rows_in v name) i ≡ Some row
       → has (executions row) e ≡ true → assigns v e ≡ true
   pub kept : KeptLaw

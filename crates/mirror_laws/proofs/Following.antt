@@ -14,14 +14,14 @@ use Rattle.session_rules.specs.Alone.{IsAlone}
 use Rattle.session_rules.specs.Heard.{all_heard, heard}
 use Rattle.session_rules.specs.History.{session}
 use Rattle.session_rules.specs.Legal.{IsLegal}
-use Rattle.session_rules.specs.Replies.{told}
+use Rattle.session_rules.specs.Replies.{entry_replies}
 use Rattle.session_rules.specs.Services.{free_workers, mode_of}
 use Rattle.session_rules.specs.Session.{Session}
 use Rattle.session_rules.specs.Steps.{Nothing, Finishes, due}
 use Rattle.session_rules.proofs.KnownScript.{script_finishes}
 use Rattle.session_laws.proofs.KnownNamed.{AskedLaw, finishes_asked}
 use Rattle.mirror_rules.specs.Answers.{Read}
-use Rattle.mirror_rules.specs.Images.{Mirror, empty}
+use Rattle.mirror_rules.specs.Images.{Mirror, empty_mirror}
 use Rattle.mirror_laws.proofs.StartImage.{start_image}
 use Rattle.mirror_laws.proofs.MayEnd.{drops_so, finishes_so}
 use Rattle.mirror_rules.specs.Moves.{Move, Sent, Heard, Going, reflection_by, mirrored, next_reflection}
@@ -83,15 +83,15 @@ module _ {S : Type 0} (l : Lang S) (laws : Laws) (is_told : IsTold l) (facts : F
 
   begins : (sent : List Read) (moves : List Move) → moves ≡ sends sent [] → Reached [] sent moves
   begins sent moves is = record {
-    mirror = record empty { unanswered = sent };
-    going = ap (mirrored mode) is ∙ sent_waits mode sent [] empty refl;
+    mirror = record empty_mirror { unanswered = sent };
+    going = ap (mirrored mode) is ∙ sent_waits mode sent [] empty_mirror refl;
     is = record { buffer = refl; last = refl; protocol = refl; live = tt; tip = start_image l };
     waits = refl;
   }
 
   module _ (ahead h : List Entry) (before : List Read) (m : Mirror) (is : Mirrors l (at h) m) where
     abbrev Comes : Entry → Type 0
-    Comes e = Outcome l mode m (told l service (all_heard service h) (heard service e)) (at (e ∷ h)) (due l service (all_heard service (e ∷ h))) before
+    Comes e = Outcome l mode m (entry_replies l service (all_heard service h) (heard service e)) (at (e ∷ h)) (due l service (all_heard service (e ∷ h))) before
 
     -- an entry more
     entry_step : (e : Entry) → IsLegal l service (all_heard service (e ∷ h)) → AloneIn (ahead ++ e ∷ h) → AreFirst before (calls service ahead)
@@ -126,13 +126,13 @@ module _ {S : Type 0} (l : Lang S) (laws : Laws) (is_told : IsTold l) (facts : F
   follow ahead (e ∷ h) sent moves legal alone (before, after, older, newer, f, hears, is, split, first) =
       let r : Reached h (call_of service e ++ before) older = follow (ahead ++ e ∷ []) h (call_of service e ++ before) older legal.0
       (subst AloneIn (sym (append_assoc ahead (e ∷ []) h)) alone) f in
-      let o : Outcome l mode r.mirror (told l service (all_heard service h) (heard service e)) (at (e ∷ h)) (due l service (all_heard service (e ∷ h))) before =
+      let o : Outcome l mode r.mirror (entry_replies l service (all_heard service h) (heard service e)) (at (e ∷ h)) (due l service (all_heard service (e ∷ h))) before =
       entry_step ahead h before r.mirror r.is e legal alone
       (first_front before after (calls service ahead) (subst (λ rs. AreFirst rs (calls service ahead)) split first)) r.waits in
       record {
         mirror = record o.mirror { unanswered = o.mirror.unanswered ++ after };
         going = ap (mirrored mode) is ∙ sent_waits mode after newer o.mirror
-            (replies_heard mode (told l service (all_heard service h) (heard service e)) older newer r.mirror o.mirror hears o.hears r.going);
+            (replies_heard mode (entry_replies l service (all_heard service h) (heard service e)) older newer r.mirror o.mirror hears o.hears r.going);
         is = mirrors_other l (at (e ∷ h)) (at (e ∷ h)) o.mirror (record o.mirror { unanswered = o.mirror.unanswered ++ after }) o.is refl refl refl refl;
         waits = ap (λ rs. rs ++ after) o.waits ∙ append_assoc (step_called (due l service (all_heard service (e ∷ h)))) before after
             ∙ ap (λ rs. step_called (due l service (all_heard service (e ∷ h))) ++ rs) (sym split);

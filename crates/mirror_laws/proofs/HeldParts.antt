@@ -11,7 +11,7 @@ use Rattle.core_rules.specs.declared.event.Event.{Event}
 use Rattle.core_rules.specs.declared.event.Event.TheVariants as event
 use Rattle.core_rules.specs.Numbered.{numbered}
 use Rattle.core_rules.specs.Parts.{same_part, forks, kinds_by}
-use Rattle.core_rules.specs.Standing.{standing, is_free, held}
+use Rattle.core_rules.specs.Standing.{standing, is_unclaimed, held}
 use Rattle.core_rules.specs.Doc.{assignment_of, doc}
 use Rattle.core_rules.specs.Ready.{is_part, is_wanted, has_inputs}
 use Rattle.core_rules.specs.Legal.{IsLegal}
@@ -46,7 +46,7 @@ module _ {S : Type 0} (l : Lang S) where
   held_real (event.Claimed who q ∷ h) w p legal is = go (who == w) is (held_real h w p legal.0)
     where
       ready : is_part l (doc l h).homes q ≡ true
-      ready = (and_parts (is_part l (doc l h).homes q) (is_wanted (doc l h) q.exec && (is_free (standing h q) && has_inputs h (doc l h).homes q)) legal.1.2.ready).0
+      ready = (and_parts (is_part l (doc l h).homes q) (is_wanted (doc l h) q.exec && (is_unclaimed (standing h q) && has_inputs h (doc l h).homes q)) legal.1.2.ready).0
 
       go : (b : Bool) → (if b then Some q else held h w) ≡ Some p → (held h w ≡ Some p → is_part l (doc l h).homes p ≡ true)
           → is_part l (doc l h).homes p ≡ true

@@ -9,7 +9,7 @@ use Rattle.exec_rules.specs.declared.home.Input.TheVariants as input
 use Rattle.exec_rules.specs.declared.row.Row.{Row}
 use Rattle.language.specs.Lang.{Lang}
 use Rattle.core_rules.specs.Numbered.{numbered}
-use Rattle.core_rules.specs.Settings.{Setting, setting, setting_by, settings, taken_up, behind_among}
+use Rattle.core_rules.specs.Settings.{Setting, setting, setting_by, settings, taken_up_state, behind_among}
 use Rattle.core_rules.specs.FromScratch.{input_at}
 use Rattle.core_rules.proofs.KnownStays.{length_settings}
 
@@ -33,7 +33,8 @@ setting_source {S} l (x ∷ hs) e h s at works =
         → (numbered hs e ≡ Some h → setting l hs e ≡ Some s → s.source ≡ h.source) → s.source ≡ h.source
     go true at works rest =
         let same : x ≡ h = cc in
-        source_by l x s (taken_up l (behind_among l (settings l hs)) x.input) works ∙ ap (λ (y : Home). y.source) same
+        source_by l x s (taken_up_state l (behind_among l (settings l hs)) x.input) works ∙ ap
+        (λ (y : Home). y.source) same
     go false at works rest = rest at works
 
 -- an evaluation takes up no evaluation as a print does

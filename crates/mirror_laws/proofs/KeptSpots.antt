@@ -12,7 +12,7 @@ use Rattle.exec_rules.specs.declared.row.Assigned.{Assigned}
 use Rattle.exec_rules.specs.declared.row.Row.{Row}
 use Rattle.exec_rules.specs.declared.version.Version.{Version}
 use Rattle.exec_rules.specs.Keys.{same_key}
-use Rattle.exec_rules.specs.Kept.{Times, KeepsAt, kept, same_blob}
+use Rattle.exec_rules.specs.Kept.{Times, KeepsAt, kept_count, same_blob}
 use Rattle.exec_rules.specs.Rows.{live_print}
 use Rattle.exec_rules.specs.Assigning.{Update, assigned_in, entries_in, kept_of, rows_in, times}
 use Rattle.exec_rules.specs.Listed.{executions, print_list}
@@ -24,7 +24,7 @@ use Rattle.mirror_laws.proofs.Spots.{Spot}
 
 -- of the commands that keep their evaluations each can
 abbrev pub KeptLaw : Type 0
-KeptLaw = (times : Times) (now before : List Entry) (rows : List Row) (i : ℕ) → i < kept times now before rows → KeepsAt times now before rows i
+KeptLaw = (times : Times) (now before : List Entry) (rows : List Row) (i : ℕ) → i < kept_count times now before rows → KeepsAt times now before rows i
 
 -- the command that stood at the place
 pub record OldCommand (u : Update) (pair : List ℕ × Node) (i : ℕ) : Type 0 where
@@ -41,7 +41,7 @@ one_row o a b p q = cc
 pub old_command : KeptLaw → (u : Update) (pair : List ℕ × Node) (key : Key) (i : ℕ) → i < kept_of u pair key → OldCommand u pair i
 old_command law u pair key i lt = go (assigned_in u.tip pair.0) lt
   where
-    by : (old : Assigned) (b : Bool) → i < (if b then kept (times u) pair.1.entries (entries_in u.tip pair.0) old.rows else 0) → OldCommand u pair i
+    by : (old : Assigned) (b : Bool) → i < (if b then kept_count (times u) pair.1.entries (entries_in u.tip pair.0) old.rows else 0) → OldCommand u pair i
     by old false lt = absurd (omega (arith, lt))
     by old true lt =
         let k : KeepsAt (times u) pair.1.entries (entries_in u.tip pair.0) old.rows i = law (times u) pair.1.entries (entries_in u.tip pair.0) old.rows i lt in
@@ -55,7 +55,7 @@ old_command law u pair key i lt = go (assigned_in u.tip pair.0) lt
         }
 
     go : (o : Option Assigned) → i < option_map_or
-        (λ (old : Assigned). if same_key key old.key then kept (times u) pair.1.entries (entries_in u.tip pair.0) old.rows else 0) o 0 → OldCommand u pair i
+        (λ (old : Assigned). if same_key key old.key then kept_count (times u) pair.1.entries (entries_in u.tip pair.0) old.rows else 0) o 0 → OldCommand u pair i
     go None lt = absurd (omega (arith, lt))
     go (Some old) lt = by old (same_key key old.key) lt
 

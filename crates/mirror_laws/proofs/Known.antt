@@ -16,7 +16,7 @@ use Rattle.exec_rules.specs.declared.home.Home.{Home}
 use Rattle.exec_rules.specs.declared.row.Row.{Row}
 use Rattle.exec_rules.specs.declared.version.Version.{Version}
 use Rattle.exec_rules.specs.Assigning.{entries_at, entries_in, rows_in}
-use Rattle.exec_rules.specs.Listed.{executions, told, told_in}
+use Rattle.exec_rules.specs.Listed.{executions, told_commands, told_commands_in}
 use Rattle.language.specs.Lang.{Lang}
 use Rattle.core_rules.specs.declared.event.Event.{Event}
 use Rattle.core_rules.specs.Assigned.{command_ids}
@@ -59,7 +59,8 @@ module _ {S : Type 0} (l : Lang S) (h : List Event) (homes : List Home) where
   -- a version as the editor has it
   pub record ImageOf (v : Version) (im : Image) : Type 0 where
     pub nodes : im.nodes ≡ v.nodes
-    pub rows : im.rows ≡ map (λ (pair : List ℕ × Node). (pair.0, told_in v pair.0)) v.nodes
+    pub rows : im.rows ≡ map (λ (pair : List ℕ × Node). (pair.0, told_commands_in v pair.0))
+        v.nodes
     pub long : length v.assigned ≡ length v.nodes
     pub sorted : IsSorted in_order v.nodes
     pub differ : AllDiffer (command_ids v.nodes)
@@ -79,23 +80,25 @@ entries_named v p pair sorted at =
     ∙ ap (λ o. option_map_or (λ (x : List ℕ × Node). x.1.entries) o []) at
 
 -- what is told of a name, by its place
-told_none : (v : Version) (name : List ℕ) → place_of v.nodes name ≡ None → told_in v name ≡ []
-told_none v name none = ap (λ o. told (option_map_or (entries_at v.nodes) o []) (rows_in v name)) none
+told_none : (v : Version) (name : List ℕ) → place_of v.nodes name ≡ None
+    → told_commands_in v name ≡ []
+told_none v name none = ap (λ o. told_commands (option_map_or (entries_at v.nodes) o []) (rows_in
+    v name)) none
 
 -- the rows of a node in the image of a version
-pub rows_named : (v : Version) (im : Image) (name : List ℕ) → im.rows ≡ map (λ (pair : List ℕ × Node). (pair.0, told_in v pair.0)) v.nodes
-    → rows_of im name ≡ told_in v name
+pub rows_named : (v : Version) (im : Image) (name : List ℕ) → im.rows ≡ map (λ (pair : List ℕ × Node). (pair.0, told_commands_in v pair.0)) v.nodes
+    → rows_of im name ≡ told_commands_in v name
 rows_named v im name rows = go (place_of v.nodes name) refl
   where
-    go : (o : Option ℕ) → place_of v.nodes name ≡ o → rows_of im name ≡ told_in v name
+    go : (o : Option ℕ) → place_of v.nodes name ≡ o → rows_of im name ≡ told_commands_in v name
     go None is = ap (λ rs. option_map_or (λ (x : List (ℕ × List ℕ)). x) (found in_order name rs) []) rows
-        ∙ ap (λ o. option_map_or (λ (x : List (ℕ × List ℕ)). x) o []) (found_by (λ (pair : List ℕ × Node). told_in v pair.0) v.nodes name is) ∙ sym (told_none v name is)
+        ∙ ap (λ o. option_map_or (λ (x : List (ℕ × List ℕ)). x) o []) (found_by (λ (pair : List ℕ × Node). told_commands_in v pair.0) v.nodes name is) ∙ sym (told_none v name is)
     go (Some q) is =
         let f = place_found v.nodes name q is in
         ap (λ rs. option_map_or (λ (x : List (ℕ × List ℕ)). x) (found in_order name rs) []) rows
         ∙ ap (λ o. option_map_or (λ (x : List (ℕ × List ℕ)). x) o [])
-        (subst (λ n. found in_order n (map (λ (pair : List ℕ × Node). (pair.0, told_in v pair.0)) v.nodes) ≡ Some (told_in v n)) f.named
-        (found_at (λ (pair : List ℕ × Node). told_in v pair.0) v.nodes q f.pair (λ i other at same. ap (told_in v) same) f.stands))
+        (subst (λ n. found in_order n (map (λ (pair : List ℕ × Node). (pair.0, told_commands_in v pair.0)) v.nodes) ≡ Some (told_commands_in v n)) f.named
+        (found_at (λ (pair : List ℕ × Node). told_commands_in v pair.0) v.nodes q f.pair (λ i other at same. ap (told_commands_in v) same) f.stands))
 
 -- other events and executions leave it so
 pub image_on : {S : Type 0} (l : Lang S) (h after : List Event) (homes more : List Home) (v : Version) (im : Image)

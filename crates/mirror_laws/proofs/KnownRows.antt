@@ -13,7 +13,7 @@ use Rattle.doc_nodes.proofs.KnownPlaces.{place_named}
 use Rattle.exec_rules.specs.declared.row.Row.{Row}
 use Rattle.exec_rules.specs.declared.version.Version.{Version}
 use Rattle.exec_rules.specs.Assigning.{entries_in, rows_in}
-use Rattle.exec_rules.specs.Listed.{is_other, told, told_in}
+use Rattle.exec_rules.specs.Listed.{is_other, told_commands, told_commands_in}
 use Rattle.core_rules.proofs.KnownCommands.{ids}
 use Rattle.reply_writing.specs.declared.told.CommandRow.{CommandRow}
 use Rattle.session_rules.specs.Replies.{rows_told}
@@ -45,18 +45,19 @@ node_found nodes p pair sorted at =
         node (slice_get nodes p) other pair (ap (slice_get nodes) (sym e) ∙ there) at
 
 rows_known : (name xs : List ℕ) (es : List Entry) (rows : List Row) → ((i : ℕ) (e : Entry) → slice_get es i ≡ Some e → has xs e.command ≡ true)
-    → list_any (λ (r : CommandRow). not (has xs r.command)) (told_rows (name, told es rows)).rows ≡ false
+    → list_any (λ (r : CommandRow). not (has xs r.command))
+    (told_rows (name, told_commands es rows)).rows ≡ false
 rows_known name xs [] rows each = refl
 rows_known name xs (e ∷ es) [] each =
-    ap (λ b. not b || list_any (λ (r : CommandRow). not (has xs r.command)) (told_rows (name, told es [])).rows) (each zero e refl)
+    ap (λ b. not b || list_any (λ (r : CommandRow). not (has xs r.command)) (told_rows (name, told_commands es [])).rows) (each zero e refl)
     ∙ rows_known name xs es [] (λ i x at. each (suc i) x at)
 rows_known name xs (e ∷ es) (row ∷ rows) each =
-    ap (λ b. not b || list_any (λ (r : CommandRow). not (has xs r.command)) (told_rows (name, told es rows)).rows) (each zero e refl)
+    ap (λ b. not b || list_any (λ (r : CommandRow). not (has xs r.command)) (told_rows (name, told_commands es rows)).rows) (each zero e refl)
     ∙ rows_known name xs es rows (λ i x at. each (suc i) x at)
 
 module _ (tip new : Version) (sorted : IsSorted in_order new.nodes) where
   abbrev named : List ℕ × Node → List ℕ × List (ℕ × List ℕ)
-  named n = (n.0, told_in new n.0)
+  named n = (n.0, told_commands_in new n.0)
 
   known_at : (p : ℕ) (pair : List ℕ × Node) → slice_get new.nodes p ≡ Some pair → is_unknown new.nodes (told_rows (named pair)) ≡ false
   known_at p pair at =

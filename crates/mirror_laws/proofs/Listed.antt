@@ -8,7 +8,7 @@ use Rattle.doc_nodes.specs.Names.{equal}
 use Rattle.doc_nodes.specs.Imports.{NodeList}
 use Rattle.doc_nodes.proofs.KnownNames.{name_is, name_itself}
 use Rattle.exec_rules.specs.declared.version.Version.{Version}
-use Rattle.exec_rules.specs.Listed.{Told, told_in, same_by, same_told, is_other}
+use Rattle.exec_rules.specs.Listed.{Told, told_commands_in, same_by, same_told, is_other}
 use Rattle.reply_writing.specs.declared.told.NodeRows.{NodeRows}
 use Rattle.reply_writing.specs.declared.told.CommandRow.{CommandRow}
 use Rattle.session_rules.specs.Replies.{rows_told}
@@ -30,8 +30,8 @@ told_same x y is =
     ∙ ap (λ es. (y.0, es)) (same_list (λ e f. e == f) (λ a b. eqb-true a b) x.1 y.1 parts.1)
 
 -- a node that isn't listed is told as before
-pub not_listed : (tip : Version) (name : List ℕ) (rows : List Told) → is_other tip (name, rows) ≡ false → rows ≡ told_in tip name
-not_listed tip name rows is = same_list same_told told_same rows (told_in tip name) (so (same_by same_told rows (told_in tip name)) is)
+pub not_listed : (tip : Version) (name : List ℕ) (rows : List Told) → is_other tip (name, rows) ≡ false → rows ≡ told_commands_in tip name
+not_listed tip name rows is = same_list same_told told_same rows (told_commands_in tip name) (so (same_by same_told rows (told_commands_in tip name)) is)
   where
     so : (b : Bool) → not b ≡ false → b ≡ true
     so true e = refl
@@ -47,7 +47,7 @@ rows_back (r ∷ rows) = ap (λ rs. r ∷ rs) (rows_back rows)
 
 module _ (tip new : Version) (pair : List ℕ × Node) where
   abbrev pub named : List ℕ × Node → List ℕ × List Told
-  named n = (n.0, told_in new n.0)
+  named n = (n.0, told_commands_in new n.0)
 
   abbrev found : NodeList → Option NodeRows
   found ns = find (λ (n : NodeRows). equal n.node pair.0) (map told_rows (filter (is_other tip) (map named ns)))
@@ -57,7 +57,7 @@ module _ (tip new : Version) (pair : List ℕ × Node) where
       (map told_rows (cond c (named n ∷ filter (is_other tip) (map named ns)) (filter (is_other tip) (map named ns))))
 
   same_name : (n : List ℕ × Node) → equal n.0 pair.0 ≡ true → named n ≡ named pair
-  same_name n is = ap (λ x. (x, told_in new x)) (name_is n.0 pair.0 is)
+  same_name n is = ap (λ x. (x, told_commands_in new x)) (name_is n.0 pair.0 is)
 
   found_none : (ns : NodeList) → is_other tip (named pair) ≡ false → found ns ≡ None
   found_none [] kept = refl
@@ -89,9 +89,9 @@ module _ (tip new : Version) (pair : List ℕ × Node) where
 
   -- what is listed of a node is what is told of it
   pub listed_some : (q : ℕ) → slice_get new.nodes q ≡ Some pair → is_other tip (named pair) ≡ true
-      → listed_for (rows_told tip new) pair.0 ≡ Some (told_in new pair.0)
+      → listed_for (rows_told tip new) pair.0 ≡ Some (told_commands_in new pair.0)
   listed_some q at changed = ap (option_map (λ (n : NodeRows). map (λ (r : CommandRow). (r.command, r.executions)) n.rows)) (found_some new.nodes q at changed)
-      ∙ ap (λ rs. Some rs) (rows_back (told_in new pair.0))
+      ∙ ap (λ rs. Some rs) (rows_back (told_commands_in new pair.0))
 
   pub listed_none : is_other tip (named pair) ≡ false → listed_for (rows_told tip new) pair.0 ≡ None
   listed_none kept = ap (option_map (λ (n : NodeRows). map (λ (r : CommandRow). (r.command, r.executions)) n.rows)) (found_none new.nodes kept)

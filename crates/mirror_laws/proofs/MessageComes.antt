@@ -13,7 +13,7 @@ use Rattle.session_rules.specs.Accepting.{accepted}
 use Rattle.session_rules.specs.Heard.{Heard, Message}
 use Rattle.session_rules.specs.History.{session}
 use Rattle.session_rules.specs.Legal.{IsLegal}
-use Rattle.session_rules.specs.Replies.{or_refusal, told, told_of}
+use Rattle.session_rules.specs.Replies.{or_refusal, entry_replies, message_replies}
 use Rattle.session_rules.specs.Session.{Session, answered}
 use Rattle.session_rules.specs.Steps.{Nothing, called_for, due, due_by}
 use Rattle.mirror_rules.specs.Answers.{Read}
@@ -30,7 +30,7 @@ module _ {S : Type 0} (l : Lang S) (facts : Facts l) (mode : Mode) (service : Se
   s = session l service h
 
   abbrev Comes : Read → Type 0
-  Comes read = Outcome l mode m (told l service h (Message read)) (session l service (Message read ∷ h)) (due l service (Message read ∷ h)) more
+  Comes read = Outcome l mode m (entry_replies l service h (Message read)) (session l service (Message read ∷ h)) (due l service (Message read ∷ h)) more
 
   taken_outcome : (msg : EditorMessage) (after : Session) → IsLegal l service (Message (Ok msg) ∷ h) → m.unanswered ≡ Ok msg ∷ more
       → accepted l service s msg ≡ Ok after → Accepted l facts mode m more service s msg after
@@ -52,11 +52,11 @@ module _ {S : Type 0} (l : Lang S) (facts : Facts l) (mode : Mode) (service : Se
   message_step (Ok msg) legal waits = go (accepted l service s msg) refl
     where
       go : (r : Result Session Refusal) → accepted l service s msg ≡ r → Comes (Ok msg)
-      go (Err reason) e = outcome_of l mode m (tells.Refused reason ∷ []) (told l service h (Message (Ok msg))) (record s { called = true })
+      go (Err reason) e = outcome_of l mode m (tells.Refused reason ∷ []) (entry_replies l service h (Message (Ok msg))) (record s { called = true })
           (session l service (Message (Ok msg) ∷ h)) Nothing (due l service (Message (Ok msg) ∷ h)) more
-          (ap (λ r. or_refusal (r >>= λ after. told_of l service s after msg)) e) (ap (answered s) e) (ap (λ r. due_by r (called_for msg)) e)
+          (ap (λ r. or_refusal (r >>= λ after. message_replies l service s after msg)) e) (ap (answered s) e) (ap (λ r. due_by r (called_for msg)) e)
           (refused l facts mode m more service s is (Ok msg) reason waits)
-      go (Ok after) e = outcome_of l mode m (or_refusal (told_of l service s after msg)) (told l service h (Message (Ok msg))) (record after { called = true })
+      go (Ok after) e = outcome_of l mode m (or_refusal (message_replies l service s after msg)) (entry_replies l service h (Message (Ok msg))) (record after { called = true })
           (session l service (Message (Ok msg) ∷ h)) (called_for msg) (due l service (Message (Ok msg) ∷ h)) more
-          (ap (λ r. or_refusal (r >>= λ after. told_of l service s after msg)) e) (ap (answered s) e) (ap (λ r. due_by r (called_for msg)) e)
+          (ap (λ r. or_refusal (r >>= λ after. message_replies l service s after msg)) e) (ap (answered s) e) (ap (λ r. due_by r (called_for msg)) e)
           (taken_outcome msg after legal waits e)

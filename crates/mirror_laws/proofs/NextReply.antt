@@ -7,7 +7,7 @@ use Rattle.session_rules.specs.declared.entry.Entry.{Entry}
 use Rattle.session_rules.specs.declared.entry.Entry.TheVariants as entry
 use Rattle.session_rules.specs.declared.service.Service.{Service}
 use Rattle.session_rules.specs.Heard.{all_heard, heard}
-use Rattle.session_rules.specs.Replies.{told}
+use Rattle.session_rules.specs.Replies.{entry_replies}
 use Rattle.mirror_rules.specs.Answers.{Read}
 use Rattle.mirror_rules.specs.Moves.{Move, Heard}
 use Rattle.mirror_laws.specs.Follows.{AreHeard, Follows, call_of, calls}
@@ -21,7 +21,7 @@ module _ {S : Type 0} (l : Lang S) (service : Service) where
   told_front [] h = ([], sym (append-nil (all_replies l service h)))
   told_front (e ∷ next) h =
       let r = told_front next (e ∷ h) in
-      let own = told l service (all_heard service h) (heard service e) in
+      let own = entry_replies l service (all_heard service h) (heard service e) in
       (own ++ r.0, r.1 ∙ append_assoc (all_replies l service h) own r.0)
 
   -- so many replies are whole, and no call is unsent before the last of them
@@ -39,7 +39,7 @@ module _ {S : Type 0} (l : Lang S) (service : Service) where
         let both = length-append ts (t ∷ rest) in
         absurd (omega (arith, long, both))
     walk (e ∷ next) h sent is follows reads_are so =
-        go (told l service (all_heard service h) (heard service e)) refl (one_told l service (all_heard service h) (heard service e))
+        go (entry_replies l service (all_heard service h) (heard service e)) refl (one_told l service (all_heard service h) (heard service e))
         (λ more_sent f r s. walk next (e ∷ h) more_sent is f r s)
       where
         some : (chunks : List (List ℕ)) → e ≡ entry.Call chunks → 0 < length sent
@@ -62,10 +62,10 @@ module _ {S : Type 0} (l : Lang S) (service : Service) where
         sent_on : reads ≡ calls service (e ∷ h) ++ c.more
         sent_on = reads_are ∙ ap (λ rs. calls service h ++ rs) c.split ∙ sym (append_assoc (calls service h) (call_of service e) c.more)
 
-        told_on : (own : List Told) → told l service (all_heard service h) (heard service e) ≡ own → all_replies l service (e ∷ h) ≡ ts ++ own
-        told_on own own_is = ap (λ us. us ++ told l service (all_heard service h) (heard service e)) so ∙ ap (λ us. ts ++ us) own_is
+        told_on : (own : List Told) → entry_replies l service (all_heard service h) (heard service e) ≡ own → all_replies l service (e ∷ h) ≡ ts ++ own
+        told_on own own_is = ap (λ us. us ++ entry_replies l service (all_heard service h) (heard service e)) so ∙ ap (λ us. ts ++ us) own_is
 
-        go : (own : List Told) → told l service (all_heard service h) (heard service e) ≡ own → AtMostOne (told l service (all_heard service h) (heard service e))
+        go : (own : List Told) → entry_replies l service (all_heard service h) (heard service e) ≡ own → AtMostOne (entry_replies l service (all_heard service h) (heard service e))
             → ((more_sent : List Read) → Follows l service (ahead_of next) (e ∷ h) more_sent moves → reads ≡ calls service (e ∷ h) ++ more_sent
             → all_replies l service (e ∷ h) ≡ ts → StandsAt l service history reads (ts ++ t ∷ []) (Heard at (Some t) ∷ moves))
             → StandsAt l service history reads (ts ++ t ∷ []) (Heard at (Some t) ∷ moves)
@@ -73,7 +73,7 @@ module _ {S : Type 0} (l : Lang S) (service : Service) where
             (follows_entry l service (ahead_of next) h e c.more moves moves begins (subst (λ us. AreHeard us moves moves) (sym own_is) refl) c.first)
             sent_on (told_on [] own_is ∙ append-nil ts)
         go (u ∷ v ∷ own) own_is one on =
-            let long : length (told l service (all_heard service h) (heard service e)) ≡ length (u ∷ v ∷ own) = ap length own_is in
+            let long : length (entry_replies l service (all_heard service h) (heard service e)) ≡ length (u ∷ v ∷ own) = ap length own_is in
             absurd (omega (arith, long, one))
         go (u ∷ []) own_is one on =
             let front = told_front next (e ∷ h) in
@@ -94,9 +94,10 @@ module _ {S : Type 0} (l : Lang S) (service : Service) where
             }
           where
             newest_told : (x : Entry) (older : List Entry) → e ∷ h ≡ x ∷ older
-                → length (told l service (all_heard service h) (heard service e)) ≡ 1 → 0 < length (told l service (all_heard service older) (heard service x))
+                → length (entry_replies l service (all_heard service h) (heard service e)) ≡ 1 → 0 < length (entry_replies l service (all_heard service older) (heard service x))
             newest_told x older is_it long =
                 let first : e ≡ x = cc in
                 let tail : h ≡ older = cc in
-                subst (λ y. 0 < length (told l service (all_heard service older) (heard service y))) first
-                (subst (λ hs. 0 < length (told l service (all_heard service hs) (heard service e))) tail (omega (arith, long)))
+                subst (λ y. 0 < length (entry_replies l service (all_heard service older) (heard
+                service y))) first
+                (subst (λ hs. 0 < length (entry_replies l service (all_heard service hs) (heard service e))) tail (omega (arith, long)))

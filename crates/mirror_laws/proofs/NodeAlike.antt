@@ -7,7 +7,7 @@ use Rattle.std.specs.List.{list_any, range_with_len}
 use Rattle.text_words.specs.Members.{has}
 use Rattle.text_edits.specs.declared.edit.Edit.{Edit}
 use Rattle.report_markup.specs.declared.report.Report.{Report}
-use Rattle.report_markup.specs.Sorting.{in_order}
+use Rattle.report_markup.specs.Sorting.{ordered_reports}
 use Rattle.snapshots.specs.Converted.{at_range, left_by, left_range}
 use Rattle.doc_nodes.specs.declared.node.Entry.{Entry}
 use Rattle.doc_nodes.specs.declared.node.Node.{Node}
@@ -29,7 +29,7 @@ use Rattle.core_rules.specs.Standing.{is_finished, is_open}
 use Rattle.core_rules.specs.Updates.{source_in}
 use Rattle.core_rules.proofs.KnownNumbers.{numbered_past}
 use Rattle.session_rules.specs.Replies.{is_outdated}
-use Rattle.session_rules.specs.Shown.{placed, shown}
+use Rattle.session_rules.specs.Shown.{placed_reports, finished_reports}
 use Rattle.mirror_rules.specs.Images.{Image}
 use Rattle.mirror_rules.specs.Looking.{View, unfinished_executions, view_of}
 use Rattle.mirror_rules.specs.Parts.{aliases_for, command_parts, node_parts, parts_from}
@@ -47,8 +47,8 @@ use Rattle.mirror_laws.proofs.Rows.{row_list}
 use Rattle.mirror_laws.proofs.Spots.{executions_at}
 
 -- the same reports are put in the same order
-one_order : Laws → (xs ys : List Report) → Same xs ys → in_order xs ≡ in_order ys
-one_order laws xs ys same = (laws.order ys).1 (in_order xs)
+one_order : Laws → (xs ys : List Report) → Same xs ys → ordered_reports xs ≡ ordered_reports ys
+one_order laws xs ys same = (laws.order ys).1 (ordered_reports xs)
     (record { same = λ measure. (laws.order xs).0.same measure ∙ same measure; sorted = (laws.order xs).0.sorted })
 
 one_view : (a b c d : _) (x : Bool) → a ≡ b → c ≡ d → ◌≡◌ {A = View} (record { reports = a; pending = c; outdated = x }) (record { reports = b; pending = d; outdated = x })
@@ -141,13 +141,15 @@ module _ {S : Type 0} (l : Lang S) (laws : Laws) (is_told : IsTold l) (facts : F
   -- what is seen of the node is what is shown and pending of it
   pub node_seen : (edits : List Edit) → parts_shown l h (doc l h) v pair.0 ≡ scratch_shown l h v pair.0
       → view_of (node_parts im p) edits
-      ≡ record { reports = shown l h v pair.0 edits; pending = pending l h (doc l h) v pair.0; outdated = is_outdated edits }
+      ≡ record { reports = finished_reports l h v pair.0 edits; pending = pending l h (doc l h) v pair.0; outdated = is_outdated edits }
   node_seen edits scratched =
       ap (λ o. view_of (option_map_or (λ (x : List ℕ × Node). parts_from im p x 0 x.1.entries) o []) edits)
       (ap (λ ns. slice_get ns p) is.nodes ∙ stands)
-      ∙ one_view (in_order (left_by edits (flat_map placed parts))) (shown l h v pair.0 edits) _ (pending l h (doc l h) v pair.0) (is_outdated edits)
-      (one_order laws (left_by edits (flat_map placed parts)) (left_by edits (flat_map placed core))
-      (flat_same (λ r. at_range r (left_range edits r.range)) (flat_map placed parts) (flat_map placed core) alike.reports)
-      ∙ ap (λ es. in_order (left_by edits (flat_map placed (commands_parts l h (doc l h).homes es (rows_in v pair.0)))))
+      ∙ one_view (ordered_reports (left_by edits (flat_map placed_reports parts))) (finished_reports l h v pair.0 edits) _ (pending l h (doc l h) v pair.0) (is_outdated edits)
+      (one_order laws (left_by edits (flat_map placed_reports parts))
+      (left_by edits (flat_map placed_reports core))
+      (flat_same (λ r. at_range r (left_range edits r.range)) (flat_map placed_reports parts) (flat_map placed_reports core) alike.reports)
+      ∙ ap (λ es. ordered_reports (left_by edits (flat_map placed_reports (commands_parts l h (doc l h).homes es (rows_in v pair.0)))))
       (sym (entries_named v p pair is.sorted stands))
-      ∙ ap (λ ps. in_order (left_by edits (flat_map placed ps))) scratched) pending_same
+      ∙ ap (λ ps. ordered_reports (left_by edits (flat_map placed_reports ps))) scratched)
+      pending_same

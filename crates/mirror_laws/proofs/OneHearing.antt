@@ -1,7 +1,7 @@
 -- Bytes are heard in one way.
 use Rattle.std.proofs.Common.{◌≡◌, ◌⊎◌, inl, inr, ℕ, List, [], ◌∷◌, ◌++◌, length, Option, Some, None, refl, ap, sym, subst, ◌∙◌, append_assoc, append-nil}
 use Rattle.std.proofs.lemmas.List.{append_cancel_left}
-use Rattle.byte_message.specs.Stream.{AreSpelled, Ending, EndsAs, IsReadAs, placed, told}
+use Rattle.byte_message.specs.Stream.{AreSpelled, Ending, EndsAs, IsReadAs, placed_fault, told_place}
 use Rattle.byte_message.specs.Stream.Ending.{Whole, Bad, Short}
 use Rattle.byte_message.proofs.KnownSpelled.{spelled-append}
 use Rattle.reply_writing.specs.declared.told.Told.{Told}
@@ -22,8 +22,8 @@ pub record HearingLaws : Type 0 where
 later : (place : ℕ) (rest : List ℕ) (from : ℕ) (ending : Ending) → EndsAs from rest ending
     → (end : Ending) × EndsAs place rest end × (end ≡ Whole → ending ≡ Whole)
 later place rest from Whole ends = (Whole, ends, λ e. refl)
-later place rest from (Bad fault) (wrong, bad, is) = (Bad (placed (told place) wrong), (wrong, bad, refl), λ e. absurd (let no_end : ⊥ = cc in no_end))
-later place rest from (Short at) (some, short, is) = (Short (told place), (some, short, refl), λ e. absurd (let no_end : ⊥ = cc in no_end))
+later place rest from (Bad fault) (wrong, bad, is) = (Bad (placed_fault (told_place place) wrong), (wrong, bad, refl), λ e. absurd (let no_end : ⊥ = cc in no_end))
+later place rest from (Short at) (some, short, is) = (Short (told_place place), (some, short, refl), λ e. absurd (let no_end : ⊥ = cc in no_end))
 
 fronts : (a b r s : List ℕ) → a ++ r ≡ b ++ s → ((d : List ℕ) × (b ≡ a ++ d)) ⊎ ((d : List ℕ) × (a ≡ b ++ d))
 fronts [] b r s e = inl (b, refl)

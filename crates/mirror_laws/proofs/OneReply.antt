@@ -12,7 +12,7 @@ use Rattle.session_rules.specs.Accepting.{accepted}
 use Rattle.session_rules.specs.Heard.{Heard, Message, Claimed, Finished, Dropped, Ended}
 use Rattle.session_rules.specs.History.{session}
 use Rattle.session_rules.specs.Looking.{Looked, looked_at, settles}
-use Rattle.session_rules.specs.Replies.{claim_told, or_refusal, told, told_of}
+use Rattle.session_rules.specs.Replies.{claim_told, or_refusal, entry_replies, message_replies}
 use Rattle.session_rules.specs.Session.{Session}
 use Rattle.session_rules.specs.Steps.{Due, Nothing, Claims, Finishes, due}
 
@@ -21,7 +21,8 @@ abbrev pub AtMostOne : List Told → Type 0
 AtMostOne ts = length ts ≤ 1
 
 module _ {S : Type 0} (l : Lang S) (service : Service) where
-  accepted_one : (s after : Session) (msg : EditorMessage) → AtMostOne (or_refusal (told_of l service s after msg))
+  accepted_one : (s after : Session) (msg : EditorMessage)
+      → AtMostOne (or_refusal (message_replies l service s after msg))
   accepted_one s after (asks.Update version items blobs) = omega arith
   accepted_one s after (asks.Snapshot version node edits) = go (looked_at l s version node edits) _
     where
@@ -41,11 +42,11 @@ module _ {S : Type 0} (l : Lang S) (service : Service) where
   accepted_one s after (asks.Theory node text) = omega arith
 
   -- so of each entry
-  pub one_told : (h : List Heard) (e : Heard) → AtMostOne (told l service h e)
+  pub one_told : (h : List Heard) (e : Heard) → AtMostOne (entry_replies l service h e)
   one_told h (Message (Err reason)) = omega arith
   one_told h (Message (Ok msg)) = go (accepted l service (session l service h) msg)
     where
-      go : (r : Result Session Refusal) → AtMostOne (or_refusal (r >>= λ after. told_of l service (session l service h) after msg))
+      go : (r : Result Session Refusal) → AtMostOne (or_refusal (r >>= λ after. message_replies l service (session l service h) after msg))
       go (Ok after) = accepted_one (session l service h) after msg
       go (Err reason) = omega arith
   one_told h (Claimed who part) = go (due l service h)

@@ -1,7 +1,7 @@
 -- What a front of a history's replies is read as.
 use Rattle.std.proofs.Common.{◌≡◌, ◌⊎◌, inl, inr, ℕ, List, [], ◌∷◌, ◌++◌, length, map, Option, Some, refl, ap, sym, subst, ◌∙◌, append_assoc, append-nil, arith}
 use Rattle.std.specs.List.{AllByRecursion}
-use Rattle.byte_message.specs.Stream.{AreSpelled, Ending, EndsAs, IsMessage, IsReadAs, IsShort, IsSpelling, plain_spelling, told}
+use Rattle.byte_message.specs.Stream.{AreSpelled, Ending, EndsAs, IsMessage, IsReadAs, IsShort, IsSpelling, plain_spelling, told_place}
 use Rattle.byte_message.specs.Stream.Ending.{Whole, Bad, Short}
 use Rattle.byte_message.specs.declared.frame_fault.FrameFault.{FrameFault}
 use Rattle.reply_writing.specs.declared.told.Told.{Told}
@@ -79,7 +79,7 @@ spelled_moves bytes (Heard at reply ∷ moves) (before, front, message, split, i
 
 abbrev pub ends_short : (place : ℕ) (rest : List ℕ) → IsShort rest → (ending : Ending) × EndsAs place rest ending
 ends_short place [] short = (Whole, refl)
-ends_short place (b ∷ rest) short = (Short (told place), (omega arith, short, refl))
+ends_short place (b ∷ rest) short = (Short (told_place place), (omega arith, short, refl))
 
 -- what is heard is what is read, or the stream is at fault
 pub heard_read : (bytes : List ℕ) (moves : List Move) → events.AreHeard bytes moves

@@ -28,7 +28,7 @@ use Rattle.core_rules.specs.FromScratch.{AllFromScratch, IsFromScratch, PrintIs,
 use Rattle.core_rules.specs.Ready.{is_part}
 use Rattle.core_rules.specs.Updates.{source_in}
 use Rattle.symbol_markup.specs.Places.{StandsOnSymbols}
-use Rattle.session_rules.specs.Shown.{told_in}
+use Rattle.session_rules.specs.Shown.{protocol_reports}
 use Rattle.mirror_rules.specs.Images.{Image}
 use Rattle.mirror_rules.specs.Reports.{PartReport, belongs_to, finished_at, in_scalars, lies_in}
 use Rattle.mirror_rules.specs.Rows.{executions_of, rows_of}
@@ -58,7 +58,7 @@ module _ {S : Type 0} (l : Lang S) (laws : Laws) (told : IsTold l) (h : List Eve
   tell = record {
     protocol = protocol;
     part = part;
-    reports = told_in protocol (source_of d.homes part) (reports_told l d.homes part);
+    reports = protocol_reports protocol (source_of d.homes part) (reports_told l d.homes part);
   }
 
   module _ (name : List ℕ) (i : ℕ) (e : Entry) (row : Row) (s : Spot v name i e row) (among : has (executions row) part.exec ≡ true) where
@@ -110,8 +110,8 @@ module _ {S : Type 0} (l : Lang S) (laws : Laws) (told : IsTold l) (h : List Eve
     reports_are : reports_told l d.homes part ≡ facts.reports
     reports_are = ap (λ o. option_map_or (λ (rs : List Report). rs) o []) facts.are
 
-    told_is : tell.reports ≡ told_in protocol text facts.reports
-    told_is = ap (λ t. told_in protocol t (reports_told l d.homes part)) source_is ∙ ap (told_in protocol text) reports_are
+    told_is : tell.reports ≡ protocol_reports protocol text facts.reports
+    told_is = ap (λ t. protocol_reports protocol t (reports_told l d.homes part)) source_is ∙ ap (protocol_reports protocol text) reports_are
 
     -- the report belongs to the command
     pub belongs : slice_get (rows_in v name) i ≡ Some row → belongs_to tell s.pair.1 (rows_of im s.pair.0) e ≡ true

@@ -22,7 +22,7 @@ use Rattle.core_rules.proofs.KnownPlaces.{FoundAt, place_found}
 use Rattle.session_rules.specs.Looking.{Looked}
 use Rattle.session_rules.specs.Replies.{is_outdated}
 use Rattle.session_rules.specs.Session.{Session, document}
-use Rattle.session_rules.specs.Shown.{shown}
+use Rattle.session_rules.specs.Shown.{finished_reports}
 use Rattle.mirror_rules.specs.Images.{Image, Mirror}
 use Rattle.mirror_rules.specs.Looking.{View, view_in, text_at, view_of}
 use Rattle.mirror_rules.specs.Parts.{node_parts}
@@ -54,7 +54,7 @@ module _ {S : Type 0} (l : Lang S) (laws : Laws) (is_told : IsTold l) (facts : F
     (is : Mirrors l s m) (name : List ℕ) (edits : List Edit) where
   abbrev View_of : Version → View
   View_of v = record {
-    reports = shown l s.events v name edits;
+    reports = finished_reports l s.events v name edits;
     pending = pending l s.events (document l s) v name;
     outdated = is_outdated edits;
   }
@@ -89,7 +89,7 @@ module _ {S : Type 0} (l : Lang S) (laws : Laws) (is_told : IsTold l) (facts : F
         where
           viewed : (f : FoundAt v.nodes name p) → view_of (node_parts im p) edits ≡ View_of v
           viewed f = subst (λ n. view_of (node_parts im p) edits ≡ record {
-            reports = shown l s.events v n edits;
+            reports = finished_reports l s.events v n edits;
             pending = pending l s.events (document l s) v n;
             outdated = is_outdated edits;
           }) f.named

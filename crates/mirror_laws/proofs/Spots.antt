@@ -10,7 +10,7 @@ use Rattle.core_rules.specs.Assigned.{command_ids}
 use Rattle.exec_rules.specs.declared.row.Row.{Row}
 use Rattle.exec_rules.specs.declared.version.Version.{Version}
 use Rattle.exec_rules.specs.Assigning.{entries_in, rows_in}
-use Rattle.exec_rules.specs.Listed.{executions, told_in}
+use Rattle.exec_rules.specs.Listed.{executions, told_commands_in}
 use Rattle.language.specs.Lang.{Lang}
 use Rattle.core_rules.specs.declared.event.Event.{Event}
 use Rattle.exec_rules.specs.declared.home.Home.{Home}
@@ -50,7 +50,7 @@ spot v sorted name i e row here at =
 -- what is told of a command, by its row
 pub told_at : (v : Version) → IsSorted in_order v.nodes → AllDiffer (command_ids v.nodes) → (name : List ℕ) (p i : ℕ)
     (pair : List ℕ × Node) (e : Entry) → slice_get v.nodes p ≡ Some pair → pair.0 ≡ name → slice_get pair.1.entries i ≡ Some e
-    → executions_of (told_in v name) e.command ≡ row_list (slice_get (rows_in v name) i)
+    → executions_of (told_commands_in v name) e.command ≡ row_list (slice_get (rows_in v name) i)
 told_at v sorted differ name p i pair e stands named entry =
     let same : entries_in v name ≡ pair.1.entries = ap (entries_in v) (sym named) ∙ entries_named v p pair sorted stands in
     told_row (entries_in v name) (rows_in v name) i e

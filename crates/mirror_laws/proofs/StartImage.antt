@@ -1,11 +1,11 @@
 -- Before any update an editor has the version that there is then.
 use Rattle.std.proofs.Common.{[], refl}
 use Rattle.language.specs.Lang.{Lang}
-use Rattle.core_rules.specs.Doc.{start}
-use Rattle.mirror_rules.specs.Images.{start as mirror_start}
+use Rattle.core_rules.specs.Doc.{start_version}
+use Rattle.mirror_rules.specs.Images.{start_image as mirror_start}
 use Rattle.mirror_laws.proofs.Known.{ImageOf}
 
-pub start_image : {S : Type 0} (l : Lang S) → ImageOf l [] [] start mirror_start
+pub start_image : {S : Type 0} (l : Lang S) → ImageOf l [] [] start_version mirror_start
 start_image l = record {
   nodes = refl;
   rows = refl;

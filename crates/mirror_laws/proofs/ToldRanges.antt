@@ -5,14 +5,14 @@ use Rattle.std.specs.List.{AllByRecursion, list_all, sum_by}
 use Rattle.std.proofs.lemmas.Bool.{and_from}
 use Rattle.std.proofs.lemmas.List.Folds.{sum_by-zero}
 use Rattle.report_markup.specs.declared.report.Report.{Report}
-use Rattle.report_markup.specs.Sorting.{in_order}
+use Rattle.report_markup.specs.Sorting.{ordered_reports}
 use Rattle.language.specs.Laws.{LiesIn}
 use Rattle.message_values.specs.declared.protocol.Protocol.{Protocol}
 use Rattle.message_values.specs.declared.protocol.Protocol.TheVariants.{Scalars, Symbols}
 use Rattle.symbols.specs.Symbols.{symbols_of}
 use Rattle.symbol_markup.specs.Places.{StandsOnSymbols, symbol_place}
 use Rattle.symbol_markup.specs.Told.{at_symbols, is_filled}
-use Rattle.session_rules.specs.Shown.{told_in}
+use Rattle.session_rules.specs.Shown.{protocol_reports}
 use Rattle.mirror_rules.specs.Reports.{in_scalars, lies_in}
 use Rattle.mirror_laws.proofs.Known.{Same}
 use Rattle.mirror_laws.proofs.ReportLaws.{Laws}
@@ -73,16 +73,16 @@ module _ (laws : Laws) (text : List ℕ) where
       (le-leb stop (length (symbols_of text) + 1) (laws.counted text r.range.stop))))
       (symbols_lie rs all.1)
 
-  pub ordered_same : (rs : List Report) → Same (in_order rs) rs
+  pub ordered_same : (rs : List Report) → Same (ordered_reports rs) rs
   ordered_same rs measure = (laws.order rs).0.same measure
 
   -- each range lies in the source
   pub told_lie : (protocol : Protocol) (rs : List Report) → AllByRecursion (IsGood text) rs
-      → list_all (λ r. lies_in protocol text r.range) (told_in protocol text rs) ≡ true
+      → list_all (λ r. lies_in protocol text r.range) (protocol_reports protocol text rs) ≡ true
   told_lie Scalars rs all = scalars_lie rs all
   told_lie Symbols rs all =
       let kept : List Report = filter (λ r. is_filled r.range) (map (at_symbols text) rs) in
-      same_all (λ r. lies_in Symbols text r.range) (in_order kept) kept (ordered_same kept)
+      same_all (λ r. lies_in Symbols text r.range) (ordered_reports kept) kept (ordered_same kept)
       ∙ all_filtered (λ r. lies_in Symbols text r.range) (λ r. is_filled r.range) (map (at_symbols text) rs) (symbols_lie rs all)
 
   unchanged : (rs : List Report) → map (in_scalars Scalars text) rs ≡ rs
@@ -95,6 +95,6 @@ module _ (laws : Laws) (text : List ℕ) where
 
   -- and the reports are had back, in some order
   pub told_back : (protocol : Protocol) (rs : List Report) → AllByRecursion (IsGood text) rs
-      → Same (map (in_scalars protocol text) (told_in protocol text rs)) rs
+      → Same (map (in_scalars protocol text) (protocol_reports protocol text rs)) rs
   told_back Scalars rs all measure = ap (sum_by measure) (unchanged rs)
   told_back Symbols rs all measure = ap (sum_by measure) (laws.back text rs (stand rs all)) ∙ ordered_same rs measure

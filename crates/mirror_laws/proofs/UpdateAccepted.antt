@@ -15,7 +15,7 @@ use Rattle.core_rules.specs.declared.event.Event.TheVariants as event
 use Rattle.core_rules.specs.Legal.{IsLegal as IsLegalList}
 use Rattle.session_rules.specs.declared.service.Service.{Service}
 use Rattle.session_rules.specs.Accepting.{accepted}
-use Rattle.session_rules.specs.Replies.{or_refusal, told_of, rows_told}
+use Rattle.session_rules.specs.Replies.{or_refusal, message_replies, rows_told}
 use Rattle.session_rules.specs.Session.{Session, document}
 use Rattle.session_rules.specs.Steps.{called_for}
 use Rattle.session_rules.specs.Updating.{with_buffer}
@@ -34,7 +34,8 @@ module _ {S : Type 0} (l : Lang S) (facts : Facts l) (mode : Mode) (m : Mirror) 
   -- what is told, what the session is then, and what is due, of a message that is accepted
   abbrev pub Accepted : Service → Session → EditorMessage → Session → Type 0
   Accepted service s msg after =
-      Outcome l mode m (or_refusal (told_of l service s after msg)) (record after { called = true }) (called_for msg) more
+      Outcome l mode m (or_refusal (message_replies l service s after msg))
+      (record after { called = true }) (called_for msg) more
 
   module _ (service : Service) (s : Session) (is : Mirrors l s m) where
     module _ (id : ℕ) (items : List Item) (blobs : List BlobChange) (waits : m.unanswered ≡ Ok (asks.Update id items blobs) ∷ more) where

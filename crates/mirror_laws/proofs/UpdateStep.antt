@@ -19,7 +19,7 @@ use Rattle.buffer_rules.specs.Updates.{Asked, document_after}
 use Rattle.core_rules.specs.declared.event.Event.TheVariants as event
 use Rattle.core_rules.specs.Numbered.{grown}
 use Rattle.core_rules.specs.Assigned.{assigns}
-use Rattle.core_rules.specs.Doc.{assignment_of, version_of}
+use Rattle.core_rules.specs.Doc.{assignment_of, assigned_version}
 use Rattle.core_rules.specs.Legal.{IsLegal as IsLegalList}
 use Rattle.core_rules.specs.Standing.{is_done}
 use Rattle.core_rules.proofs.KnownNumbers.{length_grown}
@@ -45,7 +45,7 @@ pub record IsTaken {S : Type 0} (l : Lang S) (s : Session) (version : ℕ) (aske
   pub is : with_buffer s version buffer ≡ after
 
 pub taken_update : {S : Type 0} (l : Lang S) (s : Session) (version : ℕ) (asked : Asked) (after : Session)
-    → updating.updated l s version asked ≡ Ok after → IsTaken l s version asked after
+    → updating.updated_session l s version asked ≡ Ok after → IsTaken l s version asked after
 taken_update l s version asked after e = go (nat_lt (document l s).last version) refl e
   where
     made : (b : Buffer) → prepared s.buffer (length (document l s).live) asked ≡ Ok b → nat_lt (document l s).last version ≡ true
@@ -96,7 +96,8 @@ module _ {S : Type 0} (l : Lang S) (facts : Facts l) (s : Session) (m : Mirror) 
       ∙ ap (λ n. prepared s.buffer n asked) (live_long l s.events (document l s).homes (document l s).live m.live is.live) ∙ takes
 
   abbrev new : Version
-  new = version_of b.nodes b.document.blobs (assignment_of (document l s) b.nodes b.document.blobs)
+  new = assigned_version b.nodes b.document.blobs
+      (assignment_of (document l s) b.nodes b.document.blobs)
 
   abbrev pub image : Image
   image = image_after m.tip (rows_told (document l s).tip new) b

@@ -16,7 +16,7 @@ use Rattle.exec_rules.specs.declared.home.Home.{Home}
 use Rattle.exec_rules.specs.declared.row.Row.{Row}
 use Rattle.exec_rules.specs.declared.version.Version.{Version}
 use Rattle.exec_rules.specs.Assigning.{entries_in, rows_in}
-use Rattle.exec_rules.specs.Listed.{Told, executions, told_in, is_other}
+use Rattle.exec_rules.specs.Listed.{Told, executions, told_commands_in, is_other}
 use Rattle.buffer_rules.specs.Preparing.{Buffer}
 use Rattle.language.specs.Lang.{Lang}
 use Rattle.reply_writing.specs.declared.told.NodeRows.{NodeRows}
@@ -26,7 +26,7 @@ use Rattle.core_rules.specs.Numbered.{grown}
 use Rattle.core_rules.specs.Assigned.{command_ids}
 use Rattle.core_rules.specs.Parts.{same_part, reports_of}
 use Rattle.core_rules.specs.Standing.{is_finished}
-use Rattle.core_rules.specs.Doc.{Doc, assignment_of, version_of}
+use Rattle.core_rules.specs.Doc.{Doc, assignment_of, assigned_version}
 use Rattle.core_rules.specs.Updates.{AllDiffer}
 use Rattle.core_rules.proofs.KnownCommands.{ids, differ_at}
 use Rattle.core_rules.proofs.KnownNumbers.{length_grown}
@@ -58,12 +58,14 @@ module _ {S : Type 0} (l : Lang S) (law : KeptLaw) (h : List Event) (d : Doc) (i
     (sorted : IsSorted in_order b.nodes) (differ : AllDiffer (command_ids b.nodes)) (filled : AreFilled b.nodes)
     (free : (p : Part) → length d.homes < p.exec → is_finished h p ≡ false)
     (keeps : (p : ℕ) (pair : List ℕ × Node) → slice_get b.nodes p ≡ Some pair
-    → KeepsFront d (version_of b.nodes b.document.blobs (assignment_of d b.nodes b.document.blobs)) p pair)
+    → KeepsFront d (assigned_version b.nodes b.document.blobs (assignment_of d b.nodes
+    b.document.blobs)) p pair)
     (made : (name : List ℕ) (i : ℕ) (row : Row) (x : ℕ)
-    → slice_get (rows_in (version_of b.nodes b.document.blobs (assignment_of d b.nodes b.document.blobs)) name) i ≡ Some row
+    → slice_get (rows_in (assigned_version b.nodes b.document.blobs (assignment_of d b.nodes
+    b.document.blobs)) name) i ≡ Some row
     → has (executions row) x ≡ true → x ≤ length (grown d.homes (assignment_of d b.nodes b.document.blobs).homes)) where
   abbrev new : Version
-  new = version_of b.nodes b.document.blobs (assignment_of d b.nodes b.document.blobs)
+  new = assigned_version b.nodes b.document.blobs (assignment_of d b.nodes b.document.blobs)
 
   abbrev homes : List Home
   homes = grown d.homes (assignment_of d b.nodes b.document.blobs).homes
@@ -77,27 +79,30 @@ module _ {S : Type 0} (l : Lang S) (law : KeptLaw) (h : List Event) (d : Doc) (i
   abbrev pub image : Image
   image = image_after im listed b
 
-  own_rows : (q : ℕ) (pair : List ℕ × Node) → slice_get b.nodes q ≡ Some pair → rows_by pair.1.entries (told_in new pair.0) ≡ told_in new pair.0
+  own_rows : (q : ℕ) (pair : List ℕ × Node) → slice_get b.nodes q ≡ Some pair → rows_by pair.1.entries (told_commands_in new pair.0) ≡ told_commands_in new pair.0
   own_rows q pair at =
       let same = entries_named new q pair sorted at in
-      subst (λ es. rows_by es (told_in new pair.0) ≡ told_in new pair.0) same
+      subst (λ es. rows_by es (told_commands_in new pair.0) ≡ told_commands_in new pair.0) same
       (told_by (entries_in new pair.0) (rows_in new pair.0) (subst (λ es. AllDiffer (ids es)) (sym same) (differ_at b.nodes q pair differ at)))
 
-  rows_at : (q : ℕ) (pair : List ℕ × Node) → slice_get b.nodes q ≡ Some pair → node_rows im listed pair ≡ (pair.0, told_in new pair.0)
+  rows_at : (q : ℕ) (pair : List ℕ × Node) → slice_get b.nodes q ≡ Some pair → node_rows im listed pair ≡ (pair.0, told_commands_in new pair.0)
   rows_at q pair at = go (is_other d.tip (named d.tip new pair pair)) refl
     where
-      go : (c : Bool) → is_other d.tip (named d.tip new pair pair) ≡ c → node_rows im listed pair ≡ (pair.0, told_in new pair.0)
+      go : (c : Bool) → is_other d.tip (named d.tip new pair pair) ≡ c → node_rows im listed pair ≡ (pair.0, told_commands_in new pair.0)
       go true changed =
           ap (λ o. (pair.0, rows_by pair.1.entries (option_map_or (λ (rows : List Told). rows) o (rows_of im pair.0)))) (listed_some d.tip new pair q at changed)
           ∙ ap (λ rows. (pair.0, rows)) (own_rows q pair at)
       go false kept =
           ap (λ o. (pair.0, rows_by pair.1.entries (option_map_or (λ (rows : List Told). rows) o (rows_of im pair.0)))) (listed_none d.tip new pair kept)
           ∙ ap (λ rows. (pair.0, rows_by pair.1.entries rows))
-          (rows_named d.tip im pair.0 is.rows ∙ sym (not_listed d.tip pair.0 (told_in new pair.0) kept))
+          (rows_named d.tip im pair.0 is.rows ∙ sym
+          (not_listed d.tip pair.0 (told_commands_in new pair.0) kept))
           ∙ ap (λ rows. (pair.0, rows)) (own_rows q pair at)
 
-  rows_are : image.rows ≡ map (λ (pair : List ℕ × Node). (pair.0, told_in new pair.0)) b.nodes
-  rows_are = map_same (node_rows im listed) (λ (pair : List ℕ × Node). (pair.0, told_in new pair.0)) b.nodes rows_at
+  rows_are : image.rows ≡ map (λ (pair : List ℕ × Node). (pair.0, told_commands_in new pair.0))
+      b.nodes
+  rows_are = map_same (node_rows im listed)
+      (λ (pair : List ℕ × Node). (pair.0, told_commands_in new pair.0)) b.nodes rows_at
 
   stays_at : (name : List ℕ) (i : ℕ) (e : Entry) (row : Row) (p : Part) → Spot new name i e row → slice_get (rows_in new name) i ≡ Some row
       → has (executions row) p.exec ≡ true → (f : FinishedPart) → is_at e.command p f ≡ true → stands image.rows f ≡ true
@@ -107,11 +112,13 @@ module _ {S : Type 0} (l : Lang S) (law : KeptLaw) (h : List Event) (d : Doc) (i
       let part = part_is f.part p parts.1 in
       ap (λ rows. list_any (λ (node : List ℕ × List Told). has (executions_of node.1 f.command) f.part.exec) rows) rows_are
       ∙ any_at (λ (node : List ℕ × List Told). has (executions_of node.1 f.command) f.part.exec)
-      (map (λ (pair : List ℕ × Node). (pair.0, told_in new pair.0)) b.nodes) s.p (s.pair.0, told_in new s.pair.0)
-      (map_get (λ (pair : List ℕ × Node). (pair.0, told_in new pair.0)) b.nodes s.p s.pair s.stands)
-      (ap (λ c. has (executions_of (told_in new s.pair.0) c) f.part.exec) command
-      ∙ ap (λ (x : Part). has (executions_of (told_in new s.pair.0) e.command) x.exec) part
-      ∙ ap (λ n. has (executions_of (told_in new n) e.command) p.exec) s.named
+      (map (λ (pair : List ℕ × Node). (pair.0, told_commands_in new pair.0)) b.nodes) s.p (s.pair.0, told_commands_in new s.pair.0)
+      (map_get (λ (pair : List ℕ × Node). (pair.0, told_commands_in new pair.0)) b.nodes s.p
+      s.pair s.stands)
+      (ap (λ c. has (executions_of (told_commands_in new s.pair.0) c) f.part.exec) command
+      ∙ ap (λ (x : Part). has (executions_of (told_commands_in new s.pair.0) e.command) x.exec)
+      part
+      ∙ ap (λ n. has (executions_of (told_commands_in new n) e.command) p.exec) s.named
       ∙ ap (λ es. has es p.exec) (told_at new sorted differ name s.p i s.pair e s.stands s.named s.entry ∙ ap row_list at) ∙ among)
 
   known_after : (name : List ℕ) (i : ℕ) (e : Entry) (row : Row) (p : Part) → slice_get (entries_in new name) i ≡ Some e

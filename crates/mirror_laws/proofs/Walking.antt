@@ -7,7 +7,7 @@ use Rattle.session_rules.specs.declared.entry.Entry.{Entry}
 use Rattle.session_rules.specs.declared.entry.Entry.TheVariants as entry
 use Rattle.session_rules.specs.declared.service.Service.{Service}
 use Rattle.session_rules.specs.Heard.{all_heard, heard}
-use Rattle.session_rules.specs.Replies.{told}
+use Rattle.session_rules.specs.Replies.{entry_replies}
 use Rattle.session_rules.specs.Services.{mode_of}
 use Rattle.mirror_rules.specs.Answers.{Read}
 use Rattle.mirror_rules.specs.Moves.{Move, Sent}
@@ -61,7 +61,7 @@ module _ {S : Type 0} (l : Lang S) (service : Service) where
   -- an entry whose replies are heard with nothing sent in between
   pub follows_entry : (ahead h : List Entry) (e : Entry) (sent : List Read) (older newer : List Move)
       → Follows l service (ahead ++ e ∷ []) h (call_of service e ++ sent) older
-      → AreHeard (told l service (all_heard service h) (heard service e)) older newer → AreFirst sent (calls service ahead)
+      → AreHeard (entry_replies l service (all_heard service h) (heard service e)) older newer → AreFirst sent (calls service ahead)
       → Follows l service ahead (e ∷ h) sent newer
   follows_entry ahead h e sent older newer f hears first =
       (sent, [], older, newer, f, hears, refl, sym (append-nil sent), first)
@@ -103,4 +103,4 @@ module _ {S : Type 0} (l : Lang S) (service : Service) where
     pub follows : Follows l service (ahead_of next) h sent moves
     pub tells : all_replies l service h ≡ ts
     pub calls_are : reads ≡ calls service h ++ sent
-    pub newest : (e : Entry) (older : List Entry) → h ≡ e ∷ older → 0 < length (told l service (all_heard service older) (heard service e))
+    pub newest : (e : Entry) (older : List Entry) → h ≡ e ∷ older → 0 < length (entry_replies l service (all_heard service older) (heard service e))

@@ -12,7 +12,7 @@ use Rattle.session_rules.specs.declared.service.Service.{Service}
 use Rattle.session_rules.specs.Heard.{Heard, Claimed, Finished, Dropped, Ended}
 use Rattle.session_rules.specs.History.{session}
 use Rattle.session_rules.specs.Legal.{IsLegal}
-use Rattle.session_rules.specs.Replies.{claim_told, told}
+use Rattle.session_rules.specs.Replies.{claim_told, entry_replies}
 use Rattle.session_rules.specs.Services.{free_workers}
 use Rattle.session_rules.specs.Session.{Session, with_event}
 use Rattle.session_rules.specs.Steps.{Due, Nothing, Claims, Finishes, due}
@@ -38,20 +38,22 @@ module _ {S : Type 0} (l : Lang S) (laws : Laws) (is_told : IsTold l) (facts : F
   s = session l service h
 
   pub claimed_step : (who : ℕ) (part : Part) → IsLegal l service (Claimed who part ∷ h)
-      → Outcome l mode m (told l service h (Claimed who part)) (session l service (Claimed who part ∷ h)) Nothing more
+      → Outcome l mode m (entry_replies l service h (Claimed who part))
+      (session l service (Claimed who part ∷ h)) Nothing more
   claimed_step who part legal = go legal.1.1
     where
       now : Mirrors l (with_event s (event.Claimed who part)) m
       now = claimed l laws is_told facts s m (facts.legal service h legal.0) is who part legal.1.0.2
 
       go : (due l service h ≡ Claims who) ⊎ ((due l service h ≡ Nothing) × (who ≤ free_workers service)) →
-          Outcome l mode m (told l service h (Claimed who part)) (session l service (Claimed who part ∷ h)) Nothing more
-      go (inl called) = outcome_of l mode m (tells.Claimed who part ∷ []) (told l service h (Claimed who part)) (with_event s (event.Claimed who part))
+          Outcome l mode m (entry_replies l service h (Claimed who part))
+          (session l service (Claimed who part ∷ h)) Nothing more
+      go (inl called) = outcome_of l mode m (tells.Claimed who part ∷ []) (entry_replies l service h (Claimed who part)) (with_event s (event.Claimed who part))
           (session l service (Claimed who part ∷ h)) Nothing Nothing more (ap (claim_told part) called) refl refl
           (answer_outcome l mode m (Ok (asks.Claim who)) more (tells.Claimed who part) (with_event s (event.Claimed who part))
           (waits ∙ ap (λ d. step_called d ++ more) called) (claimed_fine m who part) refl
           (mirrors_other l (with_event s (event.Claimed who part)) (with_event s (event.Claimed who part)) m (record m { unanswered = more }) now refl refl refl refl) refl)
-      go (inr free) = outcome_of l mode m [] (told l service h (Claimed who part)) (with_event s (event.Claimed who part))
+      go (inr free) = outcome_of l mode m [] (entry_replies l service h (Claimed who part)) (with_event s (event.Claimed who part))
           (session l service (Claimed who part ∷ h)) Nothing Nothing more (ap (claim_told part) free.0) refl refl
           (record { mirror = m; hears = refl; is = now; waits = waits ∙ ap (λ d. step_called d ++ more) free.0 })
 
@@ -62,7 +64,8 @@ module _ {S : Type 0} (l : Lang S) (laws : Laws) (is_told : IsTold l) (facts : F
   left_waiting who (inr free) = ap (without_finish mode) (waits ∙ ap (λ d. step_called d ++ more) free.0) ∙ free.1
 
   pub finished_step : (who : ℕ) (part : Part) → IsLegal l service (Finished who part ∷ h) → MayEnd mode (due l service h) who more
-      → Outcome l mode m (told l service h (Finished who part)) (session l service (Finished who part ∷ h)) Nothing more
+      → Outcome l mode m (entry_replies l service h (Finished who part))
+      (session l service (Finished who part ∷ h)) Nothing more
   finished_step who part legal may =
       let listed = facts.legal service h legal.0 in
       let rs = reports l laws is_told facts s m listed is who part legal.1.0.0 in
@@ -80,7 +83,8 @@ module _ {S : Type 0} (l : Lang S) (laws : Laws) (is_told : IsTold l) (facts : F
       }
 
   pub dropped_step : (who : ℕ) (part : Part) → IsLegal l service (Dropped who part ∷ h) → MayEnd mode (due l service h) who more
-      → Outcome l mode m (told l service h (Dropped who part)) (session l service (Dropped who part ∷ h)) Nothing more
+      → Outcome l mode m (entry_replies l service h (Dropped who part))
+      (session l service (Dropped who part ∷ h)) Nothing more
   dropped_step who part legal may =
       let listed = facts.legal service h legal.0 in
       record {
@@ -92,7 +96,8 @@ module _ {S : Type 0} (l : Lang S) (laws : Laws) (is_told : IsTold l) (facts : F
       }
 
   pub ended_step : IsLegal l service (Ended ∷ h)
-      → Outcome l mode m (told l service h Ended) (session l service (Ended ∷ h)) Nothing more
+      → Outcome l mode m (entry_replies l service h Ended) (session l service (Ended ∷ h)) Nothing
+      more
   ended_step legal = record {
     mirror = m;
     hears = refl;

@@ -7,7 +7,7 @@ use Rattle.session_rules.specs.declared.entry.Entry.{Entry}
 use Rattle.session_rules.specs.declared.entry.Entry.TheVariants as entry
 use Rattle.session_rules.specs.declared.service.Service.{Service}
 use Rattle.session_rules.specs.Heard.{heard, all_heard}
-use Rattle.session_rules.specs.Replies.{told}
+use Rattle.session_rules.specs.Replies.{entry_replies}
 use Rattle.session_rules.specs.Services.{mode_of}
 use Rattle.mirror_rules.specs.Answers.{Read}
 use Rattle.mirror_rules.specs.Moves.{Move, Sent, Heard}
@@ -46,6 +46,6 @@ Follows l service ahead [] sent moves =
     (moves ≡ sends sent []) × AreFirst sent (calls service ahead)
 Follows l service ahead (e ∷ h) sent moves = (before after : List Read) × (older newer : List Move)
     × Follows l service (ahead ++ e ∷ []) h (call_of service e ++ before) older
-    × AreHeard (told l service (all_heard service h) (heard service e)) older newer
+    × AreHeard (entry_replies l service (all_heard service h) (heard service e)) older newer
     × (moves ≡ sends after newer) × (sent ≡ before ++ after)
     × AreFirst sent (calls service ahead)

@@ -13,7 +13,7 @@ use Rattle.session_rules.specs.Looking.{looked_at}
 use Rattle.session_rules.specs.Replies.{is_outdated}
 use Rattle.session_rules.specs.Services.{mode_of}
 use Rattle.session_rules.specs.Session.{Session, document}
-use Rattle.session_rules.specs.Shown.{shown}
+use Rattle.session_rules.specs.Shown.{finished_reports}
 use Rattle.mirror_rules.specs.Images.{Mirror}
 use Rattle.mirror_rules.specs.Looking.{View, view_in}
 use Rattle.mirror_rules.specs.Moves.{Move, Going, mirrored}
@@ -22,7 +22,7 @@ use Rattle.mirror_rules.specs.Moves.{Move, Going, mirrored}
 abbrev pub view_shown : {S : Type 0} → Lang S → Session → ℕ → List ℕ → List Edit
     → Result View Refusal
 view_shown l s version name edits = looked_at l s version name edits >>= λ looked. Ok (record {
-  reports = shown l s.events looked.version name edits;
+  reports = finished_reports l s.events looked.version name edits;
   pending = pending l s.events (document l s) looked.version name;
   outdated = is_outdated edits;
 })

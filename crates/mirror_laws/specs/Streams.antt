@@ -14,7 +14,7 @@ use Rattle.session_rules.specs.declared.service.Service.TheVariants.{Script}
 use Rattle.session_rules.specs.Alone.{IsAlone}
 use Rattle.session_rules.specs.Heard.{heard, all_heard}
 use Rattle.session_rules.specs.Legal.{IsLegal}
-use Rattle.session_rules.specs.Replies.{replies, told}
+use Rattle.session_rules.specs.Replies.{replies, entry_replies}
 use Rattle.session_rules.specs.Services.{mode_of}
 use Rattle.mirror_rules.specs.Answers.{Read}
 use Rattle.mirror_rules.specs.Events.{AreMoves, MirrorEvent, Given, Fed, stream}
@@ -25,7 +25,7 @@ use Rattle.mirror_laws.specs.Follows.{AreFirst, calls}
 abbrev pub all_replies : {S : Type 0} → Lang S → Service → List Entry → List Told
 all_replies l service [] = []
 all_replies l service (e ∷ h) =
-    all_replies l service h ++ told l service (all_heard service h) (heard service e)
+    all_replies l service h ++ entry_replies l service (all_heard service h) (heard service e)
 
 -- a reply whose chunks are few and short enough for a byte message, and that can be read
 pub record CanBeHeard (told : Told) : Type 0 where
@@ -71,5 +71,5 @@ pub record FollowsBytes {S : Type 0} (l : Lang S) (service : Service) (history :
 -- the newest entry of a history has a reply, and the bytes end with it
 pub record EndsWith {S : Type 0} (l : Lang S) (service : Service) (h : List Entry) (e : Entry)
     (bytes : List ℕ) : Type 0 where
-  pub reply : told l service (all_heard service h) (heard service e) ≢ []
+  pub reply : entry_replies l service (all_heard service h) (heard service e) ≢ []
   pub all : bytes ≡ replies l service (all_heard service (e ∷ h))

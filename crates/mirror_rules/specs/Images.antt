@@ -37,15 +37,15 @@ pub record Mirror : Type 0 where
   pub unanswered : List (Result EditorMessage Refusal)
 
 -- the version before any update
-abbrev pub start : Image
-start = record { nodes = []; rows = []; finished = [] }
+abbrev pub start_image : Image
+start_image = record { nodes = []; rows = []; finished = [] }
 
 -- before anything was sent or heard
-abbrev pub empty : Mirror
-empty = record {
-  buffer = buffer.empty;
+abbrev pub empty_mirror : Mirror
+empty_mirror = record {
+  buffer = buffer.empty_buffer;
   live = [];
-  tip = start;
+  tip = start_image;
   last = 0;
   protocol = Scalars;
   unanswered = [];

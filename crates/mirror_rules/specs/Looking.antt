@@ -5,7 +5,7 @@ use Rattle.std.specs.List.{range_with_len}
 use Rattle.text_words.specs.Members.{has}
 use Rattle.text_edits.specs.declared.edit.Edit.{Edit}
 use Rattle.report_markup.specs.declared.report.Report.{Report}
-use Rattle.report_markup.specs.Sorting.{in_order}
+use Rattle.report_markup.specs.Sorting.{ordered_reports}
 use Rattle.snapshots.specs.Converted.{left_by}
 use Rattle.core_tables.specs.Live.{version_of}
 use Rattle.doc_nodes.specs.Imports.{NodeList, place_of}
@@ -16,7 +16,7 @@ use Rattle.buffer_rules.specs.Trying.{◌>>=◌}
 use Rattle.buffer_rules.specs.Texts.{edit_all}
 use Rattle.core_rules.specs.Doc.{greatest}
 use Rattle.core_rules.specs.Shown.{PartShown}
-use Rattle.session_rules.specs.Shown.{placed}
+use Rattle.session_rules.specs.Shown.{placed_reports}
 use Rattle.session_rules.specs.Replies.{is_outdated}
 use Rattle.mirror_rules.specs.Images.{Mirror}
 use Rattle.mirror_rules.specs.Parts.{node_parts}
@@ -41,7 +41,7 @@ pub record View : Type 0 where
 -- what is seen of these parts of a node under pending edits
 abbrev pub view_of : List PartShown → List Edit → View
 view_of parts edits = record {
-  reports = in_order (left_by edits (flat_map placed parts));
+  reports = ordered_reports (left_by edits (flat_map placed_reports parts));
   pending = pending_executions parts;
   outdated = is_outdated edits;
 }

@@ -1,12 +1,12 @@
 -- What an editor sent and heard, one after the other, and what it knows then.
 use Rattle.std.specs.Prelude.{ℕ, List, [], ◌∷◌, ◌++◌, Option, Some, None}
-use Rattle.byte_message.specs.Stream.{told}
+use Rattle.byte_message.specs.Stream.{told_place}
 use Rattle.byte_message.specs.declared.frame_fault.FrameFault.{FrameFault}
 use Rattle.message_values.specs.declared.mode.Mode.{Mode}
 use Rattle.reply_writing.specs.declared.told.Told.{Told}
 use Rattle.mirror_rules.specs.declared.fault.MirrorFault.{MirrorFault}
 use Rattle.mirror_rules.specs.declared.fault.MirrorFault.TheVariants.{Frame, Unexpected}
-use Rattle.mirror_rules.specs.Images.{Mirror, empty}
+use Rattle.mirror_rules.specs.Images.{Mirror, empty_mirror}
 use Rattle.mirror_rules.specs.Answers.{Read}
 use Rattle.mirror_rules.specs.Replies.{mirror_after}
 
@@ -25,7 +25,7 @@ pub data Reflection : Type 0 where
 -- by what came of a reply that begins at a place
 abbrev pub reflection_by : ℕ → Option Mirror → Reflection
 reflection_by at (Some m) = Going m
-reflection_by at None = Faulted (Unexpected (told at))
+reflection_by at None = Faulted (Unexpected (told_place at))
 
 -- one move more, behind those without a fault
 abbrev pub after_move : Mode → Mirror → Move → Reflection
@@ -40,5 +40,5 @@ next_reflection mode (Faulted fault) move = Faulted fault
 
 -- what the editor knows after these moves, the newest first
 abbrev pub mirrored : Mode → List Move → Reflection
-mirrored mode [] = Going empty
+mirrored mode [] = Going empty_mirror
 mirrored mode (move ∷ moves) = next_reflection mode (mirrored mode moves) move

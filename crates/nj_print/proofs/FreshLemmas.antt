@@ -6,7 +6,7 @@ use Rattle.text_words.proofs.KnownLists.{unlike_turned}
 use Rattle.nj_formula.specs.Statement.{Statement}
 use Rattle.nj_syntax.specs.declared.operator.Operator.{Operator}
 use Rattle.nj_syntax.specs.declared.operator.Quantifier.{Quantifier}
-use Rattle.nj_syntax.specs.Terms.{place_of}
+use Rattle.nj_syntax.specs.Terms.{binder_place}
 use Rattle.nj_print.specs.ArgumentText.{name_at}
 use Rattle.nj_print.specs.Primed.{is_shown}
 use Rattle.nj_print.proofs.FormLemmas.{join, bind, is_shown-join, is_shown-bind}
@@ -47,39 +47,41 @@ pub fresh_body : (q : Quantifier) (names : List (List ℕ)) (y : List ℕ) (s : 
 fresh_body q names y s fresh free = (free, deeper q s names 0 fresh)
 
 -- of a name that is not the first one
-place_of-other : (y x : List ℕ) (names : List (List ℕ)) (place : Option ℕ) → bytes_eq x y ≡ false → place_of names x ≡ place
-    → place_of (y ∷ names) x ≡ option_map (λ n. n + 1) place
+place_of-other : (y x : List ℕ) (names : List (List ℕ)) (place : Option ℕ) → bytes_eq x y ≡ false
+    → binder_place names x ≡ place
+    → binder_place (y ∷ names) x ≡ option_map (λ n. n + 1) place
 place_of-other y x names place ne is =
-    ap (λ b. cond b (Some 0) (option_map (λ n. n + 1) (place_of names x))) (unlike_turned x y ne) ∙ ap (option_map (λ n. n + 1)) is
+    ap (λ b. cond b (Some 0) (option_map (λ n. n + 1) (binder_place names x))) (unlike_turned x y ne) ∙ ap (option_map (λ n. n + 1)) is
 
-pub place_of-free : (x : List ℕ) (names : List (List ℕ)) (e : ℕ) → FreshBy (λ y outer d. bytes_eq x y) names e → place_of names x ≡ None
+pub place_of-free : (x : List ℕ) (names : List (List ℕ)) (e : ℕ) → FreshBy (λ y outer d. bytes_eq x y) names e → binder_place names x ≡ None
 place_of-free x [] e fresh = refl
 place_of-free x (y ∷ outer) e fresh = place_of-other y x outer None fresh.0 (place_of-free x outer (e + 1) fresh.1)
 
 abbrev pub shown_place : ℕ → Shown
 shown_place j y outer d = nat_le d j && bytes_eq (name_at outer (j - d)) y
 
-place_of-first : (y : List ℕ) (names : List (List ℕ)) → place_of (y ∷ names) y ≡ Some 0
-place_of-first y names = ap (λ b. cond b (Some 0) (option_map (λ n. n + 1) (place_of names y))) ((bytes_eq-Decides y y).1 refl)
+place_of-first : (y : List ℕ) (names : List (List ℕ)) → binder_place (y ∷ names) y ≡ Some 0
+place_of-first y names = ap (λ b. cond b (Some 0) (option_map (λ n. n + 1) (binder_place names y))) ((bytes_eq-Decides y y).1 refl)
 
 later_place : (j : ℕ) (y : List ℕ) (outer : List (List ℕ)) (e : ℕ) → shown_place j y outer (e + 1) ≡ false → e + 1 ≤ j
-    → place_of outer (name_at outer (j - (e + 1))) ≡ Some (j - (e + 1)) → place_of (y ∷ outer) (name_at (y ∷ outer) (j - e)) ≡ Some (j - e)
+    → binder_place outer (name_at outer (j - (e + 1))) ≡ Some (j - (e + 1)) → binder_place (y ∷ outer) (name_at (y ∷ outer) (j - e)) ≡ Some (j - e)
 later_place j y outer e fresh above is =
     let k : ℕ = j - (e + 1) in
     let next : j - e ≡ suc k = omega arith in
     let ne : bytes_eq (name_at outer k) y ≡ false =
     ⊎_elim (λ low. absurd (both_ways (nat_le (e + 1) j) low (le-leb (e + 1) j above))) (λ ne. ne)
     (and_cases (nat_le (e + 1) j) (bytes_eq (name_at outer (j - (e + 1))) y) fresh) in
-    subst (λ n. place_of (y ∷ outer) (name_at (y ∷ outer) n) ≡ Some n) (sym next)
+    subst (λ n. binder_place (y ∷ outer) (name_at (y ∷ outer) n) ≡ Some n) (sym next)
     (place_of-other y (name_at outer k) outer (Some k) ne is ∙ ap Some (add-one k))
 
-this_place : (j : ℕ) (y : List ℕ) (outer : List (List ℕ)) (e : ℕ) → j ≡ e → place_of (y ∷ outer) (name_at (y ∷ outer) (j - e)) ≡ Some (j - e)
+this_place : (j : ℕ) (y : List ℕ) (outer : List (List ℕ)) (e : ℕ) → j ≡ e → binder_place (y ∷ outer) (name_at (y ∷ outer) (j - e)) ≡ Some (j - e)
 this_place j y outer e is =
     let none : j - e ≡ 0 = omega arith in
-    subst (λ n. place_of (y ∷ outer) (name_at (y ∷ outer) n) ≡ Some n) (sym none) (place_of-first y outer)
+    subst (λ n. binder_place (y ∷ outer) (name_at (y ∷ outer) n) ≡ Some n) (sym none)
+    (place_of-first y outer)
 
 pub place_of-bound : (j : ℕ) (names : List (List ℕ)) (e : ℕ) → FreshBy (shown_place j) names e → e ≤ j → j < e + length names
-    → place_of names (name_at names (j - e)) ≡ Some (j - e)
+    → binder_place names (name_at names (j - e)) ≡ Some (j - e)
 place_of-bound j [] e fresh above below = absurd (omega arith)
 place_of-bound j (y ∷ outer) e fresh above below =
     ⊎_elim (λ is. this_place j y outer e is)

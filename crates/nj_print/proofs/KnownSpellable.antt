@@ -14,7 +14,7 @@ use Rattle.nj_tokens.specs.declared.token.Placed.{Placed}
 use Rattle.nj_tokens.specs.declared.token.Token.{Token}
 use Rattle.nj_tokens.specs.declared.token.Token.TheVariants as Tokens
 use Rattle.nj_tokens.proofs.KnownNames.{IsSpelled, names_spelled}
-use Rattle.nj_syntax.specs.Terms.{Deep, place_of, named_at, named, AreArguments, name, apply, comma}
+use Rattle.nj_syntax.specs.Terms.{Deep, binder_place, named_at, named_term, AreArguments, name, apply, comma}
 use Rattle.nj_syntax.specs.Grammar as Grammar
 use Rattle.nj_syntax.specs.Grammar.{sign, is_word, Reads}
 use Rattle.nj_syntax.specs.Answers.{AreAt, SaysWhole, IsFormula}
@@ -41,9 +41,10 @@ spelled_at (t ∷ tokens) (u ∷ deep) are all =
     (subst IsSpelled (first_same t.token u.0 ts us are) all.0, spelled_at tokens deep (others_same t.token u.0 ts us are) all.1)
 
 -- which of the bound names a name is, is one of them
-place_within : (bound : List (List ℕ)) (x : List ℕ) → IfSome (place_of bound x) (λ n. n < length bound)
+place_within : (bound : List (List ℕ)) (x : List ℕ)
+    → IfSome (binder_place bound x) (λ n. n < length bound)
 place_within [] x = tt
-place_within (y ∷ bound) x = go (bytes_eq y x) (place_of bound x) (place_within bound x)
+place_within (y ∷ bound) x = go (bytes_eq y x) (binder_place bound x) (place_within bound x)
   where
     go : (b : Bool) (o : Option ℕ) → IfSome o (λ n. n < length bound)
         → IfSome (cond b (Some 0) (option_map (λ n. n + 1) o)) (λ n. n < length (y ∷ bound))
@@ -70,7 +71,7 @@ apply_spellable k f (t ∷ more) some is all = fold-Apply (spellable_layer k) f 
 terms_spellable : {bound : List (List ℕ)} {d : ℕ} {deep : List Deep} {args : List Argument} → AreArguments bound d deep args → Spelled deep
     → all_spellable (length bound) args ≡ true
 terms_spellable {bound} (name {x = x}) all =
-    one_spellable (length bound) (named bound x) (name_spellable (length bound) x (place_of bound x) (place_within bound x) all.0)
+    one_spellable (length bound) (named_term bound x) (name_spellable (length bound) x (binder_place bound x) (place_within bound x) all.0)
 terms_spellable {bound} {d} (apply {f = f} {inside = inside} {arguments = args} h) all =
     one_spellable (length bound) (Apply f args)
     (apply_spellable (length bound) f args (some_arguments h) all.0 (terms_spellable h (front_of inside ((Tokens.Close, d) ∷ []) all.1.1)))

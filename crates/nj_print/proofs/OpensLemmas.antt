@@ -11,7 +11,7 @@ use Rattle.nj_tokens.specs.declared.token.Token.{Token}
 use Rattle.nj_tokens.specs.declared.token.Token.TheVariants as Tokens
 use Rattle.nj_syntax.specs.declared.operator.Operator.{Operator}
 use Rattle.nj_syntax.specs.declared.operator.Quantifier.{Quantifier}
-use Rattle.nj_syntax.specs.Terms.{Deep, place_of, named_at, AreArguments, name, apply, comma}
+use Rattle.nj_syntax.specs.Terms.{Deep, binder_place, named_at, AreArguments, name, apply, comma}
 use Rattle.nj_syntax.specs.Grammar as Grammar
 use Rattle.nj_syntax.specs.Grammar.{priority, sign, Reads}
 use Rattle.nj_print.specs.Opens.{opens}
@@ -97,7 +97,7 @@ wanted-named_at x (Some n) = fold-Bound wanted_layer n
 
 -- terms have the pairs that they want
 pub terms_have : {bound : List (List ℕ)} {d : ℕ} {deep : List Deep} {args : List Argument} → AreArguments bound d deep args → opens_of deep ≡ wanted_terms args
-terms_have {bound} (name {x = x}) = omega (arith, wanted-named_at x (place_of bound x))
+terms_have {bound} (name {x = x}) = omega (arith, wanted-named_at x (binder_place bound x))
 terms_have {d = d} (apply {f = f} {inside = inside} {arguments = args} h) =
     omega (arith, opens_of-append inside ((Tokens.Close, d) ∷ []), terms_have h, fold-Apply wanted_layer f args)
 terms_have {d = d} (comma {first = first} {rest = rest} h k) =

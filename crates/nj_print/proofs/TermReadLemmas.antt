@@ -5,7 +5,7 @@ use Rattle.std.specs.List.{list_all, list_any}
 use Rattle.nj_formula.specs.declared.argument.Argument.{Argument}
 use Rattle.nj_formula.specs.declared.argument.Argument.TheVariants.{Free, Bound, Apply}
 use Rattle.nj_tokens.specs.declared.token.Token.TheVariants as Tokens
-use Rattle.nj_syntax.specs.Terms.{Deep, place_of, named_at, named, AreArguments, name, apply, comma}
+use Rattle.nj_syntax.specs.Terms.{Deep, binder_place, named_at, named_term, AreArguments, name, apply, comma}
 use Rattle.nj_print.specs.ArgumentText.{name_at, listed, text_layer, argument_text}
 use Rattle.nj_print.specs.Primed.{shown_layer, is_shown_in}
 use Rattle.text_words.specs.Identifier.{is_identifier}
@@ -42,7 +42,7 @@ enclosed d s =
 
 module _ (names : List (List ℕ)) (identifiers : list_all is_identifier names ≡ true) where
   -- a name by itself, which is read as this
-  name_read : (d : ℕ) (x : List ℕ) (a : Argument) (text : List ℕ) → is_identifier x ≡ true → named names x ≡ a → x ≡ text → AreRead names d (a ∷ []) text
+  name_read : (d : ℕ) (x : List ℕ) (a : Argument) (text : List ℕ) → is_identifier x ≡ true → named_term names x ≡ a → x ≡ text → AreRead names d (a ∷ []) text
   name_read d x a text is reads same = record {
     deep = (Tokens.Name x, d) ∷ [];
     reads = subst (λ t. AreArguments names d ((Tokens.Name x, d) ∷ []) (t ∷ [])) reads name;
@@ -65,8 +65,8 @@ module _ (names : List (List ℕ)) (identifiers : list_all is_identifier names �
       let shown : FreshBy (shown_place n) names 0 =
       weakened (shown_by_argument (Bound n)) (shown_place n) (λ y outer e no. sym (fold-Bound (shown_layer y outer e) n) ∙ no) names 0 fresh in
       let none : n - 0 ≡ n = omega arith in
-      let placed : place_of names (name_at names n) ≡ Some n =
-      subst (λ k. place_of names (name_at names k) ≡ Some k) none (place_of-bound n names 0 shown (omega arith) (omega arith)) in
+      let placed : binder_place names (name_at names n) ≡ Some n =
+      subst (λ k. binder_place names (name_at names k) ≡ Some k) none (place_of-bound n names 0 shown (omega arith) (omega arith)) in
       name_read d (name_at names n) (Bound n) (argument_text names (Bound n)) (is_identifier_at names identifiers n below)
       (ap (named_at (name_at names n)) placed) (sym (fold-Bound (text_layer names) n))
 

@@ -8,7 +8,7 @@ use Rattle.nj_formula.specs.declared.argument.Argument.TheVariants.{Free, Bound,
 use Rattle.nj_formula.proofs.KnownArguments.{Each, fold-Free, fold-Bound, fold-Apply, by_forms}
 use Rattle.text_words.proofs.KnownLists.{each-both, each-part}
 use Rattle.nj_tokens.specs.declared.token.Token.TheVariants as Tokens
-use Rattle.nj_syntax.specs.Terms.{Deep, place_of, named_at, named, AreArguments, name, apply, comma}
+use Rattle.nj_syntax.specs.Terms.{Deep, binder_place, named_at, named_term, AreArguments, name, apply, comma}
 use Rattle.nj_print.specs.Within.{within_layer, is_term_within, are_within}
 
 -- none of the tokens is deeper than most
@@ -45,7 +45,7 @@ module _ (most : ℕ) where
 
   pub terms_within : {bound : List (List ℕ)} {d : ℕ} {deep : List Deep} {args : List Argument} → AreArguments bound d deep args
       → Low most deep → are_within most args d ≡ true
-  terms_within {bound} {d} (name {x = x}) low = one_within (named bound x) d (within-named x (place_of bound x) d ∙ le-leb d most low.0)
+  terms_within {bound} {d} (name {x = x}) low = one_within (named_term bound x) d (within-named x (binder_place bound x) d ∙ le-leb d most low.0)
   terms_within {d = d} (apply {f = f} {inside = inside} {arguments = args} h) low =
       one_within (Apply f args) d (within-Apply f args d ∙ and_from (nat_le d most) (are_within most args (d + 1)) (le-leb d most low.0)
       (terms_within h (low_parts most inside ((Tokens.Close, d) ∷ []) low.1.1).0))
@@ -56,7 +56,7 @@ module _ (most : ℕ) where
   -- the first token stands at the depth of the terms
   first_low : {bound : List (List ℕ)} {d : ℕ} {deep : List Deep} {args : List Argument} → AreArguments bound d deep args
       → are_within most args d ≡ true → d ≤ most
-  first_low {bound} {d} (name {x = x}) is = leb-true d most (sym (within-named x (place_of bound x) d) ∙ one_of (named bound x) d is)
+  first_low {bound} {d} (name {x = x}) is = leb-true d most (sym (within-named x (binder_place bound x) d) ∙ one_of (named_term bound x) d is)
   first_low {d = d} (apply {f = f} {arguments = args} h) is =
       leb-true d most (and_parts (nat_le d most) (are_within most args (d + 1)) (sym (within-Apply f args d) ∙ one_of (Apply f args) d is)).0
   first_low {d = d} (comma {t = t} {more = more} h k) is = first_low k (and_parts (is_term_within most t d) (are_within most more d) is).1

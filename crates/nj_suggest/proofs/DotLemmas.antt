@@ -3,14 +3,14 @@ use Rattle.std.proofs.Common.{◌≡◌, ℕ, zero, suc, ◌+◌, ◌/◌, ◌%�
 use Rattle.std.specs.List.{AllByRecursion, onto_first}
 use Rattle.std.specs.Fmt.{decimal, digits, digits_onto, digit_glyph}
 use Rattle.std.proofs.lemmas.List.Splits.{slice_split-cons_no}
-use Rattle.theory_ctx.specs.Looked.{parts_of}
+use Rattle.theory_ctx.specs.Looked.{name_parts}
 use Rattle.suggest_rules.specs.declared.names.Names.{Names}
 use Rattle.suggest_rules.specs.Names.{numbered, next_name}
 
 abbrev HasNoDot : List ℕ → Type 0
 HasNoDot name = AllByRecursion (λ c. (c == 46) ≡ false) name
 
-one_part : (name : List ℕ) → HasNoDot name → parts_of name ≡ name ∷ []
+one_part : (name : List ℕ) → HasNoDot name → name_parts name ≡ name ∷ []
 one_part [] none = refl
 one_part (c ∷ name) none = slice_split-cons_no (λ b. b == 46) c name none.0 ∙ ap (onto_first c) (one_part name none.1)
 
@@ -41,7 +41,7 @@ decimal-none : (n : ℕ) → HasNoDot (decimal n)
 unfolding digits
 decimal-none n = glyphs 64 n [] tt
 
-pub next_name-part : (aliases : List (List ℕ)) (names : Names) → parts_of (next_name aliases names) ≡ next_name aliases names ∷ []
+pub next_name-part : (aliases : List (List ℕ)) (names : Names) → name_parts (next_name aliases names) ≡ next_name aliases names ∷ []
 next_name-part aliases names =
     one_part (next_name aliases names)
     (joined (numbered names) _ (joined (codes "h") (decimal (names.own + 1)) (refl, tt) (decimal-none (names.own + 1))) (primes _))

@@ -10,7 +10,7 @@ use Rattle.nj_syntax.specs.Deepest.{deepest}
 use Rattle.nj_syntax.specs.Terms.{Deep}
 use Rattle.nj_syntax.specs.Answers.{AreAt, Begins, GoesOn, SaysWhole, HasFault, Answers, expected, symbol, ends}
 use Rattle.nj_syntax.specs.Steps.{State, Step, step}
-use Rattle.nj_syntax.specs.Answer.{End, and_then, after, read_on, ended, answer}
+use Rattle.nj_syntax.specs.Answer.{End, and_then, stepped_state, read_on, ended, answer}
 use Rattle.nj_syntax.proofs.Runs.{HasRead, stays, goes, runs_append, runs_split, nothing_read, one_more}
 use Rattle.nj_syntax.proofs.Determinism.{one_run, next_step}
 use Rattle.nj_syntax.proofs.Reader.{IsReader}
@@ -104,7 +104,8 @@ module _ {A : Type 0} (Is : List Deep → A → Type 0) (start : State) (found :
       by_depth next d true steps deep = too_deep_at front t more s next d cut h steps (ltb-true _ _ deep)
       by_depth next d false steps shallow = on next (one_more start s next front t d h steps (ltb-false _ _ shallow))
 
-      by_step : (o : Step) → step s t.token ≡ o → Told (and_then (after t o) (λ n. read_on n more stop whole))
+      by_step : (o : Step) → step s t.token ≡ o
+          → Told (and_then (stepped_state t o) (λ n. read_on n more stop whole))
       by_step None none = stopped_at front t more s cut h none
       by_step (Some (next, d)) steps = by_depth next d (nat_lt deepest d) steps refl
 

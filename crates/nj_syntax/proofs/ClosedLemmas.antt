@@ -5,7 +5,7 @@ use Rattle.nj_formula.specs.declared.argument.Argument.{Argument, fold-roll-Argu
 use Rattle.nj_formula.specs.declared.argument.Argument.TheOpen.{Argument-F}
 use Rattle.nj_formula.specs.declared.argument.Argument.TheVariants.{Free, Apply, rolls-Free, rolls-Apply}
 use Rattle.nj_formula.specs.Closed.{closed_layer, is_closed}
-use Rattle.nj_syntax.specs.Terms.{Deep, named, AreArguments, name, apply, comma}
+use Rattle.nj_syntax.specs.Terms.{Deep, named_term, AreArguments, name, apply, comma}
 use Rattle.nj_syntax.specs.Answers.{IsTerm, SaysWhole}
 
 abbrev all_closed : List Argument → Bool
@@ -27,7 +27,7 @@ closed_apply f arguments = ap is_closed (sym (rolls-Apply f arguments)) ∙ fold
 
 closed_arguments : {bound : List (List ℕ)} {d : ℕ} {deep : List Deep} {arguments : List Argument} → bound ≡ []
     → AreArguments bound d deep arguments → all_closed arguments ≡ true
-closed_arguments none (name {x = x}) = one (is_closed (named _ x)) (ap (λ b. is_closed (named b x)) none ∙ closed_free x)
+closed_arguments none (name {x = x}) = one (is_closed (named_term _ x)) (ap (λ b. is_closed (named_term b x)) none ∙ closed_free x)
 closed_arguments none (apply {f = f} {arguments = inside} h) = one (is_closed (Apply f inside)) (closed_apply f inside ∙ closed_arguments none h)
 closed_arguments none (comma {t = t} {more = more} h k) = both (is_closed t) (all_closed more) (closed_arguments none h) (closed_arguments none k)
 

@@ -9,7 +9,7 @@ use Rattle.nj_syntax.specs.declared.operator.Quantifier.{Quantifier}
 use Rattle.nj_syntax.specs.declared.state.Pending.{Pending}
 use Rattle.nj_syntax.specs.declared.state.Mode.{Mode}
 use Rattle.nj_syntax.specs.Grammar.{priority, sign, joined, quantified}
-use Rattle.nj_syntax.specs.Reduced.{place, reduced, closed, finished}
+use Rattle.nj_syntax.specs.Reduced.{place, reduced, closed_operand, finished}
 use Rattle.nj_syntax.specs.Steps.{step, after_reduced, after_closed, formula_at}
 
 -- in a place for this priority, what is pending and the mode hold the operand on top of what was pending below it
@@ -61,7 +61,7 @@ reduced_stops op (Pending.Body q x ∷ below) a within = refl
 reduced_stops op (Pending.Predicate x done ∷ below) a within = refl
 reduced_stops op (Pending.Function f done ∷ below) a within = refl
 
-pub closed_value : {p : ℕ} {below now : List Pending} {m : Mode} {a : Formula} → Closes p below now m a → closed now (value m) ≡ closed below a
+pub closed_value : {p : ℕ} {below now : List Pending} {m : Mode} {a : Formula} → Closes p below now m a → closed_operand now (value m) ≡ closed_operand below a
 closed_value primary = refl
 closed_value atom = refl
 closed_value (negation h k) = closed_value k
@@ -95,7 +95,7 @@ sign_after Operator.And now formula = refl
 sign_after Operator.Or now formula = refl
 sign_after Operator.Implies now formula = refl
 
-close_after : {m : Mode} (now : List Pending) → IsAfter m → step (m, now) Token.Close ≡ after_closed (closed now (value m))
+close_after : {m : Mode} (now : List Pending) → IsAfter m → step (m, now) Token.Close ≡ after_closed (closed_operand now (value m))
 close_after now name = refl
 close_after now formula = refl
 
@@ -108,7 +108,7 @@ module _ {p : ℕ} {below now : List Pending} {m : Mode} {a : Formula} (h : Clos
   pub sign_step : (op : Operator) → priority op < p → place below ≤ priority op → step (m, now) (sign op) ≡ after_reduced op (below, a)
   sign_step op less within = sign_after op now (is_after h) ∙ ap (after_reduced op) (reduced_value op h less ∙ reduced_stops op below a within)
 
-  pub close_step : step (m, now) Token.Close ≡ after_closed (closed below a)
+  pub close_step : step (m, now) Token.Close ≡ after_closed (closed_operand below a)
   close_step = close_after now (is_after h) ∙ ap after_closed (closed_value h)
 
   pub formula_is : formula_at (m, now) ≡ finished below a

@@ -5,7 +5,7 @@ use Rattle.nj_formula.specs.declared.argument.Argument.TheVariants.{Apply}
 use Rattle.nj_tokens.specs.declared.token.Token.{Token}
 use Rattle.nj_syntax.specs.declared.state.Pending.{Pending}
 use Rattle.nj_syntax.specs.declared.state.Mode.{Mode}
-use Rattle.nj_syntax.specs.Terms.{Deep, named, AreArguments, name, apply, comma}
+use Rattle.nj_syntax.specs.Terms.{Deep, named_term, AreArguments, name, apply, comma}
 use Rattle.nj_syntax.specs.Answers.{IsTerm}
 use Rattle.nj_syntax.specs.Reduced.{bound_names}
 use Rattle.nj_syntax.specs.Steps.{State, term_at, goes as going}
@@ -20,7 +20,7 @@ as_many : {bound : List (List ℕ)} {deep : List Deep} {t : Argument} (frame : F
 as_many {t = t} frame done below h = record { mode = h.mode; before = done; last = t; run = h.run; holds = h.holds; are = refl }
 
 name_read : {bound : List (List ℕ)} {d : ℕ} (x : List ℕ) (pending : List Pending) → length pending ≡ d
-    → ReadsOne bound pending ((Token.Name x, d) ∷ []) (named bound x)
+    → ReadsOne bound pending ((Token.Name x, d) ∷ []) (named_term bound x)
 name_read x pending at = record { mode = Mode.Head x; run = goes_at refl at stays; holds = by_name }
 
 apply_read : {bound : List (List ℕ)} {d : ℕ} {inside : List Deep} {arguments : List Argument} (f : List ℕ) (pending : List Pending)

@@ -10,7 +10,7 @@ use Rattle.nj_syntax.specs.declared.operator.Quantifier.{Quantifier}
 use Rattle.nj_syntax.specs.declared.state.Pending.{Pending}
 use Rattle.nj_syntax.specs.Terms.{Deep}
 use Rattle.nj_syntax.specs.Grammar.{Reads, falsity, priority, sign, joined, word}
-use Rattle.nj_syntax.specs.Reduced.{place, bound_names, reduced, closed}
+use Rattle.nj_syntax.specs.Reduced.{place, bound_names, reduced, closed_operand}
 use Rattle.nj_syntax.specs.Steps.{State, Step, after_reduced, after_closed, step_operator, step_operand, step_word, step_quantifier}
 use Rattle.nj_syntax.proofs.Around.{Around, Reached}
 use Rattle.nj_syntax.proofs.Frames.{priority_most, priority_least, place_most, weaker, not_read, right_read, parenthesis_read, body_read, with_left, around_one}
@@ -32,7 +32,7 @@ either_way P true holds fails = holds refl
 either_way P false holds fails = fails refl
 
 closed_kept : {pending : List Pending} {read : List Deep} → Around pending read → {p : ℕ} {last : List Deep} {a : Formula} → place pending ≤ p
-    → Reads p (length pending) (bound_names pending) last a → Keeps true (read ++ last) Token.Close (after_closed (closed pending a))
+    → Reads p (length pending) (bound_names pending) last a → Keeps true (read ++ last) Token.Close (after_closed (closed_operand pending a))
 closed_kept Around.top le reads = tt
 closed_kept (Around.negated {pending = pending} {read = read} around) {last = last} le reads =
     moved_step Token.Close _ (append_assoc read ((Token.Not, length pending) ∷ []) last) (closed_kept around (place_most pending) (not_read le reads))

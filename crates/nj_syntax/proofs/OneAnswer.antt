@@ -12,7 +12,7 @@ use Rattle.nj_syntax.specs.Deepest.{deepest}
 use Rattle.nj_syntax.specs.Terms.{Deep}
 use Rattle.nj_syntax.specs.Answers.{AreAt, IsShallow, Begins, GoesOn, IsFault, SaysWhole, IsTooDeep, Answers, expected, symbol, ends}
 use Rattle.nj_syntax.specs.Steps.{State, Step, step}
-use Rattle.nj_syntax.specs.Answer.{End, and_then, after, read_on, ended, answer}
+use Rattle.nj_syntax.specs.Answer.{End, and_then, stepped_state, read_on, ended, answer}
 use Rattle.nj_syntax.proofs.KnownGrammar.{first_same, others_same}
 use Rattle.nj_syntax.proofs.Runs.{Runs, stays, goes, runs_append, runs_split, tokens_with}
 use Rattle.nj_syntax.proofs.Determinism.{one_run}
@@ -28,7 +28,8 @@ goes_along {s = s} (goes {next = next} {t = u} {d = d} {more = deep} steps h) (t
     let same : t.token ≡ u = first_same t.token u (map (λ p. p.token) front) (map (λ p. p.0) deep) are in
     let rest : AreAt front deep = others_same t.token u (map (λ p. p.token) front) (map (λ p. p.0) deep) are in
     let fits : d ≤ deepest = All-head (λ p. p.1 ≤ deepest) (u, d) deep shallow in
-    ap (λ o. and_then (after t o) (λ n. read_on n (front ++ more) stop whole)) (ap (step s) same ∙ steps)
+    ap (λ o. and_then (stepped_state t o) (λ n. read_on n (front ++ more) stop whole))
+    (ap (step s) same ∙ steps)
     ∙ (ap (λ b. and_then (cond b (Err FormulaFault.TooDeep) (Ok next)) (λ n. read_on n (front ++ more) stop whole)) (le-ltb _ _ fits)
     ∙ goes_along h front more stop whole rest (All-tail (λ p. p.1 ≤ deepest) (u, d) deep shallow))
 
@@ -82,7 +83,7 @@ module _ {A : Type 0} (Is : List Deep → A → Type 0) (start : State) (found :
   fault_told (expected front t back {stop = stop} {whole = whole} on none) =
       let g = gone front on in
       along front (t ∷ back) stop whole g
-      ∙ ap (λ o. finish (and_then (after t o) (λ n. read_on n back stop whole))) (no_step front t g none (step g.state t.token) refl)
+      ∙ ap (λ o. finish (and_then (stepped_state t o) (λ n. read_on n back stop whole))) (no_step front t g none (step g.state t.token) refl)
   fault_told (symbol {tokens = tokens} {stop = stop} on) = ended_told tokens stop false (gone tokens on)
   fault_told (ends {tokens = tokens} {stop = stop} on none) =
       let g = gone tokens on in
@@ -105,7 +106,7 @@ module _ {A : Type 0} (Is : List Deep → A → Type 0) (start : State) (found :
       let steps : step g.state h.last.token ≡ Some (one.0, h.depth) = ap (λ s. step s h.last.token) (sym same) ∙ one.1 in
       let rest : State → Result End FormulaFault = λ n. read_on n h.back h.stop h.whole in
       along h.front (h.last ∷ h.back) h.stop h.whole g
-      ∙ (ap (λ o. finish (and_then (after h.last o) rest)) steps
+      ∙ (ap (λ o. finish (and_then (stepped_state h.last o) rest)) steps
       ∙ ap (λ b. finish (and_then (cond b (Err FormulaFault.TooDeep) (Ok one.0)) rest)) (lt-ltb _ _ h.too_deep))
 
   -- the answer by what the text is cut into

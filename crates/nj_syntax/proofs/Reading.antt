@@ -1,12 +1,12 @@
 -- One turn of the loop over the tokens of a text, and what its end answers.
 use Rattle.std.proofs.Common.{◌≡◌, ℕ, List, Option, Result, Ok, Err, IsErrAnd, ap, sym, subst, ◌∙◌}
 use Rattle.nj_tokens.specs.declared.token.Placed.{Placed}
-use Rattle.nj_tokens.specs.Tokens.{Cut, before, cut_of, cut_from}
+use Rattle.nj_tokens.specs.Tokens.{Cut, placed_before, cut_of, cut_from}
 use Rattle.nj_syntax.specs.declared.fault.FormulaFault.{FormulaFault}
 use Rattle.nj_syntax.specs.Terms.{Deep}
 use Rattle.nj_syntax.specs.Answers.{Answers}
 use Rattle.nj_syntax.specs.Steps.{State, step}
-use Rattle.nj_syntax.specs.Answer.{End, and_then, after, read_from, ended, answer}
+use Rattle.nj_syntax.specs.Answer.{End, and_then, stepped_state, read_from, ended, answer}
 use Rattle.nj_syntax.specs.Seen.{Gives}
 use Rattle.nj_syntax.proofs.Reader.{IsReader}
 use Rattle.nj_syntax.proofs.Answered.{answered}
@@ -28,19 +28,21 @@ otherwise_given : {A B : Type 0} (see : A → B) (r : Result A FormulaFault) {v 
 otherwise_given see r e given = subst (Gives see r) (sym e) given
 
 module _ (text : List ℕ) (start s : State) (at : ℕ) (kept : read_from start (cut_of text) ≡ read_from s (cut_from at text)) where
-  module _ (t : Placed) (behind : ℕ) (cut : cut_from at text ≡ before t (cut_from behind text)) where
-    by_token : read_from start (cut_of text) ≡ and_then (after t (step s t.token)) (λ n. read_from n (cut_from behind text))
+  module _ (t : Placed) (behind : ℕ) (cut : cut_from at text ≡ placed_before t (cut_from behind
+      text)) where
+    by_token : read_from start (cut_of text) ≡ and_then (stepped_state t (step s t.token)) (λ n. read_from n (cut_from behind text))
     by_token = kept ∙ ap (read_from s) cut
 
-    pub token_read : (next : State) → after t (step s t.token) ≡ Ok next → read_from start (cut_of text) ≡ read_from next (cut_from behind text)
+    pub token_read : (next : State) → stepped_state t (step s t.token) ≡ Ok next → read_from start (cut_of text) ≡ read_from next (cut_from behind text)
     token_read next steps = by_token ∙ ap (λ a. and_then a (λ n. read_from n (cut_from behind text))) steps
 
     pub token_faulty : {A B : Type 0} (see : A → State) (see' : B → End) (fault : FormulaFault) (r : Result B FormulaFault)
-        → IsErrAnd r (λ e. e ≡ fault) → Gives see (Err fault) (after t (step s t.token)) → Gives see' r (read_from start (cut_of text))
+        → IsErrAnd r (λ e. e ≡ fault) → Gives see (Err fault) (stepped_state t (step s t.token)) → Gives see' r (read_from start (cut_of text))
     token_faulty see see' fault r is given =
         fault_given see' (read_from start (cut_of text)) fault r is
         (otherwise_given see' (Err fault) by_token
-        (fault_first see see' (after t (step s t.token)) (λ n. read_from n (cut_from behind text)) fault given))
+        (fault_first see see' (stepped_state t (step s t.token))
+        (λ n. read_from n (cut_from behind text)) fault given))
 
   pub tokens_end : (cut : Cut) → cut_from at text ≡ cut → read_from start (cut_of text) ≡ read_from s cut
   tokens_end cut is = kept ∙ ap (read_from s) is

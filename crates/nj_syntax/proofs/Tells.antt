@@ -5,7 +5,7 @@ use Rattle.nj_tokens.specs.Tokens.{cut_of}
 use Rattle.nj_syntax.specs.declared.fault.FormulaFault.{FormulaFault}
 use Rattle.nj_syntax.specs.Deepest.{deepest}
 use Rattle.nj_syntax.specs.Steps.{State, Step, step}
-use Rattle.nj_syntax.specs.Answer.{and_then, after, read_on, read_from, ended, answer}
+use Rattle.nj_syntax.specs.Answer.{and_then, stepped_state, read_on, read_from, ended, answer}
 
 -- the function never tells that there is no memory
 abbrev Tells : {A : Type 0} → Result A FormulaFault → Type 0
@@ -25,7 +25,7 @@ then_tells (Err (FormulaFault.At pos kind)) next told each = tt
 then_tells (Err FormulaFault.TooDeep) next told each = tt
 then_tells (Err FormulaFault.NoMemory) next told each = absurd told
 
-after_tells : (t : Placed) (o : Step) → Tells (after t o)
+after_tells : (t : Placed) (o : Step) → Tells (stepped_state t o)
 after_tells t None = tt
 after_tells t (Some (next, d)) = go (nat_lt deepest d)
   where
@@ -36,7 +36,7 @@ after_tells t (Some (next, d)) = go (nat_lt deepest d)
 read_tells : (s : State) (tokens : List Placed) (stop : ℕ) (whole : Bool) → Tells (read_on s tokens stop whole)
 read_tells s [] stop whole = tt
 read_tells s (t ∷ more) stop whole =
-    then_tells (after t (step s t.token)) (λ n. read_on n more stop whole) (after_tells t (step s t.token)) (λ n. read_tells n more stop whole)
+    then_tells (stepped_state t (step s t.token)) (λ n. read_on n more stop whole) (after_tells t (step s t.token)) (λ n. read_tells n more stop whole)
 
 no_memory : {A : Type 0} (a : Result A FormulaFault) → Tells a → a ≡ Err FormulaFault.NoMemory → ⊥
 no_memory a told is = subst Tells is told

@@ -18,9 +18,9 @@ and_then (Err fault) next = Err fault
 and_then (Ok a) next = next a
 
 -- the state after a token with this step, or the fault at the token
-abbrev pub after : Placed → Step → Result State FormulaFault
-after t None = Err (FormulaFault.At t.at FaultKind.Expected)
-after t (Some next) = if nat_lt deepest next.1 then Err FormulaFault.TooDeep else Ok next.0
+abbrev pub stepped_state : Placed → Step → Result State FormulaFault
+stepped_state t None = Err (FormulaFault.At t.at FaultKind.Expected)
+stepped_state t (Some next) = if nat_lt deepest next.1 then Err FormulaFault.TooDeep else Ok next.0
 
 -- the state after a text's tokens, where these stop, and whether that is the text's end
 abbrev pub End : Type 0
@@ -30,7 +30,7 @@ End = State × ℕ × Bool
 abbrev pub read_on : State → List Placed → ℕ → Bool → Result End FormulaFault
 read_on s [] stop whole = Ok (s, stop, whole)
 read_on s (t ∷ more) stop whole =
-    and_then (after t (step s t.token)) (λ next. read_on next more stop whole)
+    and_then (stepped_state t (step s t.token)) (λ next. read_on next more stop whole)
 
 -- the same over what a text is cut into
 abbrev pub read_from : State → Cut → Result End FormulaFault

@@ -41,10 +41,10 @@ taken_in (Pending.Body q x) a = Some (quantified q x a)
 taken_in p a = None
 
 -- the operand with all that is pending within the parentheses, and what is pending outside of them
-abbrev pub closed : List Pending → Formula → Option Held
-closed [] a = None
-closed (Pending.Parenthesis ∷ below) a = Some (below, a)
-closed (p ∷ below) a = option_map_or (closed below) (taken_in p a) None
+abbrev pub closed_operand : List Pending → Formula → Option Held
+closed_operand [] a = None
+closed_operand (Pending.Parenthesis ∷ below) a = Some (below, a)
+closed_operand (p ∷ below) a = option_map_or (closed_operand below) (taken_in p a) None
 
 -- the operand with all that is pending, where no parenthesis is open
 abbrev pub finished : List Pending → Formula → Option Formula

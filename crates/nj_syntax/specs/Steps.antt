@@ -10,8 +10,8 @@ use Rattle.nj_syntax.specs.declared.operator.Operator.{Operator}
 use Rattle.nj_syntax.specs.declared.operator.Quantifier.{Quantifier}
 use Rattle.nj_syntax.specs.declared.state.Pending.{Pending}
 use Rattle.nj_syntax.specs.declared.state.Mode.{Mode}
-use Rattle.nj_syntax.specs.Terms.{named}
-use Rattle.nj_syntax.specs.Reduced.{bound_names, place, Held, reduced, closed, finished}
+use Rattle.nj_syntax.specs.Terms.{named_term}
+use Rattle.nj_syntax.specs.Reduced.{bound_names, place, Held, reduced, closed_operand, finished}
 
 -- what is next, and what is pending
 abbrev pub State : Type 0
@@ -40,7 +40,7 @@ step_operator pending a Token.And = after_reduced Operator.And (reduced Operator
 step_operator pending a Token.Or = after_reduced Operator.Or (reduced Operator.Or pending a)
 step_operator pending a Token.Implies =
     after_reduced Operator.Implies (reduced Operator.Implies pending a)
-step_operator pending a Token.Close = after_closed (closed pending a)
+step_operator pending a Token.Close = after_closed (closed_operand pending a)
 step_operator pending a _ = None
 
 -- a quantifier, which is outermost, in parentheses or in a quantifier's body
@@ -89,7 +89,7 @@ step (Mode.Operator a, pending) t = step_operator pending a t
 step (Mode.Argument, pending) (Token.Name x) = goes (Mode.Head x) pending (length pending)
 step (Mode.Head x, pending) Token.Open =
     goes Mode.Argument (Pending.Function x [] ∷ pending) (length pending)
-step (Mode.Head x, pending) t = step_comma pending (named (bound_names pending) x) t
+step (Mode.Head x, pending) t = step_comma pending (named_term (bound_names pending) x) t
 step (Mode.Comma a, pending) t = step_comma pending a t
 step (mode, pending) t = None
 
@@ -106,6 +106,6 @@ alone (p ∷ below) a = None
 
 -- the term where the text may end here
 abbrev pub term_at : State → Option Argument
-term_at (Mode.Head x, pending) = alone pending (named [] x)
+term_at (Mode.Head x, pending) = alone pending (named_term [] x)
 term_at (Mode.Comma a, pending) = alone pending a
 term_at (mode, pending) = None

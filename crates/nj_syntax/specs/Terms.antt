@@ -11,9 +11,10 @@ abbrev pub Deep : Type 0
 Deep = Token × ℕ
 
 -- which of the bound names, innermost first, a name is
-abbrev pub place_of : List (List ℕ) → List ℕ → Option ℕ
-place_of [] x = None
-place_of (y ∷ bound) x = if bytes_eq y x then Some 0 else option_map (λ n. n + 1) (place_of bound x)
+abbrev pub binder_place : List (List ℕ) → List ℕ → Option ℕ
+binder_place [] x = None
+binder_place (y ∷ bound) x = if bytes_eq y x then Some 0 else option_map (λ n. n + 1)
+    (binder_place bound x)
 
 -- a bound name, or a free one
 abbrev pub named_at : List ℕ → Option ℕ → Argument
@@ -21,13 +22,13 @@ named_at x None = Free x
 named_at x (Some n) = Bound n
 
 -- a name by itself in the place of a term: what binds it, or a free name
-abbrev pub named : List (List ℕ) → List ℕ → Argument
-named bound x = named_at x (place_of bound x)
+abbrev pub named_term : List (List ℕ) → List ℕ → Argument
+named_term bound x = named_at x (binder_place bound x)
 
 -- terms with commas between them, under these bound names, at this depth; one term is a list of one
 pub data AreArguments : List (List ℕ) → ℕ → List Deep → List Argument → Type 0 where
   name : {bound : List (List ℕ)} {d : ℕ} {x : List ℕ}
-      → AreArguments bound d ((Name x, d) ∷ []) (named bound x ∷ [])
+      → AreArguments bound d ((Name x, d) ∷ []) (named_term bound x ∷ [])
   apply : {bound : List (List ℕ)} {d : ℕ} {f : List ℕ}
       {inside : List Deep} {arguments : List Argument}
       → AreArguments bound (d + 1) inside arguments

@@ -5,7 +5,7 @@ ghost use Rattle.std.specs.Prelude.{◌≡◌, [], ◌∷◌, ◌++◌, ◌+◌,
 ghost use Rattle.nj_tokens.specs.declared.token.Token.{Token as Tokens};
 ghost use Rattle.nj_syntax.specs.declared.state.Mode.{Mode as Modes};
 ghost use Rattle.nj_syntax.specs.declared.state.Pending.{Pending as Pendings};
-ghost use Rattle.nj_syntax.specs.Terms.{place_of, named};
+ghost use Rattle.nj_syntax.specs.Terms.{binder_place, named_term};
 ghost use Rattle.nj_syntax.specs.Reduced.{bound_names};
 ghost use Rattle.nj_syntax.specs.Steps.{goes, step_comma, step};
 ghost use Rattle.nj_syntax.specs.Seen.{seen_step};
@@ -19,7 +19,7 @@ use std::alloc::{AllocError, Global};
 
 /// Which of the names that pending quantifiers bind this is, counted from the innermost.
 fn place_of(pending: &[Pending], name: &Name) -> Option<usize>
-    ensures { result ≡ place_of (bound_names (reverse pending.now)) name.now }
+    ensures { result ≡ binder_place (bound_names (reverse pending.now)) name.now }
 {
     let mut rest = pending;
     let mut inner = 0;
@@ -37,7 +37,7 @@ fn place_of(pending: &[Pending], name: &Name) -> Option<usize>
 
 /// The name by itself: what binds it, or a free name.
 fn named(pending: &[Pending], name: Name) -> Argument
-    ensures { result ≡ named (bound_names (reverse pending.now)) name }
+    ensures { result ≡ named_term (bound_names (reverse pending.now)) name }
 {
     match place_of(pending, &name) {
         Some(place) => Argument::Bound(place),

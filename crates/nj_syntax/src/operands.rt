@@ -5,7 +5,7 @@ ghost use Rattle.nj_syntax.specs.declared.state.Mode.{Mode as Modes};
 ghost use Rattle.nj_syntax.specs.Reduced.{place};
 ghost use Rattle.nj_syntax.specs.Steps.{goes, step_word, step_quantifier, step_operand, step_operator};
 ghost use Rattle.nj_syntax.specs.Steps.{after_closed, after_reduced, step};
-ghost use Rattle.nj_syntax.specs.Reduced.{reduced as up_to, closed as up_to_parenthesis};
+ghost use Rattle.nj_syntax.specs.Reduced.{reduced as up_to, closed_operand as up_to_parenthesis};
 ghost use Rattle.nj_syntax.specs.Seen.{seen_step};
 
 use crate::operator::{Operator, Quantifier};

@@ -3,7 +3,7 @@ ghost use Rattle.nj_tokens.specs.Tokens.{cut_of};
 ghost use Rattle.nj_syntax.specs.declared.fault.FormulaFault.TheVariants.{TooDeep};
 ghost use Rattle.nj_syntax.specs.Deepest.{deepest};
 ghost use Rattle.nj_syntax.specs.Steps.{formula_at, term_at, alone, step};
-ghost use Rattle.nj_syntax.specs.Answer.{after, read_from};
+ghost use Rattle.nj_syntax.specs.Answer.{stepped_state, read_from};
 ghost use Rattle.nj_syntax.specs.Seen.{seen, Gives, seen_end};
 
 use crate::fault::{FaultKind, FormulaFault};
@@ -67,7 +67,7 @@ impl State {
 
     /// The state after one more token of the text.
     fn after(self, alloc: Global, placed: &Placed) -> Result<State, FormulaFault>
-        ensures { Gives seen result (after placed.now (step (seen self) placed.now.token)) }
+        ensures { Gives seen result (stepped_state placed.now (step (seen self) placed.now.token)) }
     {
         let Some(step) = self.step(alloc, &placed.token)? else {
             return Err(FormulaFault::At {

@@ -1,5 +1,5 @@
 ghost use Rattle.std.specs.Prelude.{◌≡◌, reverse, IfOk, option_map};
-ghost use Rattle.nj_syntax.specs.Reduced.{reduced, taken_in, closed, finished};
+ghost use Rattle.nj_syntax.specs.Reduced.{reduced, taken_in, closed_operand, finished};
 
 use crate::operator::Operator;
 use crate::state::Pending;
@@ -65,7 +65,8 @@ pub fn closed(
     operand: Formula,
 ) -> Result<Option<Held>, AllocError>
     ensures { IfOk result (λ held.
-        option_map (λ h. (reverse h.pending, h.operand)) held ≡ closed (reverse pending) operand) }
+        option_map (λ h. (reverse h.pending, h.operand)) held ≡ closed_operand (reverse pending)
+        operand) }
 {
     let mut pending = pending;
     let mut operand = operand;

@@ -11,7 +11,7 @@ use Rattle.nj_tokens.specs.declared.token.Token.{Token}
 use Rattle.nj_tokens.specs.declared.token.Token.TheVariants.{Implies}
 use Rattle.nj_tokens.specs.declared.token.Placed.{Placed}
 use Rattle.nj_tokens.specs.Lexis.{sign, ends_arrow, front_sign, front_name, name_or_sign, first_token}
-use Rattle.nj_tokens.specs.Tokens.{AreTokens, ends, stops, blank, begins, Cut, before, with_first, cut_after, cut_from, cut_of}
+use Rattle.nj_tokens.specs.Tokens.{AreTokens, ends, stops, blank, begins, Cut, placed_before, with_first, cut_after, cut_from, cut_of}
 
 -- a token has a scalar, and no more than the text
 abbrev Fits : List ℕ → Token × ℕ → Type 0
@@ -126,7 +126,7 @@ cut_is {at} (begins {c = c} {n = n} {text = text} {t = t} ink some h) =
     let fits : Fits (c ∷ text) (t, n) = subst (λ found. IfSome found (Fits (c ∷ text))) some (first_fits (c ∷ text)) in
     ap (λ b. cond b (cut_after text (at + 1) 0) (with_first at (first_token (c ∷ text)) (λ passed. cut_after text (at + 1) passed))) ink
     ∙ (ap (λ found. with_first at found (λ passed. cut_after text (at + 1) passed)) some
-    ∙ ap (before (record { token = t; at = at })) (behind_is c text at n fits ∙ cut_is h))
+    ∙ ap (placed_before (record { token = t; at = at })) (behind_is c text at n fits ∙ cut_is h))
 
 -- so a text has one list of tokens, and one place where they stop
 pub one_reading : {at stop place : ℕ} {text : List ℕ} {ts us : List Placed} {whole all : Bool} → AreTokens at text ts stop whole

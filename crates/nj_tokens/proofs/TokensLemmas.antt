@@ -5,7 +5,7 @@ use Rattle.nj_tokens.specs.declared.token.Token.{Token}
 use Rattle.nj_tokens.specs.declared.token.Placed.{Placed}
 use Rattle.text_words.specs.Blanks.{is_blank}
 use Rattle.nj_tokens.specs.Lexis.{first_token}
-use Rattle.nj_tokens.specs.Tokens.{AreTokens, stops, begins, before, cut_from}
+use Rattle.nj_tokens.specs.Tokens.{AreTokens, stops, begins, placed_before, cut_from}
 use Rattle.nj_tokens.proofs.KnownTokens.{are_from, cut_is}
 
 module _ (text : List ℕ) (at c : ℕ) (within : at < length text) (is : c ≡ get_or text at c) where
@@ -28,7 +28,7 @@ module _ (text : List ℕ) (at c : ℕ) (within : at < length text) (is : c ≡ 
   stray_next b none = cut_is (no_token b none)
 
   pub token_next : (t : Token) (n : ℕ) → is_blank c ≡ false → first_token (drop at text) ≡ Some (t, n)
-      → cut_from at text ≡ before (record { token = t; at = at }) (cut_from (at + n) text)
+      → cut_from at text ≡ placed_before (record { token = t; at = at }) (cut_from (at + n) text)
   token_next t n b found =
       let rest = cut_from (at + n) text in cut_is (over_token t n rest.tokens rest.stop rest.whole b found (are_from text (at + n)))
 

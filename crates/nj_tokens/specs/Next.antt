@@ -1,11 +1,11 @@
 -- What stands next in a text is the first of its tokens, or where they stop.
 use Rattle.std.specs.Prelude.{◌<◌, ◌≤◌, ℕ, true, false, List, [], length, ⊤}
 use Rattle.nj_tokens.specs.declared.token.Next.{Next}
-use Rattle.nj_tokens.specs.Tokens.{Cut, before, cut_from}
+use Rattle.nj_tokens.specs.Tokens.{Cut, placed_before, cut_from}
 
 -- the tokens of the text from a place on, by what stands next there
 abbrev pub cut_by : List ℕ → Next → Cut
-cut_by text (Next.Token t behind) = before t (cut_from behind text)
+cut_by text (Next.Token t behind) = placed_before t (cut_from behind text)
 cut_by text (Next.Stray at) = record { tokens = []; stop = at; whole = false }
 cut_by text Next.End = record { tokens = []; stop = length text; whole = true }
 

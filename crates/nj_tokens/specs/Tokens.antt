@@ -26,13 +26,13 @@ pub record Cut : Type 0 where
   pub whole : Bool
 
 -- one token more, in front of the others
-abbrev pub before : Placed → Cut → Cut
-before t cut = record { tokens = t ∷ cut.tokens; stop = cut.stop; whole = cut.whole }
+abbrev pub placed_before : Placed → Cut → Cut
+placed_before t cut = record { tokens = t ∷ cut.tokens; stop = cut.stop; whole = cut.whole }
 
 -- with the token at the place, whose length tells how many scalars are passed before the next one
 abbrev pub with_first : ℕ → Option (Token × ℕ) → (ℕ → Cut) → Cut
 with_first at None after = record { tokens = []; stop = at; whole = false }
-with_first at (Some t) after = before (record { token = t.0; at = at }) (after (t.1 - 1))
+with_first at (Some t) after = placed_before (record { token = t.0; at = at }) (after (t.1 - 1))
 
 -- the tokens of a text that begins at the place, after so many scalars that belong to a token
 -- before

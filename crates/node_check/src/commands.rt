@@ -4,7 +4,7 @@ ghost use Rattle.std.specs.List.{sum_by, AllByRecursion};
 ghost use Rattle.report_markup.specs.declared.report.Report.{Report};
 ghost use Rattle.report_markup.specs.Ranges.{moved};
 ghost use Rattle.language.specs.Laws.{LiesIn as ReportLiesIn};
-ghost use Rattle.report_markup.specs.Sorting.{in_order};
+ghost use Rattle.report_markup.specs.Sorting.{ordered_reports};
 ghost use Rattle.node_check.specs.Walking.{LiesIn, reports_at, reports_from, state_at, state_from};
 
 use crate::never::{fork, step};
@@ -85,7 +85,7 @@ pub fn run_commands<L: Language>(
 ) -> Result<NodeRun<L::State>, AllocError>
     requires { AllByRecursion (LiesIn (length text.now)) ranges.now }
     ensures reports { IfOk result (λ run. run.reports.items
-        ≡ in_order (reports_from L.lang text.now ranges.now begins)) }
+        ≡ ordered_reports (reports_from L.lang text.now ranges.now begins)) }
     ensures behind { IfOk result (λ run. run.behind
         ≡ state_from L.lang text.now ranges.now begins) }
 {

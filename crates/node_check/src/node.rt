@@ -1,7 +1,7 @@
 //! A node, from the state in which it begins.
 ghost use Rattle.std.specs.Prelude.{◌≡◌, ℕ, [], length, IfOk};
 ghost use Rattle.std.specs.List.{AllByRecursion};
-ghost use Rattle.report_markup.specs.Sorting.{in_order};
+ghost use Rattle.report_markup.specs.Sorting.{ordered_reports};
 ghost use Rattle.buffer_rules.specs.Cuts.{command_ranges};
 ghost use Rattle.buffer_rules.specs.Nodes.{ranges_in};
 ghost use Rattle.core_rules.specs.Scratch.{final, run_node};
@@ -43,7 +43,7 @@ pub fn check_node<L: Language>(
 ) -> Result<NodeRun<L::State>, AllocError>
     requires { AllByRecursion (LiesIn (length node.now.text))
         (ranges_in (sheet_of node.now) aliases.now) }
-    ensures reports { (next : ℕ) → IfOk result (λ run. run.reports.items ≡ in_order
+    ensures reports { (next : ℕ) → IfOk result (λ run. run.reports.items ≡ ordered_reports
         (reports_of L.lang (cut_under node.now aliases.now next).entries
         (run_node L.lang (cut_under node.now aliases.now next) [] begins).commands)) }
     ensures behind { (next : ℕ) → IfOk result (λ run. run.behind

@@ -9,7 +9,7 @@ use Rattle.doc_nodes.specs.declared.node.Entry.{Entry}
 use Rattle.doc_blobs.specs.Needs.{AliasList}
 use Rattle.buffer_rules.specs.declared.sheet.Sheet.{Sheet}
 use Rattle.buffer_rules.specs.Cuts.{source}
-use Rattle.buffer_rules.specs.Numbers.{Command, Kept, kept, with_kept, ids_of}
+use Rattle.buffer_rules.specs.Numbers.{Command, Kept, kept_runs, with_kept, ids_of}
 use Rattle.buffer_rules.specs.Nodes.{entry}
 use Rattle.node_commands.specs.Commands.{sources_in, commands_in}
 use Rattle.node_commands.proofs.KnownCommands.{firsts, seconds}
@@ -77,11 +77,12 @@ module _ (sheet : Sheet) (aliases : AliasList) where
       ∙ joined k (map cmd es) rs next (omega arith) now
 
 -- the ids by the sources
-pub ids_by : (old new : List ℕ) (es : List Entry) (rs : List Range) (next : ℕ) (k : Kept) → k ≡ kept (sources_in old es) (map (source new) rs)
+pub ids_by : (old new : List ℕ) (es : List Entry) (rs : List Range) (next : ℕ) (k : Kept) → k ≡ kept_runs (sources_in old es) (map (source new) rs)
     → with_kept k (map (λ (e : Entry). e.command) es) (length rs) next ≡ ids_of (commands_in old es) (map (source new) rs) next
 ids_by old new es rs next k e =
     let ids = map (λ (x : Entry). x.command) es in
     ap (λ (j : Kept). with_kept j ids (length rs) next) e
-    ∙ ap (λ n. with_kept (kept (sources_in old es) (map (source new) rs)) ids n next) (sym (length-map rs (source new)))
-    ∙ ap (λ js. with_kept (kept (sources_in old es) (map (source new) rs)) js (length (map (source new) rs)) next) (sym (firsts old es))
-    ∙ ap (λ xs. with_kept (kept xs (map (source new) rs)) (map (λ (c : Command). c.0) (commands_in old es)) (length (map (source new) rs)) next) (sym (seconds old es))
+    ∙ ap (λ n. with_kept (kept_runs (sources_in old es) (map (source new) rs)) ids n next)
+    (sym (length-map rs (source new)))
+    ∙ ap (λ js. with_kept (kept_runs (sources_in old es) (map (source new) rs)) js (length (map (source new) rs)) next) (sym (firsts old es))
+    ∙ ap (λ xs. with_kept (kept_runs xs (map (source new) rs)) (map (λ (c : Command). c.0) (commands_in old es)) (length (map (source new) rs)) next) (sym (seconds old es))

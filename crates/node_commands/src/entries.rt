@@ -5,7 +5,7 @@ ghost use Rattle.shared_map.specs.Pairs.{Each};
 ghost use Rattle.pide_base.specs.Ids.{id_end};
 ghost use Rattle.doc_blobs.specs.Needs.{needs};
 ghost use Rattle.buffer_rules.specs.Cuts.{source};
-ghost use Rattle.buffer_rules.specs.Numbers.{kept, ids_of};
+ghost use Rattle.buffer_rules.specs.Numbers.{kept_runs, ids_of};
 ghost use Rattle.buffer_rules.specs.Nodes.{entry};
 ghost use Rattle.node_commands.specs.Commands.{sources_in, commands_in, AsksFor, AskUnder};
 ghost use Rattle.node_commands.specs.Spread.{ShowAlike};
@@ -137,7 +137,7 @@ pub fn entries_of(
 ) -> Result<Items<Entry>, AllocError>
     requires asked { IsTrue old.now.same_aliases
         → AskUnder aliases.now old.now.text.now old.now.entries.now }
-    requires kept { runs.now ≡ kept (sources_in old.now.text.now old.now.entries.now)
+    requires kept { runs.now ≡ kept_runs (sources_in old.now.text.now old.now.entries.now)
         (map (source sheet.now.text) ranges.now) }
     requires old { runs.now.front + runs.now.back ≤ length old.now.entries.now }
     requires now { runs.now.front + runs.now.back ≤ length ranges.now }

@@ -2,7 +2,7 @@
 ghost use Rattle.std.specs.Prelude.{◌≡◌, ◌+◌, ◌-◌, ◌≤◌, length, zip, reverse};
 ghost use Rattle.std.specs.List.{take_while};
 ghost use Rattle.doc_nodes.specs.Names.{equal};
-ghost use Rattle.buffer_rules.specs.Numbers.{kept};
+ghost use Rattle.buffer_rules.specs.Numbers.{kept_runs};
 
 use crate::source::Source;
 use std::marker::Model;
@@ -71,7 +71,7 @@ fn equal_back(before: &[Source], now: &[Source]) -> usize
 /// Which of the commands with these sources, before and now, are the same: the longest front of
 /// equal sources, and then the longest back of what is left.
 pub fn kept_runs(before: &[Source], now: &[Source]) -> KeptRuns
-    ensures value { result ≡ kept before.now now.now }
+    ensures value { result ≡ kept_runs before.now now.now }
     ensures before { result.front + result.back ≤ length before.now }
     ensures now { result.front + result.back ≤ length now.now }
 {

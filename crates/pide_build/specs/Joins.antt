@@ -9,23 +9,24 @@ use Rattle.message_input.specs.declared.answering.Halt.{Halt}
 use Rattle.message_input.specs.declared.answering.Halt.TheVariants as halt
 use Rattle.pide_build.specs.Answers.{CountsSo, GoesOn, Stops}
 use Rattle.pide_build.specs.Replies.{refusal_of, refusals}
-use Rattle.pide_build.specs.Theories.{TheoryList, kept_by, taken, theories_after}
+use Rattle.pide_build.specs.Theories.{TheoryList, kept_by, next_theories, theories_after}
 
 -- some messages after others
 theories_both : (first then : List (List (List ℕ))) (theories : TheoryList)
     → theories_after (first ++ then) theories ≡ theories_after then (theories_after first theories)
 theories_both [] then theories = refl
 theories_both (message ∷ first) then theories =
-    theories_both first then (kept_by (taken message theories) theories)
+    theories_both first then (kept_by (next_theories message theories) theories)
 
 pub refusals_both : (first then : List (List (List ℕ))) (theories : TheoryList)
     → refusals (first ++ then) theories
     ≡ refusals first theories ++ refusals then (theories_after first theories)
 refusals_both [] then theories = refl
 refusals_both (message ∷ first) then theories =
-    let after = kept_by (taken message theories) theories in
-    ap (λ bytes. refusal_of (taken message theories) ++ bytes) (refusals_both first then after)
-    ∙ sym (append_assoc (refusal_of (taken message theories)) (refusals first after)
+    let after = kept_by (next_theories message theories) theories in
+    ap (λ bytes. refusal_of (next_theories message theories) ++ bytes)
+    (refusals_both first then after)
+    ∙ sym (append_assoc (refusal_of (next_theories message theories)) (refusals first after)
     (refusals then (theories_after first after)))
 
 -- where no message came nothing is done

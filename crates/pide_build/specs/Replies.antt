@@ -12,7 +12,7 @@ use Rattle.reply_writing.specs.Replies.{reply_chunks}
 use Rattle.batch_check.specs.declared.telling.BuiltNode.{BuiltNode}
 use Rattle.document_build.specs.Built.{built_of}
 use Rattle.pide_build.specs.Documents.{nodes_of}
-use Rattle.pide_build.specs.Theories.{TheoryList, kept_by, taken}
+use Rattle.pide_build.specs.Theories.{TheoryList, kept_by, next_theories}
 
 -- the bytes of a reply
 abbrev pub spelled : Told → List ℕ
@@ -26,8 +26,8 @@ refusal_of (Err reason) = spelled (tells.Refused reason)
 -- what messages are replied, one after the other
 abbrev pub refusals : List (List (List ℕ)) → TheoryList → List ℕ
 refusals [] theories = []
-refusals (message ∷ messages) theories = refusal_of (taken message theories)
-    ++ refusals messages (kept_by (taken message theories) theories)
+refusals (message ∷ messages) theories = refusal_of (next_theories message theories)
+    ++ refusals messages (kept_by (next_theories message theories) theories)
 
 -- a report tells an error
 abbrev pub tells_error : ReportKind → Bool

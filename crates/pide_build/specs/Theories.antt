@@ -34,8 +34,8 @@ with_message (asks.Theory name text) theories = with_theory name text theories
 with_message _ theories = Err UnknownFunction
 
 -- what a message makes of them, or the first reason for which it is refused
-abbrev pub taken : List (List ℕ) → TheoryList → Result TheoryList Refusal
-taken message theories = asked Build message >>= λ read. with_message read theories
+abbrev pub next_theories : List (List ℕ) → TheoryList → Result TheoryList Refusal
+next_theories message theories = asked Build message >>= λ read. with_message read theories
 
 -- the theories after a message that makes this of them: a refused one leaves them as they are
 abbrev pub kept_by : Result TheoryList Refusal → TheoryList → TheoryList
@@ -46,4 +46,4 @@ kept_by (Err reason) theories = theories
 abbrev pub theories_after : List (List (List ℕ)) → TheoryList → TheoryList
 theories_after [] theories = theories
 theories_after (message ∷ messages) theories =
-    theories_after messages (kept_by (taken message theories) theories)
+    theories_after messages (kept_by (next_theories message theories) theories)

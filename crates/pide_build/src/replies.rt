@@ -4,7 +4,7 @@ ghost use Rattle.std.specs.List.{flat_map, sum_by};
 ghost use Rattle.std.specs.Io.KnownBytes.{Appends};
 ghost use Rattle.pide_base.specs.Moves.{AppendsFront};
 ghost use Rattle.reply_writing.specs.Forms.{IsForm};
-ghost use Rattle.reply_writing.specs.Lent.{told};
+ghost use Rattle.reply_writing.specs.Lent.{told_reply};
 ghost use Rattle.pide_build.specs.Answers.{CountsSo};
 ghost use Rattle.pide_build.specs.Replies.{errors_of, node_reply, spelled, tells_error};
 ghost use Rattle.pide_build.specs.Telling.{bytes_of};
@@ -94,11 +94,11 @@ pub(crate) fn push_reply<K: Sink>(
     sink: &mut K,
     reply: &Reply<'_>,
 ) -> Result<(), Halt>
-    requires { IsForm (told reply.now) }
+    requires { IsForm (told_reply reply.now) }
     ensures ok { OnOk result
-        (Appends (K.contents sink.old) (K.contents sink.new) (spelled (told reply.now))) }
+        (Appends (K.contents sink.old) (K.contents sink.new) (spelled (told_reply reply.now))) }
     ensures front { AppendsFront (K.contents sink.old) (K.contents sink.new)
-        (spelled (told reply.now)) }
+        (spelled (told_reply reply.now)) }
     ensures steady { K.faults sink.old ≤ K.faults sink.new }
     ensures counts { IfErr result (λ halt. CountsSo halt (K.faults sink.old)
         (K.faults sink.new)) }

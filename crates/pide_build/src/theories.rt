@@ -2,7 +2,7 @@
 ghost use Rattle.std.specs.Prelude.{◌≡◌, [], Ok, Err, IfOk};
 ghost use Rattle.message_values.specs.declared.mode.Mode.TheVariants.{Build};
 ghost use Rattle.message_values.specs.Asked.{asked};
-ghost use Rattle.pide_build.specs.Theories.{is_beyond, taken, with_message, with_theory};
+ghost use Rattle.pide_build.specs.Theories.{is_beyond, next_theories, with_message, with_theory};
 ghost use Rattle.pide_build.specs.Taking.{TakesSo};
 
 use byte_message::Message;
@@ -67,7 +67,7 @@ pub(crate) fn take(
     theories: &mut Theories,
     message: &Message,
 ) -> Result<Taken, AllocError>
-    ensures { TakesSo result (taken message.now theories.old) theories.old theories.new }
+    ensures { TakesSo result (next_theories message.now theories.old) theories.old theories.new }
 {
     match read(alloc, message, Mode::Build) {
         Ok(EditorMessage::Theory { node, text }) => take_theory(alloc, theories, node, text),

@@ -4,7 +4,7 @@ ghost use Rattle.std.specs.List.{flat_map};
 ghost use Rattle.std.specs.Io.KnownBytes.{Appends};
 ghost use Rattle.pide_base.specs.Faults.{Rose};
 ghost use Rattle.pide_base.specs.Moves.{AppendsFront};
-ghost use Rattle.text_check.specs.Lines.{line};
+ghost use Rattle.text_check.specs.Lines.{report_line};
 ghost use Rattle.pide_check.specs.Writing.{AreOnTheirWay};
 
 use pide_base::{Sink, push_whole};
@@ -38,11 +38,11 @@ fn push_piece<K: Sink>(sink: &mut K, text: &mut String) -> bool
 fn add_line<K: Sink>(sink: &mut K, text: &mut String, report: &Report) -> Result<bool, AllocError>
     ensures added { result ≡ Ok true → (first : Option (List ℕ)) (rest all : List ℕ)
         → AreOnTheirWay first (K.contents sink.old) (string_bytes text.old)
-        (line report.now ++ rest) all
+        (report_line report.now ++ rest) all
         → AreOnTheirWay first (K.contents sink.new) (string_bytes text.new) rest all }
     ensures front { (first : Option (List ℕ)) (rest all : List ℕ)
         → AreOnTheirWay first (K.contents sink.old) (string_bytes text.old)
-        (line report.now ++ rest) all → AppendsFront first (K.contents sink.new) all }
+        (report_line report.now ++ rest) all → AppendsFront first (K.contents sink.new) all }
     ensures cause { result ≡ Ok false → Rose (K.faults sink.old) (K.faults sink.new) }
     ensures steady { K.faults sink.old ≤ K.faults sink.new }
 {
@@ -58,9 +58,9 @@ pub(crate) fn write_lines<K: Sink>(
     reports: &[Report],
 ) -> Result<bool, AllocError>
     ensures written { result ≡ Ok true → Appends (K.contents sink.old) (K.contents sink.new)
-        (flat_map line reports.now) }
+        (flat_map report_line reports.now) }
     ensures front { AppendsFront (K.contents sink.old) (K.contents sink.new)
-        (flat_map line reports.now) }
+        (flat_map report_line reports.now) }
     ensures cause { result ≡ Ok false → Rose (K.faults sink.old) (K.faults sink.new) }
     ensures steady { K.faults sink.old ≤ K.faults sink.new }
 {

@@ -22,10 +22,10 @@ use Rattle.session_laws.specs.Reported.{node_reports, part_reports, version_repo
 use Rattle.session_laws.specs.Updates.{Updates, all_read, document_of}
 use Rattle.made_document.specs.declared.summary.Summary.{Summary}
 use Rattle.made_document.specs.declared.tally.Tally.{Tally}
-use Rattle.made_document.specs.Summary.{greatest_execution, lines_of, made_updates, summary, summary_lines, summary_of}
+use Rattle.made_document.specs.Summary.{greatest_execution, summary_text, made_updates, summary, summary_lines, summary_of}
 use Rattle.made_document.specs.Tallies.{IsTally}
 use Rattle.pide_program.specs.Answered.{Made}
-use Rattle.pide_program.specs.Told.{IsLive, after, shown_reports}
+use Rattle.pide_program.specs.Told.{IsLive, listed_session, shown_reports}
 
 -- what is known of two updates and a settle
 pub record SettledLaws {S : Type 0} (l : Lang S) : Type 0 where
@@ -44,11 +44,12 @@ module _ {S : Type 0} (l : Lang S) (laws : SettledLaws l) (count workers : ℕ) 
   abbrev lives : List (Live Version)
   lives = (document_of l (made_updates count)).live
 
-  pub lives_are : (document l (after l s)).live ≡ lives
+  pub lives_are : (document l (listed_session l s)).live ≡ lives
   lives_are = subst (λ service. (document l (session_in l service s.items)).live ≡ lives) (sym is.served)
       (laws.live workers (heard_in (Workers workers) s.items) (made_updates count) is.legal is.read)
 
-  pub none_is : version_of (document l (after l s)).live last_version ≡ None → None ≡ summary l count
+  pub none_is : version_of (document l (listed_session l s)).live last_version ≡ None
+      → None ≡ summary l count
   none_is none = sym (ap (option_map (summary_of l lives)) (sym (ap (λ xs. version_of xs last_version) lives_are) ∙ none))
 
   -- all reports of a version
@@ -64,7 +65,7 @@ module _ {S : Type 0} (l : Lang S) (laws : SettledLaws l) (count workers : ℕ) 
   pub some_is : (version : Version) → IsLive l s last_version version → (tally : Tally) (nodes commands executions : ℕ)
       → IsTally tally (flat_map (λ (pair : List ℕ × Node). shown_reports l s version pair.0) version.nodes)
       → nodes ≡ length version.nodes → commands ≡ length (command_ids version.nodes)
-      → executions ≡ greatest_execution (document l (after l s)).live
+      → executions ≡ greatest_execution (document l (listed_session l s)).live
       → Some (record { nodes = nodes; commands = commands; executions = executions; reports = tally.reports; errors = tally.errors }) ≡ summary l count
   some_is version live tally nodes commands executions counted nodes_are commands_are executions_are =
       let all : IsTally tally (version_reports l version) = subst (IsTally tally) (reports_are version live) counted in
@@ -80,9 +81,11 @@ module _ {S : Type 0} (l : Lang S) (laws : SettledLaws l) (count workers : ℕ) 
 
 -- the lines are those of the summary
 pub some_lines : {S : Type 0} (l : Lang S) (count : ℕ) (found : Option Summary) (made : Summary) (text : List ℕ) → found ≡ Some made
-    → found ≡ summary l count → text ≡ lines_of made → text ≡ summary_lines l count
-some_lines l count found made text is same written = written ∙ ap (λ o. option_map_or lines_of o []) (sym is ∙ same)
+    → found ≡ summary l count → text ≡ summary_text made → text ≡ summary_lines l count
+some_lines l count found made text is same written = written ∙ ap
+    (λ o. option_map_or summary_text o []) (sym is ∙ same)
 
 pub no_lines : {S : Type 0} (l : Lang S) (count : ℕ) (found : Option Summary) (text : List ℕ) → found ≡ None → found ≡ summary l count
     → text ≡ [] → text ≡ summary_lines l count
-no_lines l count found text is same written = written ∙ ap (λ o. option_map_or lines_of o []) (sym is ∙ same)
+no_lines l count found text is same written = written ∙ ap (λ o. option_map_or summary_text o [])
+    (sym is ∙ same)

@@ -11,14 +11,14 @@ use Rattle.thread_serve.specs.document_session_below.Contents.{SessionState}
 use Rattle.session_laws.specs.Reported.{part_reports}
 
 -- what the session has after its list
-abbrev pub after : {S : Type 0} → Lang S → SessionState → Session
-after l s = session_in l s.service s.items
+abbrev pub listed_session : {S : Type 0} → Lang S → SessionState → Session
+listed_session l s = session_in l s.service s.items
 
 -- the live version of this id
 abbrev pub IsLive : {S : Type 0} → Lang S → SessionState → ℕ → Version → Type 0
-IsLive l s id version = version_of (document l (after l s)).live id ≡ Some version
+IsLive l s id version = version_of (document l (listed_session l s)).live id ≡ Some version
 
 -- the reports that are shown of a node
 abbrev pub shown_reports : {S : Type 0} → Lang S → SessionState → Version → List ℕ → List Report
 shown_reports l s version name = flat_map part_reports
-    (parts_shown l (after l s).events (document l (after l s)) version name)
+    (parts_shown l (listed_session l s).events (document l (listed_session l s)) version name)

@@ -3,7 +3,7 @@ use Rattle.std.specs.Prelude.{ℕ, nat_le, Bool, true, false, ◌&&◌, ◌||◌
 use Rattle.std.specs.Borrow.{Bor}
 use Rattle.command_words.specs.declared.request.Request.{Request}
 use Rattle.command_words.specs.declared.request.Request.TheVariants as request
-use Rattle.command_words.specs.Asked.{asked}
+use Rattle.command_words.specs.Asked.{words_request}
 use Rattle.session_rules.specs.declared.service.Service.{Service}
 use Rattle.session_rules.specs.declared.service.Service.TheVariants as service
 use Rattle.made_document.specs.Texts.{most_nodes}
@@ -42,7 +42,7 @@ service_for _ = service.Script
 
 -- what words that are lent ask for
 abbrev pub request_of : List (Bor (List ℕ)) → Option Request
-request_of words = asked (map (λ w. w.now) words)
+request_of words = words_request (map (λ w. w.now) words)
 
 -- the words are `serve`, with a number of workers or without, or `replay`
 abbrev pub is_served : List (Bor (List ℕ)) → Bool
@@ -65,8 +65,8 @@ abbrev pub nodes_of : List (Bor (List ℕ)) → ℕ
 nodes_of words = nodes_for (request_of words)
 
 -- the words are taken
-abbrev pub is_taken : List (Bor (List ℕ)) → Bool
-is_taken words = is_served words || (is_check words || (is_build words || is_gen words))
+abbrev pub has_request : List (Bor (List ℕ)) → Bool
+has_request words = is_served words || (is_check words || (is_build words || is_gen words))
 
 -- how the words ask to be served
 abbrev pub service_of : List (Bor (List ℕ)) → Service

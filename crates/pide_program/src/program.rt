@@ -7,7 +7,7 @@ ghost use Rattle.isar_rules.specs.Isar.{isar};
 ghost use Rattle.pide_build.specs.Runs.{IsBuild};
 ghost use Rattle.pide_program.specs.Generated.{IsGenerated};
 ghost use Rattle.pide_program.specs.Headline.{Headline};
-ghost use Rattle.pide_program.specs.Words.{is_build, is_check, is_gen, is_served, is_taken, nodes_of, service_of};
+ghost use Rattle.pide_program.specs.Words.{is_build, is_check, is_gen, is_served, has_request, nodes_of, service_of};
 ghost use Rattle.pide_program.specs.Limit.{input_limit};
 
 use crate::outcome::Outcome;
@@ -77,8 +77,8 @@ pub fn pide<
         → (Rose (K.faults sink) (K.faults result.sink) → ⊥)
         → (result.status ≡ Status.Done) ⊎ (result.status ≡ Status.NoMemory) }
 
-    ensures usage { result.status ≡ Status.Usage → is_taken words.now ≡ false }
-    ensures refused { is_taken words.now ≡ false
+    ensures usage { result.status ≡ Status.Usage → has_request words.now ≡ false }
+    ensures refused { has_request words.now ≡ false
         → (result.status ≡ Status.Usage) ⊎ (result.status ≡ Status.NoMemory) }
     ensures read_fault { result.status ≡ Status.ReadFault
         → Rose (S.faults source) (S.faults result.source) }

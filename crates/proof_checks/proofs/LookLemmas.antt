@@ -6,9 +6,9 @@ use Rattle.nj_formula.specs.Meaning.{meaning}
 use Rattle.nj_formula.specs.Statement.{Statement}
 use Rattle.nj_kernel.specs.Sets.{members}
 use Rattle.theory_ctx.specs.declared.local.Local.{Local}
-use Rattle.theory_ctx.specs.Facts.{Fact, fact_of, imported, is_called, is_import}
+use Rattle.theory_ctx.specs.Facts.{Fact, fact_of, facts_elsewhere, is_called, is_import}
 use Rattle.theory_ctx.specs.Answers.{found}
-use Rattle.theory_ctx.specs.Looked.{among, first_of, looked_by, parts_of}
+use Rattle.theory_ctx.specs.Looked.{among, first_of, looked_by, name_parts}
 use Rattle.theory_ctx.specs.Locals.{Scoped, local_of, local_first, looked_in}
 use Rattle.proof_checks.specs.Scopes.{Stands}
 
@@ -47,7 +47,7 @@ fact_in : (facts : List Fact) (own : List ℕ) (parts : List (List ℕ)) (t : Op
     → looked_by facts own parts ≡ found t n f → In facts (meaning f)
 fact_in facts own [] t n f e = cc
 fact_in facts own (m ∷ []) t n f e =
-    first_in facts (imported own m facts) (fact_of own m facts) t n f (λ x is. find_member (λ fact. meaning fact.1) (is_called own m) facts x is)
+    first_in facts (facts_elsewhere own m facts) (fact_of own m facts) t n f (λ x is. find_member (λ fact. meaning fact.1) (is_called own m) facts x is)
     (λ a k. filter_member (λ fact. meaning fact.1) (is_import own m) facts a k) e
 fact_in facts own (u ∷ m ∷ []) t n f e =
     first_in facts [] (fact_of u m facts) t n f (λ x is. find_member (λ fact. meaning fact.1) (is_called u m) facts x is) (λ a k. elim k [ ]) e
@@ -59,8 +59,8 @@ local_in locals (n ∷ []) l e = find_member (λ local. meaning local.formula) _
 local_in locals (n ∷ m ∷ more) l e = cc
 
 pub looked_stands : (scope : Scoped) (name : List ℕ) (t : Option (List ℕ)) (n : List ℕ) (f : Formula) → looked_in scope name ≡ found t n f → Stands scope (meaning f)
-looked_stands scope name t n f e = by (local_of scope.locals (parts_of name)) refl e
+looked_stands scope name t n f e = by (local_of scope.locals (name_parts name)) refl e
   where
-    by : (o : Option Local) → local_of scope.locals (parts_of name) ≡ o → local_first o (looked_by scope.facts scope.theory (parts_of name)) ≡ found t n f → Stands scope (meaning f)
-    by (Some l) is e = let same : l.formula ≡ f = cc in inl (subst (λ g. members (map (λ local. meaning local.formula) scope.locals) (meaning g)) same (local_in scope.locals (parts_of name) l is))
-    by None is e = inr (fact_in scope.facts scope.theory (parts_of name) t n f e)
+    by : (o : Option Local) → local_of scope.locals (name_parts name) ≡ o → local_first o (looked_by scope.facts scope.theory (name_parts name)) ≡ found t n f → Stands scope (meaning f)
+    by (Some l) is e = let same : l.formula ≡ f = cc in inl (subst (λ g. members (map (λ local. meaning local.formula) scope.locals) (meaning g)) same (local_in scope.locals (name_parts name) l is))
+    by None is e = inr (fact_in scope.facts scope.theory (name_parts name) t n f e)

@@ -10,7 +10,7 @@ use Rattle.theory_ctx.specs.Facts.{Fact}
 use Rattle.theory_ctx.specs.declared.local.Local.{Local}
 use Rattle.proof_state.specs.declared.local_fact.LocalFact.{LocalFact}
 use Rattle.proof_state.specs.declared.frame.Frame.{Frame}
-use Rattle.proof_state.specs.Named.{named}
+use Rattle.proof_state.specs.Named.{named_facts}
 use Rattle.proof_state.specs.Locals.{around_locals}
 use Rattle.proof_state.specs.Follows.{Follows, IsFact}
 use Rattle.proof_state.specs.Worth.{Given, IsWorthInside}
@@ -21,12 +21,12 @@ abbrev says : Local → Statement
 says local = meaning local.formula
 
 named_follow : (Q : Statement → Type 0) (facts : List LocalFact) → Each (λ fact. Follows Q (meaning fact.formula)) facts
-    → (s : Statement) → members (map says (named facts)) s → Follows Q s
+    → (s : Statement) → members (map says (named_facts facts)) s → Follows Q s
 named_follow Q [] each s m = elim m [ ]
 named_follow Q (fact ∷ facts) each s m = by fact.name (named_follow Q facts each.1 s) m
   where
-    by : (name : Option (List ℕ)) → (members (map says (named facts)) s → Follows Q s)
-        → members (map says (named (record fact { name = name } ∷ facts))) s → Follows Q s
+    by : (name : Option (List ℕ)) → (members (map says (named_facts facts)) s → Follows Q s)
+        → members (map says (named_facts (record fact { name = name } ∷ facts))) s → Follows Q s
     by None rest m = rest m
     by (Some n) rest m = ⊎_elim (λ e. subst (Follows Q) e each.0) rest m
 
@@ -37,8 +37,9 @@ module _ (facts : List Fact) (start : Formula) where
   locals_follow goal (frame ∷ around) worth s m =
       ⊎_elim (named_follow (Given facts (frame ∷ around)) frame.block.facts worth.1.facts s)
       (λ n. monotone (Given facts around) (Given facts (frame ∷ around)) s (λ g p. inl p) (locals_follow frame.block.goal around worth.2 s n))
-      (in_either (map says (named frame.block.facts)) (map says (around_locals around)) s
-      (subst (λ l. members l s) (map-append says (named frame.block.facts) (around_locals around)) m))
+      (in_either (map says (named_facts frame.block.facts)) (map says (around_locals around)) s
+      (subst (λ l. members l s) (map-append says (named_facts frame.block.facts) (around_locals
+      around)) m))
 
   context_given : (around : List Frame) (s : Statement) → IsFact facts s → Given facts around s
   context_given [] s m = m

@@ -17,7 +17,7 @@ use Rattle.proof_state.specs.declared.fault.ProofFault.TheVariants as Fault
 use Rattle.proof_state.specs.Blocks.{achieved}
 use Rattle.proof_state.specs.Fits.{fits, fitting}
 use Rattle.proof_state.specs.Fresh.{is_taken}
-use Rattle.proof_state.specs.Steps.{Command, proof, fix, assume, have, show, next, qed, by, closed, shown, proved, stated, step}
+use Rattle.proof_state.specs.Steps.{Command, proof, fix, assume, have, show, next, qed, by, closed_levels, shown_levels, proved, stated_levels, step}
 use Rattle.proof_state.specs.Follows.{Follows, IsFact}
 use Rattle.proof_state.specs.Worth.{Given, Holds, IsPartOf, IsWorthInside, IsWorth}
 use Rattle.proof_state.specs.Runs.{IsJustified, IsProof}
@@ -43,7 +43,7 @@ module _ (facts : List Fact) (start : Formula) where
   Kept (Err fault) = Unit {0}
 
   closed_worth : (goal : Formula) (around : List Frame) → IsWorthInside facts start goal around → Follows (Given facts around) (meaning goal)
-      → IsWorth facts start (closed goal around)
+      → IsWorth facts start (closed_levels goal around)
   closed_worth goal [] worth d = subst (Follows (IsFact facts)) worth d
   closed_worth goal (frame ∷ around) worth d =
       (achieved_sound (Given facts around) frame.purpose goal frame.block worth.0 d worth.1, inside frame.purpose)
@@ -67,7 +67,7 @@ module _ (facts : List Fact) (start : Formula) where
       ∣ (fixed_sound (Given facts around) block x (not_taken x facts block around is) worth.0, worth.1) ∣₁
 
   shown_kept : (c : Formula) (block : Block) (around : List Frame) → IsWorth facts start (State block around)
-      → (place : Option ℕ) → fitting block c ≡ place → Kept (shown c block around place)
+      → (place : Option ℕ) → fitting block c ≡ place → Kept (shown_levels c block around place)
   shown_kept c block around worth None is = tt
   shown_kept c block around worth (Some place) is =
       let found = found_at (fits block c) block.pending place is in
@@ -75,15 +75,15 @@ module _ (facts : List Fact) (start : Formula) where
       ∣ ((found.0, found.1, fits_shown (Given facts around) block worth.0 c found.0 part found.2), worth.0, worth.1) ∣₁
 
   qed_kept : (block : Block) (around : List Frame) → IsWorth facts start (State block around) → (done : Bool) → (length block.pending == 0) ≡ done
-      → Kept (cond done (Ok (closed block.goal around)) (Err Fault.SubgoalsRemain))
+      → Kept (cond done (Ok (closed_levels block.goal around)) (Err Fault.SubgoalsRemain))
   qed_kept block around worth false is = tt
   qed_kept block around worth true is =
       ∣ closed_worth block.goal around worth.1 (worth.0.enough (none_left (Holds (Given facts around)) block.pending is)) ∣₁
 
   state_kept : (command : Command) (block : Block) (around : List Frame) → IsJustified facts command (State block around)
-      → IsWorth facts start (State block around) → Kept (stated command block around)
+      → IsWorth facts start (State block around) → Kept (stated_levels command block around)
   state_kept (fix seen x) block around just worth =
-      subst (λ known. Kept (stated (fix known x) block around)) (sym just) (fixed_kept x block around worth (is_taken facts x block around) refl)
+      subst (λ known. Kept (stated_levels (fix known x) block around)) (sym just) (fixed_kept x block around worth (is_taken facts x block around) refl)
   state_kept (assume name f) block around just worth = ∣ (assumed_sound (Given facts around) name f block worth.0, worth.1) ∣₁
   state_kept (have name f) block around just worth = ∣ (tt, worth.0, worth.1) ∣₁
   state_kept (show c) block around just worth = shown_kept c block around worth (fitting block c) refl

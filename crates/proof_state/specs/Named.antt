@@ -9,5 +9,5 @@ abbrev pub as_local : LocalFact → Option Local
 as_local fact = option_map (λ n. record { name = n; formula = fact.formula }) fact.name
 
 -- the facts that have names
-abbrev pub named : List LocalFact → List Local
-named = filter_map as_local
+abbrev pub named_facts : List LocalFact → List Local
+named_facts = filter_map as_local

@@ -3,7 +3,7 @@
 ghost use Rattle.std.specs.Prelude.{◌≡◌, IfOk};
 ghost use Rattle.proof_state.specs.declared.local_fact.Origin.TheVariants.{Proved};
 ghost use Rattle.proof_state.specs.Blocks.{achieved};
-ghost use Rattle.proof_state.specs.Steps.{closed};
+ghost use Rattle.proof_state.specs.Steps.{closed_levels};
 
 use crate::around::Around;
 use crate::block::Block;
@@ -25,7 +25,7 @@ pub(crate) fn copy_name(alloc: Global, name: &Option<Name>) -> Result<Option<Nam
 
 /// The levels after the goal is closed: all is done, or the block around it has the goal.
 pub(crate) fn closed(alloc: Global, goal: &Formula, around: &Around) -> Result<Levels, AllocError>
-    ensures { IfOk result (λ levels. levels ≡ closed goal.now around.now) }
+    ensures { IfOk result (λ levels. levels ≡ closed_levels goal.now around.now) }
 {
     match around.first() {
         None => Ok(Levels::Closed),

@@ -1,7 +1,7 @@
 ghost use Rattle.std.specs.Prelude.{◌≡◌, [], ◌∷◌, IfOk};
 ghost use Rattle.std.specs.List.{cons_option, list_any};
 ghost use Rattle.proof_state.specs.Fresh.{is_in};
-ghost use Rattle.proof_state.specs.Named.{as_local, named};
+ghost use Rattle.proof_state.specs.Named.{as_local, named_facts};
 ghost use Rattle.proof_state.specs.Kept.{AreFree};
 
 use crate::local_fact::LocalFact;
@@ -27,7 +27,7 @@ impl Model for Facts {
     ghost use Rattle.std.specs.Coded.{codes};
     ghost use Rattle.nj_formula.specs.contracts.formula.Formula as formula;
     ghost use Rattle.proof_state.specs.declared.local_fact.LocalFact.{LocalFact as Held};
-    ghost use Rattle.proof_state.specs.Named.{named};
+    ghost use Rattle.proof_state.specs.Named.{named_facts};
     ghost use Rattle.proof_state.specs.Kept.{AreFree};
 
     ghost Value = { List Held };
@@ -36,7 +36,8 @@ impl Model for Facts {
 
     ghost view = { λ facts. facts.all };
 
-    ghost invariant = { λ facts. (facts.cited ≡ named facts.all) × AreFree facts.free facts.all };
+    ghost invariant = { λ facts. (facts.cited ≡ named_facts facts.all) × AreFree facts.free
+        facts.all };
 }
 
 impl Facts {
@@ -71,7 +72,7 @@ impl Facts {
 
     /// What is kept beside these facts and this one.
     fn kept_with(&self, alloc: Global, fact: &LocalFact) -> Result<(Locals, NameSet), AllocError>
-        ensures { IfOk result (λ kept. (kept.0 ≡ named (fact.now ∷ self.now))
+        ensures { IfOk result (λ kept. (kept.0 ≡ named_facts (fact.now ∷ self.now))
             × AreFree kept.1 (fact.now ∷ self.now)) }
     {
         let free = self.free.with_formula(alloc, fact.formula.get());
@@ -88,7 +89,7 @@ impl Facts {
 
     /// Those that have names.
     pub(crate) fn named(&self) -> &Locals
-        ensures { result.now ≡ named self.now }
+        ensures { result.now ≡ named_facts self.now }
     {
         &self.cited
     }

@@ -7,11 +7,11 @@ use Rattle.proof_state.specs.Answers.{open_goal, is_stated}
 use Rattle.isar_rules.specs.declared.shape.Shape.{Shape}
 use Rattle.isar_rules.specs.declared.shape.Shape.TheVariants as shape
 use Rattle.isar_rules.specs.Errors.{not_allowed}
-use Rattle.isar_rules.specs.Proofs.{ordered}
+use Rattle.isar_rules.specs.Proofs.{ordered_command}
 use Rattle.proof_steps.specs.Ordered.{in_prove, in_state}
 
 -- in mode prove
-pub proves : (facts : List Fact) (s : Shape) (levels : Levels) → is_some (open_goal levels) ≡ true → ordered facts s levels ≡ in_prove s
+pub proves : (facts : List Fact) (s : Shape) (levels : Levels) → is_some (open_goal levels) ≡ true → ordered_command facts s levels ≡ in_prove s
 proves facts (shape.Theory n i) (Prove goal around) e = refl
 proves facts shape.End (Prove goal around) e = refl
 proves facts (shape.Axiom n q) (Prove goal around) e = refl
@@ -29,7 +29,7 @@ proves facts s Closed e = absurd cc
 proves facts s (State block around) e = absurd cc
 
 -- in mode state
-pub states : (facts : List Fact) (s : Shape) (levels : Levels) → is_stated levels ≡ true → ordered facts s levels ≡ in_state facts s
+pub states : (facts : List Fact) (s : Shape) (levels : Levels) → is_stated levels ≡ true → ordered_command facts s levels ≡ in_state facts s
 states facts (shape.Theory n i) (State block around) e = refl
 states facts shape.End (State block around) e = refl
 states facts (shape.Axiom n q) (State block around) e = refl
@@ -47,7 +47,7 @@ states facts s Closed e = absurd cc
 states facts s (Prove goal around) e = absurd cc
 
 -- after the end
-pub ends : (facts : List Fact) (s : Shape) (levels : Levels) → is_some (open_goal levels) ≡ false → is_stated levels ≡ false → ordered facts s levels ≡ Err not_allowed
+pub ends : (facts : List Fact) (s : Shape) (levels : Levels) → is_some (open_goal levels) ≡ false → is_stated levels ≡ false → ordered_command facts s levels ≡ Err not_allowed
 ends facts (shape.Theory n i) Closed e f = refl
 ends facts shape.End Closed e f = refl
 ends facts (shape.Axiom n q) Closed e f = refl

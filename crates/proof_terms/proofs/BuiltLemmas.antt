@@ -10,7 +10,7 @@ use Rattle.proof_terms.specs.declared.term.Term.{Term, fold-roll-Term, roll-Term
 use Rattle.proof_terms.specs.declared.term.Term.TheOpen.{Term-F}
 use Rattle.proof_terms.specs.declared.term.Term.TheVariants as T
 use Rattle.proof_terms.specs.Cited.{cites_layer, cites_of}
-use Rattle.proof_terms.specs.Slots.{Part, a_formula, an_object, a_name, a_proof, built}
+use Rattle.proof_terms.specs.Slots.{Part, a_formula, an_object, a_name, a_proof, built_term}
 
 module _ (P : Range → Type 0) where
   abbrev pub AllStand : List Cite → Type 0
@@ -34,7 +34,8 @@ module _ (P : Range → Type 0) where
   IfBuilt None = ⊤
   IfBuilt (Some t) = TermGood t
 
-  pub built-good : (r : Rule) (ps : List Part) → AllByRecursion PartGood ps → IfBuilt (built r ps)
+  pub built-good : (r : Rule) (ps : List Part) → AllByRecursion PartGood ps
+      → IfBuilt (built_term r ps)
   built-good R.ConjI (a_proof t ∷ a_proof u ∷ []) g = rolled (Term-F.ConjI t u) (T.ConjI t u) (T.rolls-ConjI t u) (good-both (cites_of t) (cites_of u) g.0 g.1.0)
   built-good R.ConjE1 (a_formula b ∷ a_proof t ∷ []) g = rolled (Term-F.ConjE1 b t) (T.ConjE1 b t) (T.rolls-ConjE1 b t) g.1.0
   built-good R.ConjE2 (a_formula a ∷ a_proof t ∷ []) g = rolled (Term-F.ConjE2 a t) (T.ConjE2 a t) (T.rolls-ConjE2 a t) g.1.0

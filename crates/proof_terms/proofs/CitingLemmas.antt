@@ -16,7 +16,7 @@ use Rattle.proof_terms.specs.declared.term.Term.{Term}
 use Rattle.proof_terms.specs.declared.term.Term.TheOpen.{Term-F}
 use Rattle.proof_terms.specs.declared.term.Term.TheVariants as T
 use Rattle.proof_terms.specs.RuleNames.{rule_of}
-use Rattle.proof_terms.specs.Slots.{Slot, Part, formula, object, named, proof, slots, built}
+use Rattle.proof_terms.specs.Slots.{Slot, Part, formula, object, named, proof, slots, built_term}
 use Rattle.proof_terms.specs.Reading.{Read, and_then, of_name, read_rule_name, read_start, read_name, read_close, unquoted, read_formula, read_object, read_part, read_parts, made, read_inside, read_rule, read_on, read_term, deepest, alone, whole, proof_of}
 use Rattle.proof_terms.proofs.BuiltLemmas.{TermGood, PartGood, IfBuilt, rolled, built-good}
 
@@ -104,7 +104,7 @@ module _ (P : Range → Type 0) where
     inside-read : (r : Rule) (ms : List Mark) → AreMarks ms → IfRead Stands (read_inside sub r ms)
     inside-read r ms all =
         next_read (AllByRecursion PartStands) Stands (read_parts sub (slots r) ms) _ (parts-read (slots r) ms all)
-        (λ ps more gs after. made-good (built r ps) more (built-good P r ps gs) after)
+        (λ ps more gs after. made-good (built_term r ps) more (built-good P r ps gs) after)
 
     rule-read : (r : Rule) (ms : List Mark) → AreMarks ms → IfRead Stands (read_rule sub r ms)
     rule-read r ms all =

@@ -7,7 +7,7 @@ use Rattle.proof_terms.specs.declared.reader.Start.TheVariants as S
 use Rattle.proof_terms.specs.declared.term.Cite.{Cite}
 use Rattle.proof_terms.specs.declared.term.Term.{Term}
 use Rattle.proof_terms.specs.declared.term.Term.TheVariants.{Fact}
-use Rattle.proof_terms.specs.Slots.{Slot, formula, object, named, proof, slots, Part, a_formula, an_object, a_proof, built}
+use Rattle.proof_terms.specs.Slots.{Slot, formula, object, named, proof, slots, Part, a_formula, an_object, a_proof, built_term}
 use Rattle.proof_terms.specs.Grammar.{IsCite, by_name, by_long_name, IsTerm, fact, ruled, AreParts, none, then_formula, then_object, then_name, then_proof}
 use Rattle.proof_terms.specs.Reading.{Read, and_then, of_name, read_start, read_close, unquoted, read_part, read_parts, made, read_inside, read_rule, read_on, read_term}
 use Rattle.proof_terms.proofs.StepLemmas.{then_ok}
@@ -20,10 +20,11 @@ cited (suc n) by_long_name back = refl
 
 -- a rule behind its name
 rule_read : (sub : List Mark → Read Term) (r : Rule) (ms : List Mark) {back : List Mark} {ps : List Part} {t : Term}
-    → read_parts sub (slots r) ms ≡ Ok (ps, Closes ∷ back) → built r ps ≡ Some t → read_rule sub r ms ≡ Ok (t, back)
+    → read_parts sub (slots r) ms ≡ Ok (ps, Closes ∷ back) → built_term r ps ≡ Some t
+    → read_rule sub r ms ≡ Ok (t, back)
 rule_read sub r ms {back} {ps} {t} e is =
     let inside : read_inside sub r ms ≡ Ok (t, Closes ∷ back) =
-    then_ok (λ qs more. made (built r qs) more) e ∙ ap (λ o. made o (Closes ∷ back)) is in
+    then_ok (λ qs more. made (built_term r qs) more) e ∙ ap (λ o. made o (Closes ∷ back)) is in
     then_ok (λ u more. and_then (read_close more) (λ _ last. Ok (u, last))) inside
 
 -- one part and the others

@@ -9,7 +9,7 @@ use Rattle.proof_terms.specs.declared.reader.Start.TheVariants as S
 use Rattle.proof_terms.specs.declared.term.Term.{Term}
 use Rattle.proof_terms.specs.declared.term.Term.TheVariants.{ConjI, ConjE1, ConjE2, DisjI1, DisjI2, DisjE, ImpI, ImpE, NotI, NotE, FalseE, AllI, AllE, ExI, ExE}
 use Rattle.proof_terms.specs.RuleNames.{rule_of}
-use Rattle.proof_terms.specs.Slots.{Slot, formula, object, named, proof, slots, Part, a_formula, an_object, a_name, a_proof, built}
+use Rattle.proof_terms.specs.Slots.{Slot, formula, object, named, proof, slots, Part, a_formula, an_object, a_name, a_proof, built_term}
 use Rattle.proof_terms.specs.Faults.{Awaited, in_slot, closing, judge_rule, goes_on, first_fault}
 use Rattle.proof_terms.specs.Reading.{Read, and_then, of_name, read_name, read_close, read_formula, read_object, read_part, read_parts, made, read_rule, read_on, read_term}
 use Rattle.proof_terms.proofs.StepLemmas.{parted, same_first}
@@ -24,7 +24,8 @@ Fits (named ∷ ss) (a_name a ∷ ps) = Fits ss ps
 Fits (proof ∷ ss) (a_proof a ∷ ps) = Fits ss ps
 Fits _ _ = ⊥
 
-built_fits : (r : Rule) (ps : List Part) → Fits (slots r) ps → (t : Term) × (built r ps ≡ Some t)
+built_fits : (r : Rule) (ps : List Part) → Fits (slots r) ps
+    → (t : Term) × (built_term r ps ≡ Some t)
 built_fits R.ConjI (a_proof t ∷ a_proof u ∷ []) h = (ConjI t u, refl)
 built_fits R.ConjE1 (a_formula b ∷ a_proof t ∷ []) h = (ConjE1 b t, refl)
 built_fits R.ConjE2 (a_formula a ∷ a_proof t ∷ []) h = (ConjE2 a t, refl)
@@ -84,9 +85,10 @@ module _ (sub : List Mark → Read Term) where
         closed t (Some u) behind e = close_judged u behind aw
 
         go : (m : Read (List Part)) → read_parts sub (slots r) ms ≡ m
-            → after m (closing ∷ aw) ≡ after (and_then (and_then m (λ ps more. made (built r ps) more)) (λ u more. and_then (read_close more) (λ _ last. Ok (u, last)))) aw
+            → after m (closing ∷ aw) ≡ after (and_then (and_then m (λ ps more. made (built_term r ps) more)) (λ u more. and_then (read_close more) (λ _ last. Ok (u, last)))) aw
         go (Err f) e = refl
-        go (Ok p) e = let b = built_fits r p.0 (parts_fit (slots r) ms p.0 p.1 e) in closed b.0 (built r p.0) p.1 b.1
+        go (Ok p) e = let b = built_fits r p.0 (parts_fit (slots r) ms p.0 p.1 e) in closed b.0
+            (built_term r p.0) p.1 b.1
 
 -- a rule's name, where at most so many are nested
 too_deep : (o : Option Rule) (ms : List Mark) (aw : List Awaited)

@@ -7,7 +7,7 @@ use Rattle.proof_terms.specs.declared.mark.Mark.TheVariants.{Opens, Closes, Name
 use Rattle.proof_terms.specs.declared.term.Cite.{Cite}
 use Rattle.proof_terms.specs.declared.term.Term.{Term}
 use Rattle.proof_terms.specs.RuleNames.{rule_of}
-use Rattle.proof_terms.specs.Slots.{Slot, formula, object, named, proof, slots, Part, a_formula, an_object, a_name, a_proof, built}
+use Rattle.proof_terms.specs.Slots.{Slot, formula, object, named, proof, slots, Part, a_formula, an_object, a_name, a_proof, built_term}
 use Rattle.proof_terms.specs.Grammar.{IsTerm, ruled, AreParts, none, then_formula, then_object, then_name, then_proof}
 use Rattle.proof_terms.specs.Reading.{and_then, read_start, read_name, read_close, read_formula, read_object, read_part, read_parts, made, read_inside, read_rule, read_on, read_term}
 use Rattle.proof_terms.proofs.StepLemmas.{parted, same_first, same_rest}
@@ -71,8 +71,8 @@ in_rule : (n : ℕ) (sub : (ms : List Mark) (t : Term) (rest : List Mark) → re
 in_rule n sub r c ms more t rest is named_so e =
     let whole = parted (read_inside (read_term n) r more) (λ u behind. and_then (read_close behind) (λ _ last. Ok (u, last))) (t, rest) e in
     let end = parted (read_close whole.rest) (λ _ last. Ok (whole.first, last)) (t, rest) whole.so in
-    let parts = parted (read_parts (read_term n) (slots r) more) (λ ps behind. made (built r ps) behind) (whole.first, whole.rest) whole.was in
-    let b = built_is (built r parts.first) parts.rest whole.first whole.rest parts.so in
+    let parts = parted (read_parts (read_term n) (slots r) more) (λ ps behind. made (built_term r ps) behind) (whole.first, whole.rest) whole.was in
+    let b = built_is (built_term r parts.first) parts.rest whole.first whole.rest parts.so in
     let f = parts_front n sub (slots r) more parts.first parts.rest parts.was in
     let closed : parts.rest ≡ Closes ∷ rest = b.1 ∙ (close_front whole.rest end.rest end.first end.was ∙ ap (λ z. Closes ∷ z) (same_rest end.so)) in
     record {

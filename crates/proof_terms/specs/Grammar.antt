@@ -11,7 +11,7 @@ use Rattle.proof_terms.specs.declared.mark.Mark.TheVariants.{Opens, Closes, Name
 use Rattle.nj_kernel.specs.declared.rule.Rule.{Rule}
 use Rattle.proof_terms.specs.RuleNames.{rule_of}
 use Rattle.proof_terms.specs.Slots.{Slot, formula, object, named, proof, slots}
-use Rattle.proof_terms.specs.Slots.{Part, a_formula, an_object, a_name, a_proof, built}
+use Rattle.proof_terms.specs.Slots.{Part, a_formula, an_object, a_name, a_proof, built_term}
 
 -- the fact that the mark names
 pub data IsCite : Mark → Cite → Type 0 where
@@ -24,7 +24,7 @@ mutual
     fact : {n : ℕ} {m : Mark} {c : Cite} → IsCite m c → IsTerm n (m ∷ []) (Fact c)
     ruled : {n : ℕ} {c : Cite} {inside : List Mark} {parts : List Part} {t : Term}
         (r : Rule) → rule_of c.name ≡ Some r
-        → AreParts n (slots r) inside parts → built r parts ≡ Some t
+        → AreParts n (slots r) inside parts → built_term r parts ≡ Some t
         → IsTerm (suc n) (Opens ∷ Name c ∷ inside ++ Closes ∷ []) t
 
   -- the tokens are what stands in these places, one after the other

@@ -17,7 +17,7 @@ use Rattle.proof_terms.specs.declared.mark.Mark.{Mark}
 use Rattle.proof_terms.specs.declared.mark.Mark.TheVariants.{Opens, Closes, Name, Long, Quoted}
 use Rattle.proof_terms.specs.RuleNames.{rule_of}
 use Rattle.proof_terms.specs.Slots.{Slot, formula, object, named, proof, slots}
-use Rattle.proof_terms.specs.Slots.{Part, a_formula, an_object, a_name, a_proof, built}
+use Rattle.proof_terms.specs.Slots.{Part, a_formula, an_object, a_name, a_proof, built_term}
 use Rattle.proof_terms.specs.Faults.{quoted_fault}
 
 -- what is read, and the tokens behind it
@@ -111,7 +111,8 @@ made None more = Err Malformed
 
 -- a rule behind its name, without the `)`
 abbrev pub read_inside : (List Mark → Read Term) → Rule → List Mark → Read Term
-read_inside sub r ms = and_then (read_parts sub (slots r) ms) (λ ps more. made (built r ps) more)
+read_inside sub r ms = and_then (read_parts sub (slots r) ms)
+    (λ ps more. made (built_term r ps) more)
 
 -- a rule behind its name
 abbrev pub read_rule : (List Mark → Read Term) → Rule → List Mark → Read Term

@@ -44,22 +44,23 @@ pub data Part : Type 0 where
   a_proof : Term → Part
 
 -- the term of a rule with these parts; none where they don't stand in its places
-abbrev pub built : Rule → List Part → Option Term
-built R.ConjI (a_proof t ∷ a_proof u ∷ []) = Some (ConjI t u)
-built R.ConjE1 (a_formula b ∷ a_proof t ∷ []) = Some (ConjE1 b t)
-built R.ConjE2 (a_formula a ∷ a_proof t ∷ []) = Some (ConjE2 a t)
-built R.DisjI1 (a_proof t ∷ []) = Some (DisjI1 t)
-built R.DisjI2 (a_proof t ∷ []) = Some (DisjI2 t)
-built R.DisjE
+abbrev pub built_term : Rule → List Part → Option Term
+built_term R.ConjI (a_proof t ∷ a_proof u ∷ []) = Some (ConjI t u)
+built_term R.ConjE1 (a_formula b ∷ a_proof t ∷ []) = Some (ConjE1 b t)
+built_term R.ConjE2 (a_formula a ∷ a_proof t ∷ []) = Some (ConjE2 a t)
+built_term R.DisjI1 (a_proof t ∷ []) = Some (DisjI1 t)
+built_term R.DisjI2 (a_proof t ∷ []) = Some (DisjI2 t)
+built_term R.DisjE
     (a_formula a ∷ a_formula b ∷ a_proof t ∷ a_name x ∷ a_proof u ∷ a_name y ∷ a_proof v ∷ []) =
     Some (DisjE a b t x u y v)
-built R.ImpI (a_name x ∷ a_proof t ∷ []) = Some (ImpI x t)
-built R.ImpE (a_formula a ∷ a_proof t ∷ a_proof u ∷ []) = Some (ImpE a t u)
-built R.NotI (a_name x ∷ a_proof t ∷ []) = Some (NotI x t)
-built R.NotE (a_formula a ∷ a_proof t ∷ a_proof u ∷ []) = Some (NotE a t u)
-built R.FalseE (a_proof t ∷ []) = Some (FalseE t)
-built R.AllI (a_name x ∷ a_proof t ∷ []) = Some (AllI x t)
-built R.AllE (a_formula q ∷ an_object s ∷ a_proof t ∷ []) = Some (AllE q s t)
-built R.ExI (an_object s ∷ a_proof t ∷ []) = Some (ExI s t)
-built R.ExE (a_formula q ∷ a_name x ∷ a_name h ∷ a_proof t ∷ a_proof u ∷ []) = Some (ExE q x h t u)
-built _ _ = None
+built_term R.ImpI (a_name x ∷ a_proof t ∷ []) = Some (ImpI x t)
+built_term R.ImpE (a_formula a ∷ a_proof t ∷ a_proof u ∷ []) = Some (ImpE a t u)
+built_term R.NotI (a_name x ∷ a_proof t ∷ []) = Some (NotI x t)
+built_term R.NotE (a_formula a ∷ a_proof t ∷ a_proof u ∷ []) = Some (NotE a t u)
+built_term R.FalseE (a_proof t ∷ []) = Some (FalseE t)
+built_term R.AllI (a_name x ∷ a_proof t ∷ []) = Some (AllI x t)
+built_term R.AllE (a_formula q ∷ an_object s ∷ a_proof t ∷ []) = Some (AllE q s t)
+built_term R.ExI (an_object s ∷ a_proof t ∷ []) = Some (ExI s t)
+built_term R.ExE (a_formula q ∷ a_name x ∷ a_name h ∷ a_proof t ∷ a_proof u ∷ []) = Some
+    (ExE q x h t u)
+built_term _ _ = None

@@ -14,7 +14,7 @@ use Rattle.language.specs.Lang.{Lang}
 use Rattle.core_rules.specs.declared.event.Event.{Event}
 use Rattle.core_rules.specs.Numbered.{next_number}
 use Rattle.core_rules.specs.Assigned.{assigns, is_assigned}
-use Rattle.core_rules.specs.Standing.{Held, standing, is_free, held, is_open}
+use Rattle.core_rules.specs.Standing.{Held, standing, is_unclaimed, held, is_open}
 use Rattle.core_rules.specs.Doc.{doc}
 use Rattle.core_rules.specs.Legal.{IsLegal}
 use Rattle.core_rules.specs.Ready.{is_wanted, has_inputs}
@@ -37,7 +37,7 @@ module _ {S : Type 0} (l : Lang S) (h : List Event) (t : Tables S) (k : IsKept l
     (tip : (h : List Event) (e : ℕ) → IsLegal l h → is_wanted (doc l h) e ≡ true → is_open l h (doc l h).homes e ≡ true
     → assigns (doc l h).tip e ≡ true)
     (told : (h : List Event) (who : ℕ) (p : Part) → IsLegal l h → (held h who ≡ Some p) ↔ (standing h p ≡ Held who))
-    (begun : (h : List Event) (p : Part) → IsLegal l h → is_free (standing h p) ≡ false → has_inputs h (doc l h).homes p ≡ true)
+    (begun : (h : List Event) (p : Part) → IsLegal l h → is_unclaimed (standing h p) ≡ false → has_inputs h (doc l h).homes p ≡ true)
     (id : ℕ) (n : ℕ) (number : number_of t.losses id ≡ Some n) where
   laws : Laws l h
   laws = laws_of l h t k tip told

@@ -7,7 +7,7 @@ use Rattle.std.specs.Option.{option_map}
 use Rattle.pide_base.specs.declared.part.Part.{Part}
 use Rattle.task_queue.specs.declared.task.Standing.{Standing as Task}
 use Rattle.task_queue.specs.Ready.{with_standing}
-use Rattle.task_queue.specs.Changes.{taken}
+use Rattle.task_queue.specs.Changes.{taken_task}
 use Rattle.language.specs.Lang.{Lang}
 use Rattle.core_rules.specs.declared.event.Event.{Event}
 use Rattle.core_rules.specs.declared.event.Event.TheVariants.{Claimed}
@@ -49,13 +49,15 @@ module _ {S : Type 0} (l : Lang S) (h : List Event) (t : Tables S) (k : IsKept l
   done_same f = done_alike (standing h) p (Held who) refl was (evaluation f)
 
   -- its own task is held
-  held_task : AreTasks (standing more) d.tip d.homes p.exec (Some p.kind) (option_map taken (t.tasks p.exec))
-  held_task = subst (λ o. AreTasks (standing more) d.tip d.homes p.exec (Some p.kind) (option_map taken o)) (sym found.1) now
+  held_task : AreTasks (standing more) d.tip d.homes p.exec (Some p.kind)
+      (option_map taken_task (t.tasks p.exec))
+  held_task = subst (λ o. AreTasks (standing more) d.tip d.homes p.exec (Some p.kind) (option_map
+      taken_task o)) (sym found.1) now
     where
       found : (s : Task) × (t.tasks p.exec ≡ Some s) × IsTaskOf (standing h) d.tip d.homes p.exec p.kind s
       found = task_of l h d t.tasks (in_tip l h t k laws) p.exec p.kind present
 
-      now : IsTaskOf (standing more) d.tip d.homes p.exec p.kind (taken found.0)
+      now : IsTaskOf (standing more) d.tip d.homes p.exec p.kind (taken_task found.0)
       now = record {
         same_kind = found.2.same_kind;
         urgent = found.2.urgent;
@@ -64,10 +66,10 @@ module _ {S : Type 0} (l : Lang S) (h : List Event) (t : Tables S) (k : IsKept l
       }
 
   task_by : (e : ℕ) (b : Bool) → (p.exec == e) ≡ b
-      → AreTasks (standing more) d.tip d.homes e (present_kind l h d e) (cond b (option_map taken (t.tasks p.exec)) (t.tasks e))
-  task_by e true is = subst (λ x. AreTasks (standing more) d.tip d.homes x (present_kind l h d x) (option_map taken (t.tasks p.exec)))
+      → AreTasks (standing more) d.tip d.homes e (present_kind l h d e) (cond b (option_map taken_task (t.tasks p.exec)) (t.tasks e))
+  task_by e true is = subst (λ x. AreTasks (standing more) d.tip d.homes x (present_kind l h d x) (option_map taken_task (t.tasks p.exec)))
       (eqb-true p.exec e is)
-      (subst (λ o. AreTasks (standing more) d.tip d.homes p.exec o (option_map taken (t.tasks p.exec))) (sym present) held_task)
+      (subst (λ o. AreTasks (standing more) d.tip d.homes p.exec o (option_map taken_task (t.tasks p.exec))) (sym present) held_task)
   task_by e false is = still (standing h) (standing more) d.tip d.homes e
       (λ x. ap (λ b. cond b (Held who) (standing h (part e x))) (elsewhere p e x is)) done_same (present_kind l h d e) (t.tasks e) (k.tasks e)
 
@@ -80,13 +82,13 @@ module _ {S : Type 0} (l : Lang S) (h : List Event) (t : Tables S) (k : IsKept l
 
   pub claimed_kept : (holders : ℕ → Option Part) (holding : ℕ) (tasks : ℕ → Option Task) (room count : ℕ)
       → ((w : ℕ) → holders w ≡ cond (who == w) (Some p) (t.holders w))
-      → ((e : ℕ) → tasks e ≡ with_standing t.tasks p.exec (option_map taken (t.tasks p.exec)) e) → holding ≤ room → count ≡ t.count
+      → ((e : ℕ) → tasks e ≡ with_standing t.tasks p.exec (option_map taken_task (t.tasks p.exec)) e) → holding ≤ room → count ≡ t.count
       → IsKept l more (record t { holders = holders; holding = holding; tasks = tasks; room = room; count = count })
   claimed_kept holders holding tasks room count takes taking fits as_many =
       kept_on l h more t k refl t.rows holders holding tasks room count t.ended (k.legal, (going, idle, first))
       (λ e. k.rows e ∙ sym (row_same l d e h more (same e))) (λ e. order_same l d e h more (same e) (k.in_order e))
       (λ w. takes w ∙ ap (λ o. cond (who == w) (Some p) o) (k.holders w)) next_held
       (λ e. subst (λ o. AreTasks (standing more) d.tip d.homes e (present_kind l more d e) o) (sym (taking e))
-      (subst (λ o. AreTasks (standing more) d.tip d.homes e o (with_standing t.tasks p.exec (option_map taken (t.tasks p.exec)) e))
+      (subst (λ o. AreTasks (standing more) d.tip d.homes e o (with_standing t.tasks p.exec (option_map taken_task (t.tasks p.exec)) e))
       (sym (present_same l d e h more (same e))) (task_by e (p.exec == e) refl)))
       k.ended fits (omega (arith, as_many, k.spare))

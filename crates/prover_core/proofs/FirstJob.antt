@@ -15,7 +15,7 @@ use Rattle.language.specs.Lang.{Lang}
 use Rattle.core_rules.specs.declared.event.Event.{Event}
 use Rattle.core_rules.specs.Assigned.{assigns}
 use Rattle.core_rules.specs.Settings.{setting}
-use Rattle.core_rules.specs.Standing.{is_free, standing}
+use Rattle.core_rules.specs.Standing.{is_unclaimed, standing}
 use Rattle.core_rules.specs.Doc.{doc}
 use Rattle.core_rules.specs.Ready.{is_part, is_wanted, has_inputs, is_ready, IsFirst, first_ready}
 use Rattle.core_rules.specs.Sources.{HasHome}
@@ -33,7 +33,8 @@ module _ {S : Type 0} (l : Lang S) (h : List Event) (t : Tables S) (k : IsKept l
     (first : (p : Part) → (first_ready l h ≡ Some p) ↔ IsFirst l h p)
     (none : (first_ready l h ≡ None) ↔ ((p : Part) → is_ready l h p ≡ false))
     (homes : (e : ℕ) → assigns (doc l h).tip e ≡ true → HasHome l (doc l h) (doc l h).tip e)
-    (begun : (p : Part) → is_free (standing h p) ≡ false → has_inputs h (doc l h).homes p ≡ true) where
+    (begun : (p : Part) → is_unclaimed (standing h p) ≡ false → has_inputs h (doc l h).homes p ≡
+    true) where
   present_assigned : (e : ℕ) (kd : PartKind) → present_kind l h (doc l h) e ≡ Some kd → assigns (doc l h).tip e ≡ true
   present_assigned e kd is = go (assigns (doc l h).tip e) is
     where
@@ -45,9 +46,11 @@ module _ {S : Type 0} (l : Lang S) (h : List Event) (t : Tables S) (k : IsKept l
   first_job p is =
       let assigned = present_assigned p.exec p.kind (first_present l h t k laws first none p is) in
       let a = and_parts (is_part l (doc l h).homes p) (is_wanted (doc l h) p.exec
-      && (is_free (standing h p) && has_inputs h (doc l h).homes p)) ((first p).0 is).ready in
-      let b = and_parts (is_wanted (doc l h) p.exec) (is_free (standing h p) && has_inputs h (doc l h).homes p) a.1 in
-      let inputs = (and_parts (is_free (standing h p)) (has_inputs h (doc l h).homes p) b.1).1 in
+      && (is_unclaimed (standing h p) && has_inputs h (doc l h).homes p)) ((first p).0 is).ready in
+      let b = and_parts (is_wanted (doc l h) p.exec)
+      (is_unclaimed (standing h p) && has_inputs h (doc l h).homes p) a.1 in
+      let inputs = (and_parts (is_unclaimed (standing h p)) (has_inputs h (doc l h).homes p)
+      b.1).1 in
       job_found l h t k (tip_live l h t k) begun p (homes p.exec assigned) assigned inputs
 
   abbrev known : ℕ → Option S

@@ -4,7 +4,7 @@ use Rattle.std.specs.Option.{IfSome, IfNone, option_map}
 use Rattle.pide_base.specs.declared.part.Part.{Part}
 use Rattle.task_queue.specs.declared.task.Standing.{Standing as Task}
 use Rattle.task_queue.specs.Ready.{IsReadyPart, IsNext, with_standing}
-use Rattle.task_queue.specs.Changes.{taken}
+use Rattle.task_queue.specs.Changes.{taken_task}
 use Rattle.language.specs.Lang.{Lang}
 use Rattle.core_rules.specs.declared.event.Event.{Event}
 use Rattle.core_rules.specs.Doc.{doc}
@@ -34,8 +34,10 @@ module _ {S : Type 0} (l : Lang S) (h : List Event) (t : Tables S) (k : IsKept l
   -- what taking it does
   pub taking : (o : Option Part) (tasks : ℕ → Option Task) (p : Part) → first_ready l h ≡ Some p
       → IfSome o (λ q. IsNext t.tasks q) → IfNone o ((q : Part) → IsReadyPart t.tasks q → ⊥)
-      → IfSome o (λ q. (e : ℕ) → tasks e ≡ with_standing t.tasks q.exec (option_map taken (t.tasks q.exec)) e)
-      → (e : ℕ) → tasks e ≡ with_standing t.tasks p.exec (option_map taken (t.tasks p.exec)) e
+      → IfSome o (λ q. (e : ℕ) → tasks e ≡ with_standing t.tasks q.exec (option_map taken_task
+      (t.tasks q.exec)) e)
+      → (e : ℕ) → tasks e ≡ with_standing t.tasks p.exec (option_map taken_task (t.tasks p.exec)) e
   taking o tasks p is some nothing then =
-      subst (λ x. IfSome x (λ q. (e : ℕ) → tasks e ≡ with_standing t.tasks q.exec (option_map taken (t.tasks q.exec)) e))
+      subst (λ x. IfSome x (λ q. (e : ℕ) → tasks e ≡ with_standing t.tasks q.exec (option_map
+      taken_task (t.tasks q.exec)) e))
       (first_of o some nothing ∙ is) then

@@ -14,8 +14,8 @@ use Rattle.language.specs.declared.made.Imported.{Imported}
 use Rattle.language.specs.declared.made.Imports.{Imports}
 use Rattle.language.specs.declared.made.Imports.TheVariants.{Ordered}
 use Rattle.language.specs.Lang.{Lang}
-use Rattle.core_rules.specs.Settings.{bare_start, handed_on, imported, imports_by, taken_up}
-use Rattle.core_rules.specs.Parts.{made_by, lasts_of, sources_of}
+use Rattle.core_rules.specs.Settings.{bare_start, handed_on, imported_state, imports_by, taken_up_state}
+use Rattle.core_rules.specs.Parts.{last_evaluation, lasts_of, sources_of}
 use Rattle.core_rules.specs.Sources.{HandsOn, AllHandOn, HandOnBy, BeginsFrom}
 use Rattle.core_jobs.specs.declared.input.Input.{Input as Taken}
 use Rattle.core_jobs.specs.declared.input.Input.TheVariants.{State, Start}
@@ -34,33 +34,36 @@ module _ {S : Type 0} (l : Lang S) (nodes : NodeList) (known behind : ℕ → Op
     pub right : behind e ≡ Some state
 
   -- what is found, which is what an import hands on
-  handed : (name : List ℕ) (x : Last) → HandsOn nodes name x → AllByRecursion IsFound (cons_option (made_by x) [])
+  handed : (name : List ℕ) (x : Last) → HandsOn nodes name x
+      → AllByRecursion IsFound (cons_option (last_evaluation x) [])
       → (s : S) × (found_state l nodes known name x ≡ Some s) × (handed_on l behind name x ≡ Some s)
   handed name last.Empty hands all = (bare_start l name, ap (option_map (λ q. bare_start l name)) hands.1, refl)
   handed name last.Open hands all = absurd hands
   handed name (last.Made e) hands all = (all.0.state, all.0.found, all.0.right)
 
-  first_of : (x : Last) (rest : List ℕ) → AllByRecursion IsFound (cons_option (made_by x) rest)
-      → AllByRecursion IsFound (cons_option (made_by x) []) × AllByRecursion IsFound rest
+  first_of : (x : Last) (rest : List ℕ)
+      → AllByRecursion IsFound (cons_option (last_evaluation x) rest)
+      → AllByRecursion IsFound (cons_option (last_evaluation x) []) × AllByRecursion IsFound rest
   first_of last.Empty rest all = (tt, all)
   first_of last.Open rest all = (tt, all)
   first_of (last.Made e) rest all = ((all.0, tt), all.1)
 
   all_imports : (names : List (List ℕ)) (lasts : List Last) → AllHandOn nodes names lasts
-      → AllByRecursion IsFound (filter_map made_by lasts)
+      → AllByRecursion IsFound (filter_map last_evaluation lasts)
       → (xs : List (Imported S)) × (all_imported l nodes known (zip names lasts) ≡ Some xs)
-      × (filter_map (imported l behind) (zip names lasts) ≡ xs)
+      × (filter_map (imported_state l behind) (zip names lasts) ≡ xs)
   all_imports [] lasts hands all = ([], refl, refl)
   all_imports (name ∷ names) [] hands all = ([], refl, refl)
   all_imports (name ∷ names) (x ∷ lasts) hands all =
-      let parts = first_of x (filter_map made_by lasts) all in
+      let parts = first_of x (filter_map last_evaluation lasts) all in
       let one = handed name x hands.0 parts.0 in
       let rest = all_imports names lasts hands.1 parts.1 in
       let this : S → Imported S = λ state. record { name = name; state = state } in (
         this one.0 ∷ rest.0,
         ap (λ o. both_there (option_map this o) (all_imported l nodes known (zip names lasts))) one.1
             ∙ ap (both_there (Some (this one.0))) rest.1,
-        ap (λ o. cons_option (option_map this o) (filter_map (imported l behind) (zip names lasts))) one.2
+        ap (λ o. cons_option (option_map this o)
+            (filter_map (imported_state l behind) (zip names lasts))) one.2
             ∙ ap (λ xs. this one.0 ∷ xs) rest.2,
       )
 
@@ -73,7 +76,8 @@ module _ {S : Type 0} (l : Lang S) (nodes : NodeList) (known behind : ℕ → Op
 
   -- what is found is what is taken up
   pub found_taken : (taken : Input) → BeginsFrom nodes taken → AllByRecursion IsFound (sources_of taken)
-      → (x : Taken S) × (found_input l nodes known taken ≡ Some x) × (taken_up l behind taken ≡ Some (taken_from l x))
+      → (x : Taken S) × (found_input l nodes known taken ≡ Some x) ×
+      (taken_up_state l behind taken ≡ Some (taken_from l x))
   found_taken (input.Next e) begins all = (
     State all.0.state,
     ap (option_map State) all.0.found,

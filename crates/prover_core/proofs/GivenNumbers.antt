@@ -13,7 +13,7 @@ use Rattle.exec_rules.specs.declared.home.Home.{Home}
 use Rattle.exec_rules.specs.declared.home.Input.{Input}
 use Rattle.exec_rules.specs.declared.home.Input.TheVariants.{First, Next}
 use Rattle.exec_rules.specs.Homes.{home}
-use Rattle.exec_rules.specs.Keys.{nothing}
+use Rattle.exec_rules.specs.Keys.{nothing_assigned}
 use Rattle.exec_rules.specs.Kept.{BlobList}
 use Rattle.exec_rules.specs.Assigning.{Update, head_at}
 use Rattle.exec_rules.specs.Listed.{executions, print_list}
@@ -87,7 +87,8 @@ module _ (first : ℕ) (node : Node) (blobs : BlobList) (e : ℕ) where
       go (inl here) rest = rows_more r rs e (inl (or_right (e == r.evaluation) _ (print_in x r.evaluation r.print here)))
       go (inr there) rest = rows_more r rs e (inr (rest there))
 
-rows_all : (all : List Assigned) (p e : ℕ) → has (flat_map executions (slice_index_or all p nothing).rows) e ≡ true
+rows_all : (all : List Assigned) (p e : ℕ)
+    → has (flat_map executions (slice_index_or all p nothing_assigned).rows) e ≡ true
     → has (flat_map executions (flat_map (λ (a : Assigned). a.rows) all)) e ≡ true
 rows_all [] p e is = absurd (cc)
 rows_all (a ∷ all) zero e is = append_any a.rows (flat_map (λ (a : Assigned). a.rows) all) (inl is)
@@ -112,34 +113,41 @@ rows_all (a ∷ all) (suc p) e is = front a.rows (flat_map (λ (a : Assigned). a
     front (x ∷ xs) ys is = rows_more x (xs ++ ys) e (inr (front xs ys is))
 
 module _ (u : Update) (first e : ℕ) (all : List Assigned) where
-  at_in : (p : ℕ) → has (numbers (new_at u first (λ q. slice_index_or all q nothing) p)) e ≡ true
-      → has (flat_map executions (slice_index_or all p nothing).rows) e ≡ true
+  at_in : (p : ℕ)
+      → has (numbers (new_at u first (λ q. slice_index_or all q nothing_assigned) p)) e ≡ true
+      → has (flat_map executions (slice_index_or all p nothing_assigned).rows) e ≡ true
   at_in p is = go (slice_get u.nodes p) is
     where
       go : (o : Option (List ℕ × Node))
-          → has (numbers (option_map_or (λ (pair : List ℕ × Node). new_of u first p pair (slice_index_or all p nothing)) o [])) e ≡ true
-          → has (flat_map executions (slice_index_or all p nothing).rows) e ≡ true
+          → has (numbers (option_map_or (λ (pair : List ℕ × Node). new_of u first p pair (slice_index_or all p nothing_assigned)) o [])) e ≡ true
+          → has (flat_map executions (slice_index_or all p nothing_assigned).rows) e ≡ true
       go None is = absurd (cc)
       go (Some pair) is = by (or_cases _ _ (sym (numbers_both
-          (new_evaluations first pair.1 u.blobs pair.1.entries (First (head_at u p pair (slice_index_or all p nothing).key)) (slice_index_or all p nothing).rows)
-          (new_prints first pair.1 u.blobs pair.1.entries (slice_index_or all p nothing).rows) e) ∙ is))
+          (new_evaluations first pair.1 u.blobs pair.1.entries (First (head_at u p pair (slice_index_or all p nothing_assigned).key)) (slice_index_or all p nothing_assigned).rows)
+          (new_prints first pair.1 u.blobs pair.1.entries
+          (slice_index_or all p nothing_assigned).rows) e) ∙ is))
         where
-          by : (has (numbers (new_evaluations first pair.1 u.blobs pair.1.entries (First (head_at u p pair (slice_index_or all p nothing).key)) (slice_index_or all p nothing).rows)) e ≡ true)
-              ⊎ (has (numbers (new_prints first pair.1 u.blobs pair.1.entries (slice_index_or all p nothing).rows)) e ≡ true)
-              → has (flat_map executions (slice_index_or all p nothing).rows) e ≡ true
-          by (inl is) = evals_in first pair.1 u.blobs e pair.1.entries (First (head_at u p pair (slice_index_or all p nothing).key)) (slice_index_or all p nothing).rows is
-          by (inr is) = prints_in first pair.1 u.blobs e pair.1.entries (slice_index_or all p nothing).rows is
+          by : (has (numbers (new_evaluations first pair.1 u.blobs pair.1.entries (First (head_at u p pair (slice_index_or all p nothing_assigned).key)) (slice_index_or all p nothing_assigned).rows)) e ≡ true)
+              ⊎ (has (numbers (new_prints first pair.1 u.blobs pair.1.entries (slice_index_or all p nothing_assigned).rows)) e ≡ true)
+              → has (flat_map executions (slice_index_or all p nothing_assigned).rows) e ≡ true
+          by (inl is) = evals_in first pair.1 u.blobs e pair.1.entries (First (head_at u p pair (slice_index_or all p nothing_assigned).key)) (slice_index_or all p nothing_assigned).rows is
+          by (inr is) = prints_in first pair.1 u.blobs e pair.1.entries
+              (slice_index_or all p nothing_assigned).rows is
 
   -- what is new at some places is assigned
-  pub new_there : (ps : List ℕ) → has (numbers (flat_map (new_at u first (λ q. slice_index_or all q nothing)) ps)) e ≡ true
+  pub new_there : (ps : List ℕ) → has (numbers (flat_map (new_at u first (λ q. slice_index_or all q nothing_assigned)) ps)) e ≡ true
       → has (flat_map executions (flat_map (λ (a : Assigned). a.rows) all)) e ≡ true
   new_there [] is = absurd (cc)
-  new_there (p ∷ ps) is = go (or_cases _ _ (sym (numbers_both (new_at u first (λ q. slice_index_or all q nothing) p)
-      (flat_map (new_at u first (λ q. slice_index_or all q nothing)) ps) e) ∙ is)) (new_there ps)
+  new_there (p ∷ ps) is = go (or_cases _ _ (sym (numbers_both (new_at u first (λ q. slice_index_or
+      all q nothing_assigned) p)
+      (flat_map (new_at u first (λ q. slice_index_or all q nothing_assigned)) ps) e) ∙ is))
+      (new_there ps)
     where
-      go : (has (numbers (new_at u first (λ q. slice_index_or all q nothing) p)) e ≡ true)
-          ⊎ (has (numbers (flat_map (new_at u first (λ q. slice_index_or all q nothing)) ps)) e ≡ true)
-          → (has (numbers (flat_map (new_at u first (λ q. slice_index_or all q nothing)) ps)) e ≡ true
+      go : (has (numbers (new_at u first (λ q. slice_index_or all q nothing_assigned) p)) e ≡ true)
+          ⊎ (has (numbers (flat_map (new_at u first (λ q. slice_index_or all q nothing_assigned))
+          ps)) e ≡ true)
+          → (has (numbers (flat_map (new_at u first (λ q. slice_index_or all q nothing_assigned))
+          ps)) e ≡ true
           → has (flat_map executions (flat_map (λ (a : Assigned). a.rows) all)) e ≡ true)
           → has (flat_map executions (flat_map (λ (a : Assigned). a.rows) all)) e ≡ true
       go (inl here) rest = rows_all all p e (at_in p here)

@@ -17,7 +17,7 @@ use Rattle.core_rules.specs.Numbered.{numbered}
 use Rattle.core_rules.specs.Assigned.{assigns, is_assigned}
 use Rattle.core_rules.specs.Settings.{Setting, made_of, state_behind, behind_among, settings, setting}
 use Rattle.core_rules.specs.Parts.{sources_of, evaluation}
-use Rattle.core_rules.specs.Standing.{Standing, Free, Held, Done, is_free, standing, is_done, is_finished}
+use Rattle.core_rules.specs.Standing.{Standing, Free, Held, Done, is_unclaimed, standing, is_done, is_finished}
 use Rattle.core_rules.specs.Doc.{Doc, doc}
 use Rattle.core_rules.specs.Ready.{has_inputs}
 use Rattle.core_rules.specs.Sources.{is_evaluation, IsSource, HasHome}
@@ -87,8 +87,9 @@ module _ {S : Type 0} (l : Lang S) where
       pub works_on : setting l d.homes p.exec
           ≡ Some (setting_of l (record { part = p; source = home.source; blob = home.blob; input = input }))
 
-    module _ (begun : (p : Part) → is_free (standing h p) ≡ false → has_inputs h d.homes p ≡ true) where
-      done_not_free : (s : Standing) → is_done s ≡ true → is_free s ≡ false
+    module _ (begun : (p : Part) → is_unclaimed (standing h p) ≡ false → has_inputs h d.homes p ≡
+        true) where
+      done_not_free : (s : Standing) → is_done s ≡ true → is_unclaimed s ≡ false
       done_not_free Free is = absurd (false≢true is)
       done_not_free (Held w) is = refl
       done_not_free Done is = refl

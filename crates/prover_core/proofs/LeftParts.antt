@@ -13,7 +13,7 @@ use Rattle.language.specs.Lang.{Lang}
 use Rattle.core_rules.specs.declared.event.Event.{Event}
 use Rattle.core_rules.specs.Assigned.{assigns, is_assigned}
 use Rattle.core_rules.specs.Parts.{waits_for}
-use Rattle.core_rules.specs.Standing.{Standing, Free, Held, Done, standing, is_done, is_free, is_finished, held}
+use Rattle.core_rules.specs.Standing.{Standing, Free, Held, Done, standing, is_done, is_unclaimed, is_finished, held}
 use Rattle.core_rules.specs.Doc.{Doc, doc}
 use Rattle.core_rules.specs.Ready.{is_part, is_wanted, has_inputs, is_ready_in}
 use Rattle.core_rules.specs.Sources.{HasHome}
@@ -31,7 +31,8 @@ use Rattle.prover_core.proofs.StuckMarks.{none_marked}
 use Rattle.prover_core.proofs.SettledParts.{version_settled}
 
 module _ {S : Type 0} (l : Lang S) (h : List Event) (t : Tables S) (k : IsKept l h t) (laws : Laws l h)
-    (begun : (p : Part) → is_free (standing h p) ≡ false → has_inputs h (doc l h).homes p ≡ true)
+    (begun : (p : Part) → is_unclaimed (standing h p) ≡ false → has_inputs h (doc l h).homes p ≡
+    true)
     (v : Version) (n : ℕ) (behind : IsBehind (doc l h) v n) where
   abbrev d : Doc
   d = doc l h
@@ -51,7 +52,7 @@ module _ {S : Type 0} (l : Lang S) (h : List Event) (t : Tables S) (k : IsKept l
       ∙ ap (λ b. not (is_finished h p) && b) (none_marked h d.cancelled d.homes (waits_for d.homes p) inputs)
       ∙ and-false (not (is_finished h p))
 
-  free_undone : (s : Standing) → is_free s ≡ true → is_done s ≡ false
+  free_undone : (s : Standing) → is_unclaimed s ≡ true → is_done s ≡ false
   free_undone Free is = refl
   free_undone (Held w) is = absurd (cc)
   free_undone Done is = absurd (cc)
@@ -60,9 +61,10 @@ module _ {S : Type 0} (l : Lang S) (h : List Event) (t : Tables S) (k : IsKept l
   pub ready_left : (p : Part) → p.exec < n → IsReadyPart t.tasks p → IsLeft l h v p
   ready_left p below ready =
       let is = ready_sound l h d t.tasks (in_tip l h t k laws) p ready in
-      let a = and_parts (is_part l d.homes p) (is_wanted d p.exec && (is_free (standing h p) && has_inputs h d.homes p)) is in
-      let b = and_parts (is_wanted d p.exec) (is_free (standing h p) && has_inputs h d.homes p) a.1 in
-      let c = and_parts (is_free (standing h p)) (has_inputs h d.homes p) b.1 in
+      let a = and_parts (is_part l d.homes p) (is_wanted d p.exec && (is_unclaimed (standing h p) && has_inputs h d.homes p)) is in
+      let b = and_parts (is_wanted d p.exec)
+      (is_unclaimed (standing h p) && has_inputs h d.homes p) a.1 in
+      let c = and_parts (is_unclaimed (standing h p)) (has_inputs h d.homes p) b.1 in
       let present = (ready_whole l h d t.tasks (in_tip l h t k laws) p is).0 in record {
         assigned = behind.still p.exec (present_assigned p.exec p.kind present) below;
         made = a.0;
@@ -70,7 +72,8 @@ module _ {S : Type 0} (l : Lang S) (h : List Event) (t : Tables S) (k : IsKept l
         not_stuck = not_stuck p b.0 c.1;
       }
 
-  held_undone : (s : Standing) (who : ℕ) → s ≡ Held who → (is_done s ≡ false) × (is_free s ≡ false)
+  held_undone : (s : Standing) (who : ℕ) → s ≡ Held who
+      → (is_done s ≡ false) × (is_unclaimed s ≡ false)
   held_undone Free who is = absurd (cc)
   held_undone (Held w) who is = (refl, refl)
   held_undone Done who is = absurd (cc)
@@ -104,9 +107,11 @@ module _ {S : Type 0} (l : Lang S) (h : List Event) (t : Tables S) (k : IsKept l
         by : is_wanted d p.exec ≡ true → (s : Standing) → standing h p ≡ s → is_done s ≡ false → ⊥
         by wanted Free at un =
             let ready : is_ready_in l h d p ≡ true = and_from (is_part l d.homes p)
-            (is_wanted d p.exec && (is_free (standing h p) && has_inputs h d.homes p)) made
-            (and_from (is_wanted d p.exec) (is_free (standing h p) && has_inputs h d.homes p) wanted
-            (and_from (is_free (standing h p)) (has_inputs h d.homes p) (ap is_free at) inputs)) in
+            (is_wanted d p.exec && (is_unclaimed (standing h p) && has_inputs h d.homes p)) made
+            (and_from (is_wanted d p.exec) (is_unclaimed (standing h p) && has_inputs h d.homes p)
+            wanted
+            (and_from (is_unclaimed (standing h p)) (has_inputs h d.homes p) (ap is_unclaimed at)
+            inputs)) in
             omega (arith, no_ready p (ready_whole l h d t.tasks (in_tip l h t k laws) p ready).1, behind.above p.exec is)
         by wanted (Held who) at un =
             let holds = (laws.told who p).1 at in

@@ -19,7 +19,7 @@ use Rattle.core_rules.specs.declared.event.Event.TheVariants as event
 use Rattle.core_rules.specs.Numbered.{grown, next_number}
 use Rattle.core_rules.specs.Assigned.{assigns, is_assigned}
 use Rattle.core_rules.specs.Standing.{Free, standing}
-use Rattle.core_rules.specs.Doc.{Doc, doc, update_of, assignment_of, version_of}
+use Rattle.core_rules.specs.Doc.{Doc, doc, update_of, assignment_of, assigned_version}
 use Rattle.core_rules.specs.Legal.{IsLegal}
 use Rattle.core_rules.specs.Sources.{HasHome}
 use Rattle.core_rules.specs.Placed.{RowOf}
@@ -46,7 +46,7 @@ module _ {S : Type 0} (l : Lang S) (h : List Event) (legal_h : IsLegal l h) (id 
   u = update_of d nodes blobs
 
   abbrev new : Version
-  new = version_of nodes blobs (assignment_of d nodes blobs)
+  new = assigned_version nodes blobs (assignment_of d nodes blobs)
 
   -- an older execution is one of the tip's
   was_there : (held : AreHeld first d.tip new) (e : ℕ) → RowOf new e → e ≤ length d.homes → assigns d.tip e ≡ true

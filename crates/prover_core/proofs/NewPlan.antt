@@ -9,7 +9,7 @@ use Rattle.core_rules.specs.declared.event.Event.TheVariants as event
 use Rattle.core_rules.specs.Numbered.{next_number}
 use Rattle.core_rules.specs.Assigned.{assigns, is_assigned}
 use Rattle.core_rules.specs.Standing.{has_ended}
-use Rattle.core_rules.specs.Doc.{Doc, doc, update_of, assignment_of, version_of}
+use Rattle.core_rules.specs.Doc.{Doc, doc, update_of, assignment_of, assigned_version}
 use Rattle.core_rules.specs.Legal.{IsLegal}
 use Rattle.update_plans.specs.declared.beginning.Fresh.{Fresh}
 use Rattle.prover_core.specs.Plans.{PlanState, made_version, AreTasksFor, IsPlanOf}
@@ -55,7 +55,7 @@ module _ {S : Type 0} {l : Lang S} {h : List Event} {t : Tables S} {p : PlanStat
   made = assignment_of d p.nodes p.blobs
 
   abbrev new : Version
-  new = version_of p.nodes p.blobs made
+  new = assigned_version p.nodes p.blobs made
 
   pub legal : IsLegal l more
   legal = (plan.kept.legal, (plan.going, plan.planned.fits))
@@ -70,7 +70,7 @@ module _ {S : Type 0} {l : Lang S} {h : List Event} {t : Tables S} {p : PlanStat
       (plan.all.held (update_of d p.nodes p.blobs) (next_number d.homes)) (plan.all.new (update_of d p.nodes p.blobs) (next_number d.homes))
 
   pub same_version : made_version p ≡ new
-  same_version = ap (version_of p.nodes p.blobs) plan.planned.assigned
+  same_version = ap (assigned_version p.nodes p.blobs) plan.planned.assigned
 
   pub drops : (e : ℕ) → has p.dropped e ≡ (assigns d.tip e && not (assigns new e))
   drops e = plan.planned.drops e ∙ ap (λ v. assigns d.tip e && not (assigns v e)) same_version

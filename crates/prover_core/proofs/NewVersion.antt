@@ -11,7 +11,7 @@ use Rattle.core_rules.specs.declared.event.Event.{Event}
 use Rattle.core_rules.specs.declared.event.Event.TheVariants.{Update}
 use Rattle.core_rules.specs.Assigned.{assigns, is_assigned}
 use Rattle.core_rules.specs.Standing.{Free, standing}
-use Rattle.core_rules.specs.Doc.{Doc, doc, assignment_of, version_of}
+use Rattle.core_rules.specs.Doc.{Doc, doc, assignment_of, assigned_version}
 use Rattle.core_rules.specs.Sources.{HasHome}
 
 module _ {S : Type 0} (l : Lang S) (h : List Event) (id : ℕ) (nodes : NodeList) (blobs : BlobList) where
@@ -28,7 +28,7 @@ module _ {S : Type 0} (l : Lang S) (h : List Event) (id : ℕ) (nodes : NodeList
   made = assignment_of d nodes blobs
 
   abbrev new : Version
-  new = version_of nodes blobs made
+  new = assigned_version nodes blobs made
 
   -- what holds of the new version
   pub record NewLaws : Type 0 where

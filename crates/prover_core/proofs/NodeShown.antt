@@ -19,7 +19,7 @@ use Rattle.core_rules.specs.declared.event.Event.{Event}
 use Rattle.core_rules.specs.Assigned.{assigns, is_assigned}
 use Rattle.core_rules.specs.Doc.{doc}
 use Rattle.prover_core.specs.Kept.{Tables, IsKept}
-use Rattle.exec_lists.specs.Parts.{told, rows_known, is_unfinished}
+use Rattle.exec_lists.specs.Parts.{told_part, rows_known, is_unfinished}
 use Rattle.prover_core.specs.Results.{AreResultsIn}
 use Rattle.exec_lists.specs.declared.results.NodeResults.{NodeResults}
 use Rattle.prover_core.proofs.ShownRows.{rows_shown, open_risen}
@@ -64,7 +64,8 @@ module _ {S : Type 0} (l : Lang S) (h : List Event) (t : Tables S) (k : IsKept l
   assigned i e row at is = found_assigns (doc l h).live id e v live (there v name i e row at is)
 
   pub results_so : (results : NodeResults) (place : ℕ) → place_of v.nodes name ≡ Some place
-      → map told results.parts.items ≡ rows_known t.rows (entries_at v.nodes place) (rows_of (slice_get v.assigned place))
+      → map told_part results.parts.items ≡ rows_known t.rows (entries_at v.nodes place)
+      (rows_of (slice_get v.assigned place))
       → IsStrictlyIncreasing results.pending.items
       → ((e : ℕ) → has results.pending.items e
       ≡ has (filter (λ n. is_unfinished (t.rows n)) (flat_map executions (rows_of (slice_get v.assigned place)))) e)

@@ -14,7 +14,7 @@ use Rattle.core_rules.specs.declared.event.Event.{Event}
 use Rattle.core_jobs.specs.declared.done.Done.{Done}
 use Rattle.update_plans.specs.declared.beginning.Fresh.{Fresh}
 use Rattle.update_plans.specs.Begun.{first_kind}
-use Rattle.prover_core.specs.Plans.{begun, begun_as}
+use Rattle.prover_core.specs.Plans.{begun_execution, begun_as}
 use Rattle.prover_core.specs.Fresh.{with_fresh}
 use Rattle.prover_core.specs.Kept.{Tables}
 use Rattle.prover_core.proofs.UpdatedRows.{AreRows}
@@ -23,7 +23,7 @@ use Rattle.prover_core.proofs.UpdateTables.{no_row, no_home}
 use Rattle.prover_core.proofs.PlanFresh.{fresh_none, fresh_behind, beyond_old, fresh_found, not_dropped}
 use Rattle.prover_core.proofs.UpdateFacts.{Updating, IsPlanned}
 
-begun_same : {R : Type 0} (i : Input) → begun_as {R = R} (first_kind i) ≡ begun i
+begun_same : {R : Type 0} (i : Input) → begun_as {R = R} (first_kind i) ≡ begun_execution i
 begun_same (input.First head) = refl
 begun_same (input.Next e) = refl
 begun_same (input.Print e) = refl

@@ -14,7 +14,7 @@ use Rattle.core_rules.specs.declared.event.Event.TheVariants as event
 use Rattle.core_rules.specs.Numbered.{next_number}
 use Rattle.core_rules.specs.Assigned.{assigns, is_assigned}
 use Rattle.core_rules.specs.Standing.{has_ended}
-use Rattle.core_rules.specs.Doc.{Doc, doc, update_of, assignment_of, version_of}
+use Rattle.core_rules.specs.Doc.{Doc, doc, update_of, assignment_of, assigned_version}
 use Rattle.core_rules.specs.Legal.{IsLegal}
 use Rattle.core_rules.specs.Updates.{FitsUpdate}
 use Rattle.core_jobs.specs.declared.done.Done.{Done}
@@ -60,7 +60,7 @@ module _ {S : Type 0} {l : Lang S} {h : List Event} {t : Tables S} {id : ℕ} {n
   made = assignment_of d nodes blobs
 
   abbrev pub new : Version
-  new = version_of nodes blobs made
+  new = assigned_version nodes blobs made
 
   abbrev pub u : Update
   u = update_by rows d.tip nodes blobs
@@ -72,7 +72,7 @@ module _ {S : Type 0} {l : Lang S} {h : List Event} {t : Tables S} {id : ℕ} {n
   same_made = a.all.same d.tip nodes blobs (cancelled_in rows) d.cancelled (next_number d.homes) (agree l h t a.kept rows a.are)
 
   pub same_new : made_by_update u (next_number d.homes) ≡ new
-  same_new = ap (λ (x : Assignment). version_of nodes blobs x) same_made
+  same_new = ap (λ (x : Assignment). assigned_version nodes blobs x) same_made
 
   pub below : (e : ℕ) → assigns d.tip e ≡ true → e < next_number d.homes
   below e is = let le = a.all.update.made h e a.kept.legal (live e is) in omega (arith, le)

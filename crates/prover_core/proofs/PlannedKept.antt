@@ -17,7 +17,7 @@ use Rattle.language.specs.Lang.{Lang}
 use Rattle.core_rules.specs.declared.event.Event.{Event}
 use Rattle.core_rules.specs.declared.event.Event.TheVariants as event
 use Rattle.core_rules.specs.Assigned.{is_visible}
-use Rattle.core_rules.specs.Doc.{doc, assignment_of, version_of}
+use Rattle.core_rules.specs.Doc.{doc, assignment_of, assigned_version}
 use Rattle.core_jobs.specs.declared.done.Done.{Done}
 use Rattle.update_plans.specs.declared.known.Known.{Known}
 use Rattle.update_plans.specs.declared.beginning.Fresh.{Fresh}
@@ -39,7 +39,7 @@ module _ {S : Type 0} {l : Lang S} {h : List Event} {t : Tables S} {p : PlanStat
   more = event.Update p.version p.nodes p.blobs ∷ h
 
   abbrev new : Version
-  new = version_of p.nodes p.blobs (assignment_of (doc l h) p.nodes p.blobs)
+  new = assigned_version p.nodes p.blobs (assignment_of (doc l h) p.nodes p.blobs)
 
   rows_dropped : (ds : List ℕ) → ds ≡ p.dropped → (rows1 : ℕ → Option (Execution (Done S)))
       → ((e : ℕ) → rows1 e ≡ cond (has ds e) (after_cancelling (t.rows e)) (t.rows e))

@@ -13,7 +13,7 @@ use Rattle.language.specs.Lang.{Lang}
 use Rattle.core_rules.specs.declared.event.Event.{Event}
 use Rattle.core_rules.specs.Assigned.{assigns, is_assigned}
 use Rattle.core_rules.specs.Parts.{waits_for, evaluation}
-use Rattle.core_rules.specs.Standing.{standing, is_free, is_finished, is_open}
+use Rattle.core_rules.specs.Standing.{standing, is_unclaimed, is_finished, is_open}
 use Rattle.core_rules.specs.Doc.{Doc}
 use Rattle.core_rules.specs.Ready.{is_part, is_wanted, has_inputs, is_ready_in, priority_of}
 use Rattle.prover_core.specs.Progress.{part, completed_in, next_of}
@@ -78,10 +78,12 @@ module _ {S : Type 0} (l : Lang S) (h : List Event) (d : Doc) (all : ℕ → Opt
         let free = free_by (standing h (part e k)) (sym task.held ∙ not-true t.held tests.0) (next_is_open l h d e k want.1) in
         let inputs = none_left (λ f. is_finished h (evaluation f)) (waits_for d.homes (part e k))
         (λ f. sym (task.waits f) ∙ nothing_waits t.inputs tests.1 f) in
-        and_from (is_part l d.homes (part e k)) (is_wanted d e && (is_free (standing h (part e k)) && has_inputs h d.homes (part e k)))
+        and_from (is_part l d.homes (part e k)) (is_wanted d e && (is_unclaimed (standing h (part e k)) && has_inputs h d.homes (part e k)))
         (next_is_part l h d e k want.1)
-        (and_from (is_wanted d e) (is_free (standing h (part e k)) && has_inputs h d.homes (part e k)) want.0
-        (and_from (is_free (standing h (part e k))) (has_inputs h d.homes (part e k)) free inputs))
+        (and_from (is_wanted d e) (is_unclaimed (standing h (part e k)) && has_inputs h d.homes
+        (part e k)) want.0
+        (and_from (is_unclaimed (standing h (part e k))) (has_inputs h d.homes (part e k)) free
+        inputs))
 
     -- what is ready in the queue
     pub ready_sound : (p : Part) → IsReadyPart all p → is_ready_in l h d p ≡ true
@@ -94,9 +96,10 @@ module _ {S : Type 0} (l : Lang S) (h : List Event) (d : Doc) (all : ℕ → Opt
     pub ready_whole : (p : Part) → is_ready_in l h d p ≡ true
         → (present_kind l h d p.exec ≡ Some p.kind) × IsReadyPart all p
     ready_whole p ready =
-        let a = and_parts (is_part l d.homes p) (is_wanted d p.exec && (is_free (standing h p) && has_inputs h d.homes p)) ready in
-        let b = and_parts (is_wanted d p.exec) (is_free (standing h p) && has_inputs h d.homes p) a.1 in
-        let c = and_parts (is_free (standing h p)) (has_inputs h d.homes p) b.1 in
+        let a = and_parts (is_part l d.homes p) (is_wanted d p.exec && (is_unclaimed (standing h p) && has_inputs h d.homes p)) ready in
+        let b = and_parts (is_wanted d p.exec)
+        (is_unclaimed (standing h p) && has_inputs h d.homes p) a.1 in
+        let c = and_parts (is_unclaimed (standing h p)) (has_inputs h d.homes p) b.1 in
         let free = free_so (standing h p) c.0 in
         let next = open_is_next l h d p.exec p.kind a.0 free.1 (behind p.kind p.exec c.1) in
         let present = wanted_present p.exec p.kind b.0 next in

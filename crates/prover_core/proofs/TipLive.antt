@@ -11,7 +11,7 @@ use Rattle.language.specs.Lang.{Lang}
 use Rattle.core_rules.specs.declared.event.Event.{Event}
 use Rattle.core_rules.specs.Assigned.{assigns, is_assigned}
 use Rattle.core_rules.specs.Standing.{Held, standing, held, is_open}
-use Rattle.core_rules.specs.Doc.{doc, start}
+use Rattle.core_rules.specs.Doc.{doc, start_version}
 use Rattle.core_rules.specs.Ready.{is_wanted}
 use Rattle.core_rules.specs.Legal.{IsLegal}
 use Rattle.prover_core.specs.Kept.{Tables, IsKept}
@@ -37,12 +37,12 @@ one_assigns (x ∷ live) zero e one at is =
     let same : x ≡ one = cc in or_left _ _ (ap (λ (y : Live Version). assigns y.version e) same ∙ is)
 one_assigns (x ∷ live) (suc n) e one at is = or_right _ _ (one_assigns live n e one at is)
 
-newest_assigns : (v : History Version) (e : ℕ) → v.start ≡ start → assigns (tip_of v) e ≡ true → is_assigned v.live e ≡ true
+newest_assigns : (v : History Version) (e : ℕ) → v.start ≡ start_version → assigns (tip_of v) e ≡ true → is_assigned v.live e ≡ true
 newest_assigns v e begins is = go (newest v.live) refl is
   where
     go : (o : Option (Live Version)) → newest v.live ≡ o → assigns (option_map_or (λ (x : Live Version). x.version) o v.start) e ≡ true
         → is_assigned v.live e ≡ true
-    go None at is = let none : assigns start e ≡ true = ap (λ x. assigns x e) (sym begins) ∙ is in absurd (false≢true none)
+    go None at is = let none : assigns start_version e ≡ true = ap (λ x. assigns x e) (sym begins) ∙ is in absurd (false≢true none)
     go (Some one) at is = one_assigns v.live _ e one at is
 
 module _ {S : Type 0} (l : Lang S) (h : List Event) (t : Tables S) (k : IsKept l h t) where

@@ -12,7 +12,7 @@ use Rattle.language.specs.Lang.{Lang}
 use Rattle.core_rules.specs.declared.event.Event.{Event}
 use Rattle.core_rules.specs.declared.event.Event.TheVariants as event
 use Rattle.core_rules.specs.Assigned.{assigns, is_assigned}
-use Rattle.core_rules.specs.Doc.{Doc, doc, assignment_of, version_of}
+use Rattle.core_rules.specs.Doc.{Doc, doc, assignment_of, assigned_version}
 use Rattle.core_rules.specs.Sources.{HasHome}
 use Rattle.core_jobs.specs.declared.done.Done.{Done}
 use Rattle.version_losses.specs.declared.losses.Loss.{Loss}
@@ -58,7 +58,7 @@ module _ {S : Type 0} {l : Lang S} {h : List Event} {t : Tables S} {id : ℕ} {n
   now = doc l more
 
   abbrev pub new : Version
-  new = version_of nodes blobs (assignment_of d nodes blobs)
+  new = assigned_version nodes blobs (assignment_of d nodes blobs)
 
   -- the executions that the update drops, and the new ones with their tasks, as they are planned
   pub record IsPlanned (dropped : List ℕ) (fresh : List Fresh) : Type 0 where

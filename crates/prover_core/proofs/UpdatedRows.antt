@@ -18,7 +18,7 @@ use Rattle.core_rules.specs.Settings.{Setting, made_of, setting}
 use Rattle.core_rules.specs.Standing.{is_open}
 use Rattle.core_jobs.specs.declared.done.Done.{Done}
 use Rattle.prover_core.specs.Progress.{completed_in, progress_by, result, execution_by, row_by, row_of}
-use Rattle.prover_core.specs.Plans.{begun}
+use Rattle.prover_core.specs.Plans.{begun_execution}
 use Rattle.prover_core.specs.Kept.{Tables, IsKnown}
 use Rattle.core_rules.proofs.KnownNumbers.{numbered_within}
 use Rattle.prover_core.proofs.OpenRows.{row_known, row_with_mark}
@@ -97,17 +97,17 @@ module _ {S : Type 0} {l : Lang S} {h : List Event} {t : Tables S} {id : ℕ} {n
       marks false true = refl
       marks false false = refl
 
-  begins_with : (e : ℕ) (x : Home) (s : Setting S) → execution_by l false e (three false false false) x s ≡ begun x.input
+  begins_with : (e : ℕ) (x : Home) (s : Setting S) → execution_by l false e (three false false false) x s ≡ begun_execution x.input
   begins_with e x s = go x.input
     where
       go : (i : Input) → record { cancelled = false; progress = progress_by (result l e s) (made_of l s).forks i (three false false false) }
-          ≡ begun i
+          ≡ begun_execution i
       go (input.First head) = refl
       go (input.Next f) = refl
       go (input.Print f) = refl
 
   pub new_row : (e : ℕ) (x : Home) → length (d u).homes < e → e ≤ length (now u).homes → numbered (now u).homes e ≡ Some x
-      → Some (begun x.input) ≡ row_of l (more u) (now u) e
+      → Some (begun_execution x.input) ≡ row_of l (more u) (now u) e
   new_row e x past le at =
       let given = u.laws.given e past le in
       let live = new_live u e past ∙ given in
@@ -117,7 +117,8 @@ module _ {S : Type 0} {l : Lang S} {h : List Event} {t : Tables S} {id : ℕ} {n
       (not_cancelled u e given)
       ∙ ap (λ c. Some (execution_by l false e c known.home known.works_on)) (nothing_done u e past)
       ∙ ap (λ z. Some z) (begins_with e known.home known.works_on)
-      ∙ ap (λ (y : Home). Some (begun y.input)) (same_Some known.home x (sym known.homed ∙ at)))
+      ∙ ap (λ (y : Home). Some (begun_execution y.input))
+      (same_Some known.home x (sym known.homed ∙ at)))
 
   pub beyond : (e : ℕ) → length (now u).homes < e → is_assigned (now u).live e ≡ false
   beyond e past = false_from_ne_true (is_assigned (now u).live e) (λ is.
@@ -128,5 +129,5 @@ module _ {S : Type 0} {l : Lang S} {h : List Event} {t : Tables S} {id : ℕ} {n
   pub record AreRows (rows : ℕ → Option (Execution (Done S))) : Type 0 where
     pub old : (e : ℕ) → e ≤ length (d u).homes
         → rows e ≡ cond (assigns (d u).tip e && not (assigns (new u) e)) (after_cancelling (t.rows e)) (t.rows e)
-    pub fresh : (e : ℕ) (x : Home) → length (d u).homes < e → numbered (now u).homes e ≡ Some x → rows e ≡ Some (begun x.input)
+    pub fresh : (e : ℕ) (x : Home) → length (d u).homes < e → numbered (now u).homes e ≡ Some x → rows e ≡ Some (begun_execution x.input)
     pub others : (e : ℕ) → length (now u).homes < e → rows e ≡ None

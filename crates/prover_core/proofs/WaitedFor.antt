@@ -4,16 +4,16 @@ use Rattle.std.proofs.lemmas.Bool.{false≢true, eqb-true, eq-eqb, or_left, and_
 use Rattle.std.specs.Prelude.{◌==◌}
 use Rattle.std.specs.List.{list_all}
 use Rattle.text_words.specs.Members.{has}
-use Rattle.core_rules.specs.Standing.{Standing, Free, Held, Done, is_done, is_free}
+use Rattle.core_rules.specs.Standing.{Standing, Free, Held, Done, is_done, is_unclaimed}
 use Rattle.prover_core.specs.Tasks.{is_held}
 
 -- a part that nobody holds and that is unfinished is free
-pub free_by : (s : Standing) → is_held s ≡ false → is_done s ≡ false → is_free s ≡ true
+pub free_by : (s : Standing) → is_held s ≡ false → is_done s ≡ false → is_unclaimed s ≡ true
 free_by Free x y = refl
 free_by (Held w) x y = absurd (cc)
 free_by Done x y = absurd (cc)
 
-pub free_so : (s : Standing) → is_free s ≡ true → (is_held s ≡ false) × (is_done s ≡ false)
+pub free_so : (s : Standing) → is_unclaimed s ≡ true → (is_held s ≡ false) × (is_done s ≡ false)
 free_so Free x = (refl, refl)
 free_so (Held w) x = absurd (cc)
 free_so Done x = absurd (cc)

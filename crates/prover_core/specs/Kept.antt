@@ -16,7 +16,7 @@ use Rattle.core_rules.specs.Numbered.{numbered, next_number}
 use Rattle.core_rules.specs.Assigned.{assigns, is_assigned}
 use Rattle.core_rules.specs.Settings.{Setting, setting}
 use Rattle.core_rules.specs.Standing.{held, has_ended}
-use Rattle.core_rules.specs.Doc.{Doc, doc, start}
+use Rattle.core_rules.specs.Doc.{Doc, doc, start_version}
 use Rattle.core_rules.specs.Legal.{IsLegal}
 use Rattle.version_losses.specs.declared.losses.Loss.{Loss}
 use Rattle.version_losses.specs.Losses.{AreLosses}
@@ -64,7 +64,7 @@ pub record IsKnown {S : Type 0} (l : Lang S) (homes : List Home) (e : ℕ) : Typ
 -- all has ended, and what of the tip is cancelled
 pub record IsKept {S : Type 0} (l : Lang S) (h : List Event) (t : Tables S) : Type 0 where
   pub legal : IsLegal l h
-  pub start_is : t.versions.start ≡ start
+  pub start_is : t.versions.start ≡ start_version
   pub live : t.versions.live ≡ (doc l h).live
   pub tip : tip_of t.versions ≡ (doc l h).tip
   pub rows_fit : RowsFit (doc l h).tip

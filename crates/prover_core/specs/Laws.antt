@@ -10,7 +10,7 @@ use Rattle.exec_rules.specs.Assigning.{Update, rows_in, assignment}
 use Rattle.exec_rules.specs.Listed.{executions}
 use Rattle.exec_assign.specs.Agreeing.{AgreeAt}
 use Rattle.exec_assign.specs.Numbered.{new_in, with_numbers, AreBelow, AreHeld}
-use Rattle.exec_assign.specs.Telling.{made_by}
+use Rattle.exec_assign.specs.Telling.{update_version}
 use Rattle.language.specs.Lang.{Lang}
 use Rattle.core_rules.specs.declared.event.Event.{Event}
 use Rattle.core_rules.specs.declared.event.Event.TheVariants as event
@@ -40,7 +40,7 @@ pub record UpdateLaws {S : Type 0} (l : Lang S) : Type 0 where
       → slice_get (rows_in v name) i ≡ Some row → has (executions row) e ≡ true
       → assigns v e ≡ true
   pub held : (u : Update) (first : ℕ)
-      → AreHeld first u.tip (made_by u (assignment u first).assigned)
+      → AreHeld first u.tip (update_version u (assignment u first).assigned)
   pub new : (u : Update) (first : ℕ) → AreBelow first u.tip
       → new_in u first (assignment u first).assigned
       ≡ with_numbers first (assignment u first).homes

@@ -23,7 +23,7 @@ use Rattle.core_rules.specs.Numbered.{next_number}
 use Rattle.core_rules.specs.Assigned.{assigns, is_visible}
 use Rattle.core_rules.specs.Parts.{sources_of, evaluation}
 use Rattle.core_rules.specs.Standing.{is_finished}
-use Rattle.core_rules.specs.Doc.{doc, assignment_of, version_of}
+use Rattle.core_rules.specs.Doc.{doc, assignment_of, assigned_version}
 use Rattle.core_rules.specs.Ready.{priority_by}
 use Rattle.core_rules.specs.Updates.{FitsUpdate}
 use Rattle.update_plans.specs.declared.seeing.Sight.{Sight}
@@ -31,9 +31,9 @@ use Rattle.update_plans.specs.Begun.{first_kind}
 use Rattle.prover_core.specs.States.{Room}
 
 -- an execution that takes this up, of which nothing is finished
-abbrev pub begun : {R : Type 0} → Input → Execution R
-begun (input.Print e) = record { cancelled = false; progress = progress.Printing }
-begun taken = record { cancelled = false; progress = progress.Evaluating }
+abbrev pub begun_execution : {R : Type 0} → Input → Execution R
+begun_execution (input.Print e) = record { cancelled = false; progress = progress.Printing }
+begun_execution taken = record { cancelled = false; progress = progress.Evaluating }
 
 -- the same, by the kind of the first part
 abbrev pub begun_as : {R : Type 0} → PartKind → Execution R
@@ -64,7 +64,7 @@ pub record PlanState : Type 0 where
 
 -- the version that is made
 abbrev pub made_version : PlanState → Version
-made_version p = version_of p.nodes p.blobs p.assignment
+made_version p = assigned_version p.nodes p.blobs p.assignment
 
 -- the task is that of a new execution, which waits for what it takes up and is not finished
 pub record IsTaskFor (h : List Event) (e : ℕ) (home : Home) (task : Task) : Type 0 where

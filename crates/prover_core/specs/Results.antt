@@ -8,7 +8,7 @@ use Rattle.core_rules.specs.declared.event.Event.{Event}
 use Rattle.core_rules.specs.Doc.{doc}
 use Rattle.core_rules.specs.Shown.{PartShown, parts_shown, pending}
 use Rattle.exec_lists.specs.declared.results.NodeResults.{NodeResults}
-use Rattle.exec_lists.specs.Parts.{told}
+use Rattle.exec_lists.specs.Parts.{told_part}
 
 -- the part is finished
 abbrev pub is_reported : PartShown → Bool
@@ -22,7 +22,7 @@ pub record AreResultsIn {S : Type 0} (l : Lang S) (h : List Event) (id : ℕ) (n
   pub live : version_of (doc l h).live id ≡ Some version
   pub place : ℕ
   pub node : place_of version.nodes name ≡ Some place
-  pub parts : map told results.parts.items
+  pub parts : map told_part results.parts.items
       ≡ filter is_reported (parts_shown l h (doc l h) version name)
   pub pending_is : results.pending.items ≡ pending l h (doc l h) version name
 

@@ -3,7 +3,7 @@ use Rattle.std.proofs.Common.{◌≡◌, ℕ, List, [], ◌∷◌, ◌++◌, map
 use Rattle.std.proofs.lemmas.List.Folds.{flat_map-map}
 use Rattle.xml_tree.specs.Marks.{opening, closing, marks}
 use Rattle.xml_tree.proofs.KnownMarks.{tree_marks-Elem, tree_marks-Text}
-use Rattle.yxml.specs.Spelling.{yxml, spelling, spellings, attribute_spelling}
+use Rattle.yxml.specs.Spelling.{yxml, mark_spelling, spellings, attribute_spelling}
 use Rattle.pide_base.specs.declared.range.Range.{Range}
 use Rattle.report_markup.specs.declared.report.Report.{Report}
 use Rattle.report_markup.specs.Words.{kind_word}
@@ -38,7 +38,7 @@ report_is r =
     let attributes = with_offsets r.range (map property_attribute r.properties) in
     let tag = opening (kind_word r.kind) attributes in
     ap (λ ms. spellings (ms ++ [])) (tree_marks-Elem (kind_word r.kind) attributes (text_body r.text))
-    ∙ ap (λ s. spelling tag ++ s) (text_is r.text)
+    ∙ ap (λ s. mark_spelling tag ++ s) (text_is r.text)
     ∙ ap (λ ps. (5 ∷ 6 ∷ ((kind_word r.kind ++ offsets r.range ps) ++ 5 ∷ [])) ++ (r.text ++ 5 ∷ 6 ∷ 5 ∷ [])) (flat_map-map attribute_spelling property_attribute r.properties)
     ∙ ap (λ s. 5 ∷ 6 ∷ s) (append_assoc (tag_bytes (tag_of r)) (5 ∷ []) (r.text ++ 5 ∷ 6 ∷ 5 ∷ []))
 

@@ -5,7 +5,7 @@ use Rattle.std.proofs.lemmas.Grind.{flat_map-append}
 use Rattle.std.proofs.lemmas.List.{append-nil}
 use Rattle.xml_tree.specs.declared.tree.Tree.{Tree}
 use Rattle.xml_tree.specs.Marks.{marks, tree_marks}
-use Rattle.yxml.specs.Spelling.{yxml, spelling, spellings}
+use Rattle.yxml.specs.Spelling.{yxml, mark_spelling, spellings}
 use Rattle.xml_codec.specs.Data.{node, list_body}
 use Rattle.pide_base.specs.Ids.{IsId}
 use Rattle.data_shapes.specs.Bodies.{number_body}
@@ -23,7 +23,7 @@ use Rattle.reply_reading.proofs.Names.{names_are_words}
 -- the first tree, and the others
 yxml_first : (tree : Tree) (others : List Tree) → yxml (tree ∷ others) ≡ yxml (tree ∷ []) ++ yxml others
 yxml_first tree others =
-    flat_map-append spelling (tree_marks tree) (marks others)
+    flat_map-append mark_spelling (tree_marks tree) (marks others)
     ∙ ap (λ ms. spellings ms ++ yxml others) (sym (append-nil (tree_marks tree)))
 
 -- trees, one after the other

@@ -7,7 +7,7 @@ use Rattle.std.proofs.lemmas.List.{append-nil}
 use Rattle.xml_tree.specs.declared.tree.Tree.{Tree}
 use Rattle.xml_tree.specs.Marks.{closing, marks}
 use Rattle.xml_tree.proofs.KnownMarks.{tree_marks-Elem, tree_marks-Text}
-use Rattle.yxml.specs.Spelling.{yxml, spelling, spellings}
+use Rattle.yxml.specs.Spelling.{yxml, mark_spelling, spellings}
 use Rattle.xml_codec.specs.Data.{node, string_body, pair_body, list_body}
 use Rattle.data_shapes.specs.Bodies.{number_body}
 
@@ -23,8 +23,9 @@ pub node_yxml : (body rest : List Tree) → yxml (node body ∷ rest) ≡ begin 
 node_yxml body rest =
     ap (λ ms. spellings (ms ++ marks rest)) (tree_marks-Elem (58 ∷ []) [] body)
     ∙ ap (λ bs. begin ++ bs)
-    (flat_map-append spelling (marks body ++ closing ∷ []) (marks rest)
-    ∙ ap (λ bs. bs ++ spellings (marks rest)) (flat_map-append spelling (marks body) (closing ∷ []))
+    (flat_map-append mark_spelling (marks body ++ closing ∷ []) (marks rest)
+    ∙ ap (λ bs. bs ++ spellings (marks rest))
+    (flat_map-append mark_spelling (marks body) (closing ∷ []))
     ∙ append_assoc (yxml body) end (yxml rest))
 
 -- a list of one

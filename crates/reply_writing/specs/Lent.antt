@@ -35,18 +35,18 @@ reports_of (Own reports) = reports.now
 reports_of (Shown reports) = map seen reports.now
 
 -- what the reply tells
-abbrev pub told : Reply → Told
-told (lends.Assign version nodes) = tells.Assign version (map rows_of nodes.now)
-told (lends.Markup version node reports pending outdated) =
+abbrev pub told_reply : Reply → Told
+told_reply (lends.Assign version nodes) = tells.Assign version (map rows_of nodes.now)
+told_reply (lends.Markup version node reports pending outdated) =
     tells.Markup version node.now (reports_of reports) pending.now outdated
-told (lends.Cancelled exec) = tells.Cancelled exec
-told (lends.Idle exec) = tells.Idle exec
-told (lends.Removed versions) = tells.Removed versions.now
-told (lends.Settled version stuck) = tells.Settled version stuck.now
-told (lends.Protocol protocol) = tells.Protocol protocol
-told (lends.Refused reason) = tells.Refused reason
-told (lends.Claimed worker part) = tells.Claimed worker part
-told (lends.Report part reports) = tells.Report part (reports_of reports)
-told (lends.Dropped part) = tells.Dropped part
-told (lends.Built node reports) = tells.Built node.now (reports_of reports)
-told (lends.Total nodes errors) = tells.Total nodes errors
+told_reply (lends.Cancelled exec) = tells.Cancelled exec
+told_reply (lends.Idle exec) = tells.Idle exec
+told_reply (lends.Removed versions) = tells.Removed versions.now
+told_reply (lends.Settled version stuck) = tells.Settled version stuck.now
+told_reply (lends.Protocol protocol) = tells.Protocol protocol
+told_reply (lends.Refused reason) = tells.Refused reason
+told_reply (lends.Claimed worker part) = tells.Claimed worker part
+told_reply (lends.Report part reports) = tells.Report part (reports_of reports)
+told_reply (lends.Dropped part) = tells.Dropped part
+told_reply (lends.Built node reports) = tells.Built node.now (reports_of reports)
+told_reply (lends.Total nodes errors) = tells.Total nodes errors

@@ -2,7 +2,7 @@
 ghost use Rattle.std.specs.Prelude.{◌≡◌, IfOk};
 ghost use Rattle.byte_message.specs.Stream.{plain_spelling};
 ghost use Rattle.reply_writing.specs.Forms.{IsForm};
-ghost use Rattle.reply_writing.specs.Lent.{told};
+ghost use Rattle.reply_writing.specs.Lent.{told_reply};
 ghost use Rattle.reply_writing.specs.Replies.{reply_chunks};
 
 use crate::nodes::{built, markup};
@@ -16,8 +16,9 @@ use std::alloc::{AllocError, Global};
 /// The bytes of the reply: a byte message whose chunks may have any length. They are written into
 /// one text, which grows by doubling; then the header line is put before them.
 pub fn write(alloc: Global, reply: &Reply<'_>) -> Result<Vec<u8>, AllocError>
-    requires { IsForm (told reply.now) }
-    ensures { IfOk result (λ bytes. bytes.items ≡ plain_spelling (reply_chunks (told reply.now))) }
+    requires { IsForm (told_reply reply.now) }
+    ensures { IfOk result (λ bytes. bytes.items ≡ plain_spelling (reply_chunks (told_reply
+        reply.now))) }
 {
     match *reply {
         Reply::Assign { version, nodes } => assign(alloc, version, nodes),

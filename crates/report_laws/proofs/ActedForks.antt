@@ -18,12 +18,12 @@ use Rattle.isar_rules.specs.declared.state.Theory.{Theory}
 use Rattle.isar_rules.specs.declared.state.Place.{Place}
 use Rattle.isar_rules.specs.declared.state.Place.TheVariants as place
 use Rattle.isar_rules.specs.Errors.{and_then, formula_in, name_differs, name_taken}
-use Rattle.isar_rules.specs.BlobLines.{facts_of}
+use Rattle.isar_rules.specs.BlobLines.{listed_facts}
 use Rattle.isar_rules.specs.Reports.{def_report, formula_report}
 use Rattle.isar_rules.specs.Effects.{Effect, makes}
-use Rattle.isar_rules.specs.Theories.{facts_or, begins, begun, has_fact, stated}
-use Rattle.isar_rules.specs.Loads.{load_made, blob_or, with_all, facts_or as listed_or}
-use Rattle.isar_rules.specs.Proofs.{Ordered, with_formula, ordered, levels_or, effect_of, stands}
+use Rattle.isar_rules.specs.Theories.{facts_or_bad_import, begins, beginning_effect, has_fact, stated_effect}
+use Rattle.isar_rules.specs.Loads.{load_made, blob_or, with_all, facts_or_bad_line as listed_or}
+use Rattle.isar_rules.specs.Proofs.{Ordered, with_formula, ordered_command, levels_or, effect_of, stands}
 use Rattle.isar_rules.specs.Proofs.{proof_made}
 use Rattle.isar_rules.specs.Steps.{acted, tried, aliases_at}
 use Rattle.isar_rules.proofs.KnownTried.{IfTried, chained, always}
@@ -43,18 +43,22 @@ begins-leads name imports (Some k) facts = tt
 begins-leads name imports None facts = (refl, λ aliases. refl)
 
 begun-leads : (node : List ℕ) (given : Given) (keyword : Option (List ℕ)) (name : Spot)
-    (imports : List Spot) → IfTried (Leads false) (begun node given keyword name imports)
+    (imports : List Spot)
+    → IfTried (Leads false) (beginning_effect node given keyword name imports)
 begun-leads node given keyword name imports = go (equal name.text node)
   where
     go : (b : Bool)
         → IfTried (Leads false)
-        (if b then and_then (facts_or given) (begins name imports keyword) else Err name_differs)
-    go true = chained (λ _. ⊤) (Leads false) (facts_or given) (begins name imports keyword)
-        (always (facts_or given)) (λ facts _. begins-leads name imports keyword facts)
+        (if b then and_then (facts_or_bad_import given) (begins name imports keyword) else Err
+        name_differs)
+    go true = chained (λ _. ⊤) (Leads false) (facts_or_bad_import given)
+        (begins name imports keyword)
+        (always (facts_or_bad_import given)) (λ facts _. begins-leads name imports keyword facts)
     go false = tt
 
 stated-leads : (next : Formula → Place) (theory : Theory) (name quoted : Spot)
-    → ((f : Formula) → IsBehind (next f)) → IfTried (Leads false) (stated next theory name quoted)
+    → ((f : Formula) → IsBehind (next f))
+    → IfTried (Leads false) (stated_effect next theory name quoted)
 stated-leads next theory name quoted behind =
     chained (λ _. ⊤) (Leads false) (formula_in quoted.text) _ (always (formula_in quoted.text))
     (λ f _. go f (has_fact name.text theory))
@@ -68,7 +72,7 @@ load-leads : (blob : Option (List ℕ)) (theory : Theory) (name : Spot)
     → IfTried (Leads false) (load_made blob theory name)
 load-leads blob theory name =
     chained (λ _. ⊤) (Leads false) (blob_or name.text blob) _ (always _)
-    (λ text _. chained (λ _. ⊤) (Leads false) (listed_or (facts_of text)) _ (always _)
+    (λ text _. chained (λ _. ⊤) (Leads false) (listed_or (listed_facts text)) _ (always _)
     (λ facts _. chained (λ _. ⊤) (Leads false) (with_all theory facts) _ (always _)
     (λ more _. (refl, λ aliases. refl))))
 
@@ -88,7 +92,7 @@ formula-says command name quoted other =
     (λ f _. other f)
 
 ordered-says : (facts : List Fact) (s : Shape) (levels : Levels)
-    → IfTried (OrderSays (by_shape s)) (ordered facts s levels)
+    → IfTried (OrderSays (by_shape s)) (ordered_command facts s levels)
 unfolding OrderSays by_command
 ordered-says facts (shape.Proof dash) (Prove goal around) = refl
 ordered-says facts shape.By (Prove goal around) = refl
@@ -118,7 +122,7 @@ proof-leads : (theory : Theory) (name : List ℕ) (goal : Formula) (levels : Lev
     → IfTried (Leads (by_shape s)) (proof_made theory name goal levels s)
 unfolding OrderSays
 proof-leads theory name goal levels s =
-    chained (OrderSays (by_shape s)) (Leads (by_shape s)) (ordered theory.facts s levels) _
+    chained (OrderSays (by_shape s)) (Leads (by_shape s)) (ordered_command theory.facts s levels) _
     (ordered-says theory.facts s levels)
     (λ o is. chained (λ _. ⊤) (Leads (by_shape s)) (levels_or (step o.0 levels)) _
     (always (levels_or (step o.0 levels)))

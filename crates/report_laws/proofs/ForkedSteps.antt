@@ -6,7 +6,7 @@ use Rattle.outer_tokens.specs.Kinds.{is_command}
 use Rattle.outer_tokens.specs.Tokens.{text_of}
 use Rattle.outer_tokens.specs.declared.token.Token.{Token}
 use Rattle.report_markup.specs.declared.kind.ReportKind.TheVariants as kind
-use Rattle.report_markup.specs.Sorting.{in_order}
+use Rattle.report_markup.specs.Sorting.{ordered_reports}
 use Rattle.doc_blobs.specs.Needs.{source_tokens}
 use Rattle.mirror_rules.specs.Forking.{is_quiet, may_fork, forks_by}
 use Rattle.isar_rules.specs.declared.state.Place.{Place}
@@ -17,7 +17,7 @@ use Rattle.isar_rules.specs.Effects.{Effect}
 use Rattle.isar_rules.specs.Reports.{report, name_is, announced, error_report}
 use Rattle.isar_rules.specs.Shapes.{shape_of}
 use Rattle.isar_rules.specs.Kept.{IsDoneOrRefused}
-use Rattle.isar_rules.specs.Steps.{tried, aliases_at, after_error, made_by, step}
+use Rattle.isar_rules.specs.Steps.{tried, aliases_at, after_error, made_effect, step}
 use Rattle.isar_rules.proofs.KnownTried.{IfTried}
 use Rattle.report_laws.proofs.QuietOrders.{quiet_order, quiet_is, loud_is}
 use Rattle.report_laws.proofs.SaidShapes.{shape_says}
@@ -46,16 +46,17 @@ loud source (t ∷ ts) text = go (is_command t.kind)
 
 made-forks : (source : List ℕ) (tokens : List Token) (before : State) (b : Bool) (t : Tried Effect)
     → IfTried (Leads b) t
-    → IsDoneOrRefused before (made_by source tokens before t)
-    → (made_by source tokens before t).forks
-    ≡ (b && is_quiet (made_by source tokens before t).reports)
+    → IsDoneOrRefused before (made_effect source tokens before t)
+    → (made_effect source tokens before t).forks
+    ≡ (b && is_quiet (made_effect source tokens before t).reports)
 made-forks source tokens before b (Ok e) leads (inl none) =
     leads.0 ∙ sym (and-true b)
-    ∙ ap (λ q. b && q) (sym (quiet_is (in_order (announced source tokens ++ e.reports)) none))
+    ∙ ap (λ q. b && q) (sym (quiet_is (ordered_reports (announced source tokens ++ e.reports))
+    none))
 made-forks source tokens before b (Ok e) leads (inr (text, one, left)) =
     left.forks ∙ sym (and-false b)
     ∙ ap (λ q. b && q)
-    (sym (loud_is (in_order (announced source tokens ++ e.reports)) text one))
+    (sym (loud_is (ordered_reports (announced source tokens ++ e.reports)) text one))
 made-forks source tokens before b (Err text) leads done =
     sym (and-false b)
     ∙ ap (λ q. b && q)
@@ -99,7 +100,7 @@ pub record LeadsBehind (before behind : State) : Type 0 where
 
 made-behind : (source : List ℕ) (tokens : List Token) (before : State) (b : Bool) (t : Tried Effect)
     → IfTried (Leads b) t
-    → LeadsBehind before (made_by source tokens before t).state
+    → LeadsBehind before (made_effect source tokens before t).state
 made-behind source tokens before b (Ok e) leads = record { place = leads.1; aliases = refl }
 made-behind source tokens before b (Err text) leads =
     record { place = error-behind before.place; aliases = refl }

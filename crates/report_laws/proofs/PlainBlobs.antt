@@ -11,7 +11,7 @@ use Rattle.nj_formula.specs.declared.formula.Formula.{Formula}
 use Rattle.nj_syntax.specs.Answer.{formula_of}
 use Rattle.nj_syntax.specs.declared.fault.FormulaFault.{FormulaFault}
 use Rattle.isar_rules.specs.BlobLines.{Listed, is_gap, past_gap, lines_of, is_free_word, listed_as}
-use Rattle.isar_rules.specs.BlobLines.{named_fact, fact_in, before, facts_from, facts_of}
+use Rattle.isar_rules.specs.BlobLines.{named_fact, fact_in, listed_before, facts_from, listed_facts}
 use Rattle.report_laws.proofs.PlainTexts.{Plain, tested_plain}
 
 abbrev pub ListedPlain : Listed → Type 0
@@ -45,7 +45,7 @@ AllListed (Ok facts) = AllByRecursion ListedPlain facts
 AllListed (Err line) = ⊤
 
 before_plain : (number : ℕ) (o : Option Listed) (later : Result (List Listed) ℕ)
-    → IfSome o ListedPlain → AllListed later → AllListed (before number o later)
+    → IfSome o ListedPlain → AllListed later → AllListed (listed_before number o later)
 before_plain number None later plain all = tt
 before_plain number (Some fact) (Ok facts) plain all = (plain, all)
 before_plain number (Some fact) (Err line) plain all = tt
@@ -56,10 +56,10 @@ from_plain number (line ∷ more) = go (list_all is_gap line) (from_plain (numbe
   where
     go : (b : Bool) → AllListed (facts_from (number + 1) more)
         → AllListed (cond b (facts_from (number + 1) more)
-        (before number (fact_in line) (facts_from (number + 1) more)))
+        (listed_before number (fact_in line) (facts_from (number + 1) more)))
     go true later = later
     go false later =
         before_plain number (fact_in line) (facts_from (number + 1) more) (fact_plain line) later
 
-pub facts_plain : (text : List ℕ) → AllListed (facts_of text)
+pub facts_plain : (text : List ℕ) → AllListed (listed_facts text)
 facts_plain text = from_plain 1 (lines_of text)

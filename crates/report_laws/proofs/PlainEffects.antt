@@ -15,13 +15,13 @@ use Rattle.isar_rules.specs.declared.state.Given.TheVariants.{Facts, Bad}
 use Rattle.isar_rules.specs.declared.state.Theory.{Theory}
 use Rattle.isar_rules.specs.declared.state.Place.{Place}
 use Rattle.isar_rules.specs.declared.state.Place.TheVariants as place
-use Rattle.isar_rules.specs.BlobLines.{Listed, facts_of}
+use Rattle.isar_rules.specs.BlobLines.{Listed, listed_facts}
 use Rattle.isar_rules.specs.Effects.{makes}
 use Rattle.isar_rules.specs.Errors.{and_then, formula_in, name_differs, name_taken}
-use Rattle.isar_rules.specs.Loads.{load_made, with_all, facts_or as listed_or, loaded}
+use Rattle.isar_rules.specs.Loads.{load_made, with_all, facts_or_bad_line as listed_or, loaded}
 use Rattle.isar_rules.specs.Reports.{import_report, def_report, formula_report}
 use Rattle.isar_rules.specs.Steps.{acted, tried}
-use Rattle.isar_rules.specs.Theories.{facts_or, begins, begun, has_fact, stated, with_fact}
+use Rattle.isar_rules.specs.Theories.{facts_or_bad_import, begins, beginning_effect, has_fact, stated_effect, with_fact}
 use Rattle.report_laws.proofs.PlainTexts.{Plain, spelled, after, decimal_plain}
 use Rattle.report_laws.proofs.FormulaTexts.{formula_plain}
 use Rattle.report_laws.proofs.PlainShapes.{SpotPlain, NamesPlain, AnyNames, ShapePlain}
@@ -36,13 +36,13 @@ imports_plain : (imports : List Spot) → AllByRecursion SpotPlain imports
 imports_plain [] all = tt
 imports_plain (s ∷ more) all = (((all.0, tt), spelled refl), imports_plain more all.1)
 
-given_told : (given : Given) → GivenPlain given → IfTold FactsPlain (facts_or given)
+given_told : (given : Given) → GivenPlain given → IfTold FactsPlain (facts_or_bad_import given)
 given_told (Facts facts) plain = plain
 given_told (Bad name) plain = after (codes "bad import ") refl plain
 
 begun_plain : (node : List ℕ) (given : Given) (keyword : Option (List ℕ)) (name : Spot)
     (imports : List Spot) → GivenPlain given → IfSome keyword Plain → NamesPlain name imports
-    → IfTold EffectPlain (begun node given keyword name imports)
+    → IfTold EffectPlain (beginning_effect node given keyword name imports)
 begun_plain node given keyword name imports plain bad names = go (equal name.text node)
   where
     began : (k : Option (List ℕ)) → IfSome k Plain → (facts : List Fact) → FactsPlain facts
@@ -53,9 +53,10 @@ begun_plain node given keyword name imports plain bad names = go (equal name.tex
 
     go : (b : Bool)
         → IfTold EffectPlain
-        (cond b (and_then (facts_or given) (begins name imports keyword)) (Err name_differs))
+        (cond b (and_then (facts_or_bad_import given) (begins name imports keyword))
+        (Err name_differs))
     go true =
-        then_told FactsPlain EffectPlain (facts_or given) (begins name imports keyword)
+        then_told FactsPlain EffectPlain (facts_or_bad_import given) (begins name imports keyword)
         (given_told given plain) (began keyword bad)
     go false = spelled refl
 
@@ -64,7 +65,7 @@ taken_plain name plain = after (codes "name taken ") refl plain
 
 stated_plain : (next : Formula → Place) (theory : Theory) (name quoted : Spot) → Plain theory.name
     → SpotPlain name → ((f : Formula) → IsReadable f → PlacePlain (next f))
-    → IfTold EffectPlain (stated next theory name quoted)
+    → IfTold EffectPlain (stated_effect next theory name quoted)
 stated_plain next theory name quoted own plain each =
     then_told IsReadable EffectPlain (formula_in quoted.text) _ (formula_told quoted.text)
     (λ f readable. go f readable (has_fact name.text theory))
@@ -96,7 +97,7 @@ all_plain theory (fact ∷ facts) seen all =
 load_plain : (blob : Option (List ℕ)) (theory : Theory) (name : Spot) → TheoryPlain theory
     → SpotPlain name → IfTold EffectPlain (load_made blob theory name)
 load_plain None theory name seen plain = after (codes "unknown blob ") refl plain
-load_plain (Some text) theory name seen plain = go (facts_of text) (facts_plain text)
+load_plain (Some text) theory name seen plain = go (listed_facts text) (facts_plain text)
   where
     go : (r : Result (List Listed) ℕ) → AllListed r
         → IfTold EffectPlain

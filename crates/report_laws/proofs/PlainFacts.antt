@@ -7,10 +7,10 @@ use Rattle.shared_map.specs.Changes.{united}
 use Rattle.shared_map.specs.Cuts.{before, behind, at_key}
 use Rattle.theory_ctx.specs.declared.local.Local.{Local}
 use Rattle.theory_ctx.specs.Answers.{Answer, found, unknown, ambiguous}
-use Rattle.theory_ctx.specs.Facts.{Fact, is_called, is_import, fact_of, imported}
+use Rattle.theory_ctx.specs.Facts.{Fact, is_called, is_import, fact_of, facts_elsewhere}
 use Rattle.theory_ctx.specs.Locals.{Scoped, local_of, local_first, looked_in}
-use Rattle.theory_ctx.specs.Looked.{among, first_of, looked_by, parts_of, looked}
-use Rattle.theory_ctx.specs.Merged.{added, merged}
+use Rattle.theory_ctx.specs.Looked.{among, first_of, looked_by, name_parts, looked}
+use Rattle.theory_ctx.specs.Merged.{extended_facts, merged_facts}
 use Rattle.theory_ctx.specs.Order.{by_name}
 use Rattle.report_laws.proofs.EachPart.{each_passing, each_found}
 use Rattle.report_laws.proofs.PlainTexts.{Plain}
@@ -22,7 +22,7 @@ abbrev pub FactsPlain : List Fact → Type 0
 FactsPlain = AllByRecursion FactPlain
 
 pub added_plain : (fact : Fact) (facts : List Fact) → FactPlain fact → FactsPlain facts
-    → FactsPlain (added fact facts)
+    → FactsPlain (extended_facts fact facts)
 added_plain fact facts this all =
     each-both FactPlain (before (at_key by_name fact.0) facts)
     (fact ∷ behind (at_key by_name fact.0) facts)
@@ -47,7 +47,7 @@ fold_plain (part ∷ more) all plain parts =
     fold_plain more (united by_name all part) (united_plain all part plain parts.0) parts.1
 
 pub merged_plain : (parts : List (List Fact)) → AllByRecursion FactsPlain parts
-    → FactsPlain (merged parts)
+    → FactsPlain (merged_facts parts)
 merged_plain parts all = fold_plain parts [] tt all
 
 abbrev pub LocalsPlain : List Local → Type 0
@@ -78,7 +78,7 @@ looked_plain : (facts : List Fact) (own : List ℕ) (parts : List (List ℕ)) �
     → AnswerPlain (looked_by facts own parts)
 looked_plain facts own [] all = tt
 looked_plain facts own (n ∷ []) all =
-    first_plain (fact_of own n facts) (imported own n facts)
+    first_plain (fact_of own n facts) (facts_elsewhere own n facts)
     (each_found FactPlain (is_called own n) facts all)
     (each_passing FactPlain (is_import own n) facts all)
 looked_plain facts own (t ∷ n ∷ []) all =
@@ -94,9 +94,10 @@ local_plain locals (n ∷ m ∷ more) all = tt
 pub answer_plain : (scope : Scoped) → IsPlainScope scope → (x : List ℕ)
     → AnswerPlain (looked_in scope x)
 answer_plain scope plain x =
-    go (local_of scope.locals (parts_of x)) (local_plain scope.locals (parts_of x) plain.locals)
+    go (local_of scope.locals (name_parts x))
+    (local_plain scope.locals (name_parts x) plain.locals)
   where
     go : (o : Option Local) → IfSome o (λ local. Plain local.name)
         → AnswerPlain (local_first o (looked scope.facts scope.theory x))
-    go None is = looked_plain scope.facts scope.theory (parts_of x) plain.facts
+    go None is = looked_plain scope.facts scope.theory (name_parts x) plain.facts
     go (Some local) is = is

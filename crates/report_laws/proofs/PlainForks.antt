@@ -11,7 +11,7 @@ use Rattle.theory_ctx.specs.Locals.{Scoped}
 use Rattle.proof_state.specs.declared.frame.Frame.{Frame}
 use Rattle.proof_state.specs.declared.levels.Levels.TheVariants.{Closed, Prove, State}
 use Rattle.proof_state.specs.declared.local_fact.LocalFact.{LocalFact}
-use Rattle.proof_state.specs.Named.{named}
+use Rattle.proof_state.specs.Named.{named_facts}
 use Rattle.proof_state.specs.Locals.{around_locals}
 use Rattle.proof_terms.specs.declared.fault.TermFault.{TermFault}
 use Rattle.proof_terms.specs.declared.term.Term.{Term}
@@ -24,7 +24,7 @@ use Rattle.isar_rules.specs.declared.state.Place.{Place}
 use Rattle.isar_rules.specs.declared.state.Place.TheVariants as place
 use Rattle.isar_rules.specs.declared.state.State as states
 use Rattle.isar_rules.specs.Cites.{refs}
-use Rattle.isar_rules.specs.Forks.{scope_at, verdict, judged, forked_at, fork}
+use Rattle.isar_rules.specs.Forks.{scope_at, verdict, judged_reports, forked_at, fork}
 use Rattle.isar_rules.specs.Reports.{report, whole}
 use Rattle.isar_rules.specs.Steps.{aliases_at}
 use Rattle.isar_rules.proofs.KnownQuiet.{sorted}
@@ -44,21 +44,22 @@ abbrev pub AllReports : List Report → Type 0
 AllReports = AllByRecursion ReportPlain
 
 -- the facts of blocks that have names
-named_said : (facts : List LocalFact) → AllByRecursion LocalPlain facts → LocalsSaid (named facts)
+named_said : (facts : List LocalFact) → AllByRecursion LocalPlain facts
+    → LocalsSaid (named_facts facts)
 named_said [] all = tt
 named_said (fact ∷ facts) all = go fact.name all.0.0 (named_said facts all.1)
   where
-    go : (name : Option (List ℕ)) → IfSome name Plain → LocalsSaid (named facts)
+    go : (name : Option (List ℕ)) → IfSome name Plain → LocalsSaid (named_facts facts)
         → LocalsSaid
         (cons_option (option_map (λ n. record { name = n; formula = fact.formula }) name)
-        (named facts))
+        (named_facts facts))
     go None plain more = more
     go (Some n) plain more = ((plain, all.0.1), more)
 
 pub around_said : (around : List Frame) → FramesPlain around → LocalsSaid (around_locals around)
 around_said [] all = tt
 around_said (frame ∷ around) all =
-    each-both LocalSaid (named frame.block.facts) (around_locals around)
+    each-both LocalSaid (named_facts frame.block.facts) (around_locals around)
     (named_said frame.block.facts all.0.0.2) (around_said around all.1)
 
 verdict_plain : (source : List ℕ) (cites : List Report) (v : Result (List Statement) TermFault)
@@ -68,7 +69,8 @@ verdict_plain source cites (Ok assumed) all is =
 verdict_plain source cites (Err fault) all is = ((tt, is), tt)
 
 judged_plain : (source : List ℕ) (goal : Formula) (scope : Scoped) → IsPlainScope scope
-    → (read : Result Term TermFault) → IfProof read → AllReports (judged source goal scope read)
+    → (read : Result Term TermFault) → IfProof read
+    → AllReports (judged_reports source goal scope read)
 judged_plain source goal scope plain (Ok t) is =
     verdict_plain source (refs scope t) (checked t goal scope) (refs_plain scope plain t is)
     (checked_plain t goal scope is)

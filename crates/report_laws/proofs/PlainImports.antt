@@ -15,7 +15,7 @@ use Rattle.isar_rules.specs.declared.state.Place.{Place}
 use Rattle.isar_rules.specs.declared.state.Place.TheVariants as place
 use Rattle.isar_rules.specs.declared.state.State.{State}
 use Rattle.isar_rules.specs.Isar.{isar}
-use Rattle.isar_rules.specs.Starts.{facts_at, facts_of, given_by, given_from}
+use Rattle.isar_rules.specs.Starts.{facts_at, imported_facts, imports_given, given_from}
 use Rattle.report_laws.specs.Headed.{AreNamed}
 use Rattle.report_laws.proofs.EachPart.{each_found}
 use Rattle.report_laws.proofs.PlainTexts.{Plain, identifier_plain}
@@ -37,22 +37,23 @@ facts_plain (place.Proof theory name goal levels) plain = plain.0.1
 facts_plain (place.End theory) plain = plain.1
 
 parts_plain : (all : List (Imported State)) → AllByRecursion ImportPlain all
-    → AllByRecursion FactsPlain (filter_map facts_of all)
+    → AllByRecursion FactsPlain (filter_map imported_facts all)
 parts_plain [] plain = tt
 parts_plain (i ∷ all) plain =
     go (parts_plain all plain.1) (facts_at i.state.place) (facts_plain i.state.place plain.0.1)
   where
-    go : AllByRecursion FactsPlain (filter_map facts_of all) → (o : Option (List Fact))
-        → IfSome o FactsPlain → AllByRecursion FactsPlain (cons_option o (filter_map facts_of all))
+    go : AllByRecursion FactsPlain (filter_map imported_facts all) → (o : Option (List Fact))
+        → IfSome o FactsPlain
+        → AllByRecursion FactsPlain (cons_option o (filter_map imported_facts all))
     go rest None here = rest
     go rest (Some facts) here = (here, rest)
 
 given_plain : (all : List (Imported State)) → AllByRecursion ImportPlain all
-    → GivenPlain (given_by all (find (λ i. is_none (facts_of i)) all))
+    → GivenPlain (imports_given all (find (λ i. is_none (imported_facts i)) all))
 given_plain all plain =
-    go (find (λ i. is_none (facts_of i)) all) (each_found ImportPlain _ all plain)
+    go (find (λ i. is_none (imported_facts i)) all) (each_found ImportPlain _ all plain)
   where
-    go : (o : Option (Imported State)) → IfSome o ImportPlain → GivenPlain (given_by all o)
+    go : (o : Option (Imported State)) → IfSome o ImportPlain → GivenPlain (imports_given all o)
     go None here = merged_plain _ (parts_plain all plain)
     go (Some bad) here = here.0
 

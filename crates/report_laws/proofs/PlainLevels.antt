@@ -19,7 +19,7 @@ use Rattle.proof_state.specs.Blocks.{achieved}
 use Rattle.proof_state.specs.Fits.{fitting}
 use Rattle.proof_state.specs.Fresh.{is_taken}
 use Rattle.proof_state.specs.Subgoals.{subgoals_of}
-use Rattle.proof_state.specs.Steps.{Command, closed, shown, proved, stated, step, proof, fix}
+use Rattle.proof_state.specs.Steps.{Command, closed_levels, shown_levels, proved, stated_levels, step, proof, fix}
 use Rattle.proof_state.specs.Steps.{assume, have, show, next, qed, by}
 use Rattle.report_laws.proofs.EachPart.{each_front, each_behind}
 use Rattle.report_laws.proofs.PlainTexts.{Plain}
@@ -59,7 +59,7 @@ achieved_plain (P.Show place) goal block plain readable all =
     (all.0, removed_said block.pending place all.1, all.2)
 
 closed_plain : (goal : Formula) (around : List Frame) → IsReadable goal → FramesPlain around
-    → LevelsPlain (closed goal around)
+    → LevelsPlain (closed_levels goal around)
 closed_plain goal [] readable all = tt
 closed_plain goal (frame ∷ around) readable all =
     (achieved_plain frame.purpose goal frame.block all.0.1 readable all.0.0, all.1)
@@ -72,12 +72,12 @@ proved_plain by goal around readable all = closed_plain goal around readable all
 proved_plain _ goal around readable all = tt
 
 shown_plain : (c : Formula) (block : Block) (around : List Frame) (fits : Option ℕ) → IsReadable c
-    → BlockPlain block → FramesPlain around → IfReached (shown c block around fits)
+    → BlockPlain block → FramesPlain around → IfReached (shown_levels c block around fits)
 shown_plain c block around (Some place) readable plain all = (readable, ((plain, tt), all))
 shown_plain c block around None readable plain all = tt
 
 stated_plain : (c : Command) (block : Block) (around : List Frame) → CommandPlain c
-    → BlockPlain block → FramesPlain around → IfReached (stated c block around)
+    → BlockPlain block → FramesPlain around → IfReached (stated_levels c block around)
 stated_plain (fix facts x) block around command plain all = go (is_taken facts x block around)
   where
     go : (b : Bool)
@@ -93,7 +93,8 @@ stated_plain (show c) block around command plain all =
 stated_plain next block around command plain all = ((plain.0, plain.1, tt), all)
 stated_plain qed block around command plain all = go (length block.pending == 0)
   where
-    go : (b : Bool) → IfReached (cond b (Ok (closed block.goal around)) (Err Fault.SubgoalsRemain))
+    go : (b : Bool)
+        → IfReached (cond b (Ok (closed_levels block.goal around)) (Err Fault.SubgoalsRemain))
     go true = closed_plain block.goal around plain.0 all
     go false = tt
 stated_plain _ block around command plain all = tt

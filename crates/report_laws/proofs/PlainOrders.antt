@@ -17,7 +17,7 @@ use Rattle.isar_rules.specs.declared.state.Theory.{Theory}
 use Rattle.isar_rules.specs.declared.state.Place.{Place}
 use Rattle.isar_rules.specs.Effects.{Effect}
 use Rattle.isar_rules.specs.Errors.{formula_in}
-use Rattle.isar_rules.specs.Proofs.{Ordered, text_of_name, with_formula, ordered, levels_or}
+use Rattle.isar_rules.specs.Proofs.{Ordered, text_of_name, with_formula, ordered_command, levels_or}
 use Rattle.isar_rules.specs.Proofs.{effect_of, stands, proof_made}
 use Rattle.isar_rules.specs.Reports.{local_report}
 use Rattle.report_laws.proofs.PlainTexts.{Plain, spelled, joined, after}
@@ -58,7 +58,7 @@ formula_ordered command name quoted plain each =
     (λ f readable. (each f readable, ((tt, formula_plain f readable), local_plain name plain)))
 
 ordered_plain : (facts : List Fact) (s : Shape) (levels : Levels) → ShapePlain AnyNames s
-    → IfTold OrderPlain (ordered facts s levels)
+    → IfTold OrderPlain (ordered_command facts s levels)
 ordered_plain facts (shape.Proof dash) (Prove goal around) plain = (tt, tt)
 ordered_plain facts shape.By (Prove goal around) plain = (tt, tt)
 ordered_plain facts (shape.Fix x) (State block around) plain =
@@ -94,7 +94,7 @@ pub proof_plain : (theory : Theory) (name : List ℕ) (goal : Formula) (levels :
     → TheoryPlain theory → Plain name → LevelsPlain levels → ShapePlain AnyNames s
     → IfTold EffectPlain (proof_made theory name goal levels s)
 proof_plain theory name goal levels s seen named plain shape =
-    then_told OrderPlain EffectPlain (ordered theory.facts s levels) _
+    then_told OrderPlain EffectPlain (ordered_command theory.facts s levels) _
     (ordered_plain theory.facts s levels shape)
     (λ o order. then_told LevelsPlain EffectPlain (levels_or (step o.0 levels)) _
     (reached_told (step o.0 levels) (step_plain o.0 levels order.0 plain))

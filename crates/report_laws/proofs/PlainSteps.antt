@@ -18,7 +18,7 @@ use Rattle.isar_rules.specs.Effects.{Effect}
 use Rattle.isar_rules.specs.Errors.{Tried}
 use Rattle.isar_rules.specs.Reports.{report, name_is, announced}
 use Rattle.isar_rules.specs.Shapes.{shape_of}
-use Rattle.isar_rules.specs.Steps.{tried, made_by, after_error, aliases_at, step}
+use Rattle.isar_rules.specs.Steps.{tried, made_effect, after_error, aliases_at, step}
 use Rattle.isar_rules.proofs.KnownQuiet.{sorted}
 use Rattle.report_laws.proofs.PlainTexts.{Plain, spelled}
 use Rattle.report_laws.proofs.TokenNames.{IfName, TokenPlain}
@@ -59,7 +59,8 @@ pub record IsPlainlyMade (place : Place) (reports : List Report) : Type 0 where
 
 made_plain : (source : List ℕ) (ts : List Token) (before : State) (t : Tried Effect)
     → AllByRecursion (TokenPlain source) ts → PlacePlain before.place → IfTold EffectPlain t
-    → IsPlainlyMade (made_by source ts before t).state.place (made_by source ts before t).reports
+    → IsPlainlyMade (made_effect source ts before t).state.place
+    (made_effect source ts before t).reports
 made_plain source ts before (Ok e) all plain told =
     record {
       behind = told.0;

@@ -7,7 +7,7 @@ use Rattle.report_markup.specs.declared.kind.ReportKind.{ReportKind}
 use Rattle.report_markup.specs.declared.kind.ReportKind.TheVariants.{Error}
 use Rattle.report_markup.specs.declared.report.Report.{Report}
 use Rattle.report_markup.specs.Order.{report_cmp}
-use Rattle.report_markup.specs.Sorting.{insert_if, insert_report, in_order}
+use Rattle.report_markup.specs.Sorting.{insert_if, insert_report, ordered_reports}
 use Rattle.mirror_rules.specs.Forking.{is_error, is_quiet}
 use Rattle.isar_rules.specs.Kept.{error_at, errors_in}
 
@@ -31,9 +31,9 @@ inserted r (next ∷ rs) = go (is_gt (report_cmp r next)) (inserted r rs)
     go true more = ap (λ b. sound next && b) more ∙ swapped (sound next) (sound r) (is_quiet rs)
     go false more = refl
 
-pub quiet_order : (rs : List Report) → is_quiet (in_order rs) ≡ is_quiet rs
+pub quiet_order : (rs : List Report) → is_quiet (ordered_reports rs) ≡ is_quiet rs
 quiet_order [] = refl
-quiet_order (r ∷ rs) = inserted r (in_order rs) ∙ ap (λ b. sound r && b) (quiet_order rs)
+quiet_order (r ∷ rs) = inserted r (ordered_reports rs) ∙ ap (λ b. sound r && b) (quiet_order rs)
 
 quiet-by : (k : ReportKind) (text : List ℕ) (more : List (List ℕ)) (b : Bool)
     → cons_option (error_at k text) more ≡ []

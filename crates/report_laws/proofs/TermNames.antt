@@ -10,7 +10,7 @@ use Rattle.proof_terms.specs.declared.term.Term.{Term, fold-Term, fold-roll-Term
 use Rattle.proof_terms.specs.declared.term.Term.{map-Term}
 use Rattle.proof_terms.specs.declared.term.Term.TheOpen.{Term-F}
 use Rattle.proof_terms.specs.declared.term.Term.TheVariants as T
-use Rattle.proof_terms.specs.Slots.{Part, a_formula, an_object, a_name, a_proof, built}
+use Rattle.proof_terms.specs.Slots.{Part, a_formula, an_object, a_name, a_proof, built_term}
 use Rattle.report_laws.proofs.PlainTexts.{Plain, spelled}
 
 abbrev pub Names : Type 0
@@ -60,7 +60,8 @@ IfBuilt (Some t) = TermPlain t
 both : (t u : Term) → TermPlain t → TermPlain u → AllPlain (names_of t ++ names_of u)
 both t u p q = each-both Plain (names_of t) (names_of u) p q
 
-pub built_plain : (r : Rule) (ps : List Part) → AllByRecursion PartPlain ps → IfBuilt (built r ps)
+pub built_plain : (r : Rule) (ps : List Part) → AllByRecursion PartPlain ps
+    → IfBuilt (built_term r ps)
 built_plain R.ConjI (a_proof t ∷ a_proof u ∷ []) p =
     rolled (Term-F.ConjI t u) (T.ConjI t u) (T.rolls-ConjI t u) (both t u p.0 p.1.0)
 built_plain R.ConjE1 (a_formula b ∷ a_proof t ∷ []) p =

@@ -4,7 +4,7 @@ use Rattle.std.specs.List.{AllByRecursion}
 use Rattle.std.specs.Ordering.{is_gt}
 use Rattle.report_markup.specs.declared.report.Report.{Report}
 use Rattle.report_markup.specs.Order.{report_cmp}
-use Rattle.report_markup.specs.Sorting.{insert_if, insert_report, in_order}
+use Rattle.report_markup.specs.Sorting.{insert_if, insert_report, ordered_reports}
 
 pub All-insert : (P : Report → Type 0) (r : Report) (xs : List Report) → P r → AllByRecursion P xs → AllByRecursion P (insert_report r xs)
 All-insert P r [] one all = (one, tt)
@@ -13,6 +13,7 @@ All-insert P r (x ∷ xs) one all = go (is_gt (report_cmp r x)) (All-insert P r 
   go true more = (all.0, more)
   go false more = (one, all)
 
-pub All-order : (P : Report → Type 0) (xs : List Report) → AllByRecursion P xs → AllByRecursion P (in_order xs)
+pub All-order : (P : Report → Type 0) (xs : List Report) → AllByRecursion P xs
+    → AllByRecursion P (ordered_reports xs)
 All-order P [] all = tt
-All-order P (x ∷ xs) all = All-insert P x (in_order xs) all.0 (All-order P xs all.1)
+All-order P (x ∷ xs) all = All-insert P x (ordered_reports xs) all.0 (All-order P xs all.1)

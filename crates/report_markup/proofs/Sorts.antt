@@ -9,7 +9,7 @@ use Rattle.std.specs.Ordering.{is_lt, is_gt, ordering_reverse}
 use Rattle.std.proofs.lemmas.List.Sums.{sum_by-cons}
 use Rattle.report_markup.specs.declared.report.Report.{Report}
 use Rattle.report_markup.specs.Order.{report_cmp}
-use Rattle.report_markup.specs.Sorting.{insert_if, insert_report, in_order, IsOrderOf}
+use Rattle.report_markup.specs.Sorting.{insert_if, insert_report, ordered_reports, IsOrderOf}
 use Rattle.report_markup.proofs.Exact.{report_exact}
 use Rattle.report_markup.proofs.KnownOrders.{All-insert}
 use Rattle.report_markup.proofs.Ordered as ordered
@@ -31,9 +31,14 @@ insert_sum f r (x ∷ xs) = go (is_gt (report_cmp r x)) (insert_sum f r xs) wher
   go true more = omega (arith, sum_by-cons f x (insert_report r xs), sum_by-cons f x xs)
   go false more = sum_by-cons f r (x ∷ xs)
 
-order_sum : (f : Report → ℕ) (xs : List Report) → sum_by f (in_order xs) ≡ sum_by f xs
+order_sum : (f : Report → ℕ) (xs : List Report) → sum_by f (ordered_reports xs) ≡ sum_by f xs
 order_sum f [] = refl
-order_sum f (x ∷ xs) = omega (arith, insert_sum f x (in_order xs), order_sum f xs, sum_by-cons f x xs)
+order_sum f (x ∷ xs) = omega (
+  arith,
+  insert_sum f x (ordered_reports xs),
+  order_sum f xs,
+  sum_by-cons f x xs,
+)
 
 greater : (r x : Report) → is_gt (report_cmp r x) ≡ true → NotBefore x r
 greater r x h = go (report_cmp r x) refl where
@@ -58,17 +63,19 @@ insert_rises r (x ∷ xs) h = go (is_gt (report_cmp r x)) refl (insert_rises r x
       let first = not_greater r x e in
       ((first, ordered.All-later report_cmp report_total report_exact r x xs first h.0), h)
 
-order_rises : (xs : List Report) → Rises (in_order xs)
+order_rises : (xs : List Report) → Rises (ordered_reports xs)
 order_rises [] = tt
-order_rises (x ∷ xs) = insert_rises x (in_order xs) (order_rises xs)
+order_rises (x ∷ xs) = insert_rises x (ordered_reports xs) (order_rises xs)
 
-pub order_is : (xs : List Report) → IsOrderOf xs (in_order xs)
+pub order_is : (xs : List Report) → IsOrderOf xs (ordered_reports xs)
 order_is xs = record {
   same = λ f. order_sum f xs;
-  sorted = ordered.sorted report_cmp report_total report_exact (in_order xs) (order_rises xs);
+  sorted = ordered.sorted report_cmp report_total report_exact (ordered_reports xs)
+      (order_rises xs);
 }
 
-pub order_one : (xs ys : List Report) → IsOrderOf xs ys → ys ≡ in_order xs
-order_one xs ys h = ordered.one report_cmp report_total report_exact (in_order xs) ys (order_rises xs)
+pub order_one : (xs ys : List Report) → IsOrderOf xs ys → ys ≡ ordered_reports xs
+order_one xs ys h = ordered.one report_cmp report_total report_exact (ordered_reports xs) ys
+    (order_rises xs)
     (ordered.rises report_cmp report_total report_exact ys h.sorted)
     (λ f. h.same f ∙ sym (order_sum f xs))

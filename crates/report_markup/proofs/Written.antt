@@ -7,7 +7,7 @@ use Rattle.xml_tree.specs.declared.tree.Tree.TheOpen.{Tree-F}
 use Rattle.xml_tree.specs.declared.tree.Tree.TheFolds.{fold-roll-Tree}
 use Rattle.xml_tree.specs.Marks.{Mark, opening, closing, words, marks, mark_step, tree_marks}
 use Rattle.xml_tree.specs.Normal.{IsNormal, IsFit, IsPlain, IsAttribute, AreApart, height, height_step, tree_height}
-use Rattle.yxml.specs.Spelling.{yxml, spellings, spelling, attribute_spelling}
+use Rattle.yxml.specs.Spelling.{yxml, spellings, mark_spelling, attribute_spelling}
 use Rattle.report_markup.specs.declared.report.Report.{Report}
 use Rattle.report_markup.specs.Words.{kind_word}
 use Rattle.report_markup.specs.Element.{element, text_body, with_offsets, property_attribute}
@@ -49,8 +49,9 @@ pub pieces : (r : Report) (old : List ℕ)
     ≡ old ++ yxml (element r ∷ [])
 pieces r old =
     let tag = opening (kind_word r.kind) (with_offsets r.range (map property_attribute r.properties)) in
-    let told : yxml (element r ∷ []) ≡ spelling tag ++ (r.text ++ 5 ∷ 6 ∷ 5 ∷ []) =
-    ap spellings (element-marks r) ∙ ap (λ bs. spelling tag ++ bs) (spell-text r.text (closing ∷ [])) in
+    let told : yxml (element r ∷ []) ≡ mark_spelling tag ++ (r.text ++ 5 ∷ 6 ∷ 5 ∷ []) =
+    ap spellings (element-marks r) ∙ ap (λ bs. mark_spelling tag ++ bs)
+    (spell-text r.text (closing ∷ [])) in
     regroup old (5 ∷ 6 ∷ []) (kind_word r.kind) (6 ∷ []) (codes "offset") (61 ∷ []) (decimal r.range.start) (codes "end_offset") (decimal r.range.stop)
     (flat_map attribute_spelling (map property_attribute r.properties)) (5 ∷ []) r.text (5 ∷ 6 ∷ 5 ∷ [])
     ∙ ap (λ bs. old ++ bs) (sym told)

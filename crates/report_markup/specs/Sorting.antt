@@ -18,9 +18,9 @@ insert_report r (next ∷ rest) =
     insert_if (is_gt (report_cmp r next)) r next rest (insert_report r rest)
 
 -- the reports in report order (this project's own)
-abbrev pub in_order : List Report → List Report
-in_order [] = []
-in_order (r ∷ rs) = insert_report r (in_order rs)
+abbrev pub ordered_reports : List Report → List Report
+ordered_reports [] = []
+ordered_reports (r ∷ rs) = insert_report r (ordered_reports rs)
 
 -- the second list has the reports of the first, each as often, in report order
 pub record IsOrderOf (reports ordered : List Report) : Type 0 where

@@ -7,7 +7,7 @@ ghost use Rattle.std.specs.List.{sum_by};
 ghost use Rattle.std.specs.List.Sorted.{IsSorted};
 ghost use Rattle.report_markup.specs.declared.report.Report.{Report};
 ghost use Rattle.report_markup.specs.Order.{report_cmp};
-ghost use Rattle.report_markup.specs.Sorting.{in_order};
+ghost use Rattle.report_markup.specs.Sorting.{ordered_reports};
 
 use crate::laws::one_order;
 use crate::report::Report;
@@ -36,7 +36,7 @@ fn are_sorted(reports: &[Report]) -> bool
 
 /// The reports moved one by one into report order.
 fn sorted_anew(alloc: Global, reports: Items<Report>) -> Result<Items<Report>, AllocError>
-    ensures { IfOk result (λ ordered. ordered ≡ in_order reports) }
+    ensures { IfOk result (λ ordered. ordered ≡ ordered_reports reports) }
 {
     one_order();
     let mut all = Vec::with_capacity(alloc, reports.len())?;
@@ -47,7 +47,7 @@ fn sorted_anew(alloc: Global, reports: Items<Report>) -> Result<Items<Report>, A
 
 /// These reports in report order. Those that stand so are handed back as they are.
 pub fn sorted(alloc: Global, reports: Items<Report>) -> Result<Items<Report>, AllocError>
-    ensures { IfOk result (λ ordered. ordered ≡ in_order reports) }
+    ensures { IfOk result (λ ordered. ordered ≡ ordered_reports reports) }
 {
     one_order();
     if are_sorted(reports.as_slice()) {
@@ -63,7 +63,7 @@ pub fn in_order(
     reports: Items<Report>,
     more: Items<Report>,
 ) -> Result<Items<Report>, AllocError>
-    ensures { IfOk result (λ ordered. ordered ≡ in_order (reports ++ more)) }
+    ensures { IfOk result (λ ordered. ordered ≡ ordered_reports (reports ++ more)) }
 {
     let mut all = reports;
     all.append(more)?;

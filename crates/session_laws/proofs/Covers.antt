@@ -19,7 +19,7 @@ use Rattle.buffer_rules.specs.Updates.{Asked}
 use Rattle.core_rules.specs.declared.event.Event.{Event}
 use Rattle.core_rules.specs.declared.event.Event.TheVariants.{Update}
 use Rattle.core_rules.specs.Assigned.{assigns}
-use Rattle.core_rules.specs.Doc.{Doc, assignment_of, doc, version_of}
+use Rattle.core_rules.specs.Doc.{Doc, assignment_of, doc, assigned_version}
 use Rattle.core_rules.specs.FromScratch.{assigned_to}
 use Rattle.core_rules.specs.Legal.{IsLegal as IsLegalList}
 use Rattle.session_rules.specs.declared.service.Service.{Service}
@@ -71,7 +71,8 @@ leaves_each l leaves service h read id items blobs after e asks_it accepts cance
 
 -- and keeps what it can
 pub keeps_each : {S : Type 0} (l : Lang S) → ((d : Doc) (nodes : NodeList) (blobs : BlobList) (p : ℕ) (pair : List ℕ × Node)
-    → slice_get nodes p ≡ Some pair → KeepsFront d (version_of nodes blobs (assignment_of d nodes blobs)) p pair)
+    → slice_get nodes p ≡ Some pair
+    → KeepsFront d (assigned_version nodes blobs (assignment_of d nodes blobs)) p pair)
     → (service : Service) (h : List Heard) (read : Result EditorMessage Refusal) → KeepsSo l service h read
 keeps_each l keeps service h read id items blobs after p pair asks_it accepts =
     made_by l service (session l service h) id items blobs after

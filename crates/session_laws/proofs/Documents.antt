@@ -17,7 +17,7 @@ use Rattle.buffer_rules.specs.Trying.{◌>>=◌}
 use Rattle.buffer_rules.specs.Updates.{Asked}
 use Rattle.core_rules.specs.declared.event.Event.TheVariants as event
 use Rattle.core_rules.specs.Assigned.{assigns, executions_of}
-use Rattle.core_rules.specs.Doc.{Doc, after}
+use Rattle.core_rules.specs.Doc.{Doc, doc_after}
 use Rattle.core_rules.specs.Doc as core
 use Rattle.core_rules.proofs.KnownNumbers.{differ}
 use Rattle.session_rules.specs.Updating.{runs_out}
@@ -32,7 +32,8 @@ buffer_by b (Ok more) = more
 buffer_by b (Err reason) = b
 
 abbrev pub doc_by : (ℕ → Bool) → Doc → ℕ → Result Buffer Refusal → Doc
-doc_by opened d version (Ok more) = after opened d (event.Update version more.nodes more.document.blobs)
+doc_by opened d version (Ok more) = doc_after opened d
+    (event.Update version more.nodes more.document.blobs)
 doc_by opened d version (Err reason) = d
 
 -- an update that isn't refused is to a version above the last
@@ -50,7 +51,7 @@ pub same_live : (f g : ℕ → Bool) (d : Doc) (version : ℕ) (o : Result Buffe
 same_live f g d version (Ok more) = refl
 same_live f g d version (Err reason) = refl
 
-pub same_first : (f g : ℕ → Bool) (version : ℕ) (o : Result Buffer Refusal) → doc_by f core.empty version o ≡ doc_by g core.empty version o
+pub same_first : (f g : ℕ → Bool) (version : ℕ) (o : Result Buffer Refusal) → doc_by f core.empty_doc version o ≡ doc_by g core.empty_doc version o
 same_first f g version (Ok more) = refl
 same_first f g version (Err reason) = refl
 
@@ -59,7 +60,7 @@ none_open e = false
 
 -- the document after the first of two updates
 abbrev pub first_doc : ℕ → Result Buffer Refusal → Doc
-first_doc version o = doc_by none_open core.empty version o
+first_doc version o = doc_by none_open core.empty_doc version o
 
 one_live : (id asked : ℕ) (w version : Version) → version_of (record { id = id; version = w } ∷ []) asked ≡ Some version → version ≡ w
 one_live id asked w version is = go (id == asked) is

@@ -11,18 +11,18 @@ use Rattle.core_rules.specs.Doc.{doc}
 use Rattle.core_rules.specs.Legal.{IsLegal}
 use Rattle.core_rules.specs.Parts.{same_part}
 use Rattle.core_rules.specs.Ready.{IsFirst, has_inputs, is_part, is_wanted}
-use Rattle.core_rules.specs.Standing.{Standing, Free, Held, Done, held, is_done, is_finished, is_free, standing}
+use Rattle.core_rules.specs.Standing.{Standing, Free, Held, Done, held, is_done, is_finished, is_unclaimed, standing}
 use Rattle.core_rules.proofs.KnownParts.{part_is}
 
 module _ {S : Type 0} (l : Lang S) (told : (h : List Event) (who : ℕ) (p : Part) → IsLegal l h → (held h who ≡ Some p) ↔ (standing h p ≡ Held who)) where
   -- a part that is taken is free
-  first_free : (h : List Event) (p : Part) → IsFirst l h p → is_free (standing h p) ≡ true
+  first_free : (h : List Event) (p : Part) → IsFirst l h p → is_unclaimed (standing h p) ≡ true
   first_free h p first =
-      let whole = and_parts (is_part l (doc l h).homes p) (is_wanted (doc l h) p.exec && (is_free (standing h p) && has_inputs h (doc l h).homes p)) first.ready in
-      let open_ = and_parts (is_wanted (doc l h) p.exec) (is_free (standing h p) && has_inputs h (doc l h).homes p) whole.1 in
-      (and_parts (is_free (standing h p)) (has_inputs h (doc l h).homes p) open_.1).0
+      let whole = and_parts (is_part l (doc l h).homes p) (is_wanted (doc l h) p.exec && (is_unclaimed (standing h p) && has_inputs h (doc l h).homes p)) first.ready in
+      let open_ = and_parts (is_wanted (doc l h) p.exec) (is_unclaimed (standing h p) && has_inputs h (doc l h).homes p) whole.1 in
+      (and_parts (is_unclaimed (standing h p)) (has_inputs h (doc l h).homes p) open_.1).0
 
-  not_both : (s : Standing) → is_done s ≡ true → is_free s ≡ false
+  not_both : (s : Standing) → is_done s ≡ true → is_unclaimed s ≡ false
   not_both Done done = refl
   not_both Free done = absurd (cc)
   not_both (Held w) done = absurd (cc)
@@ -37,8 +37,9 @@ module _ {S : Type 0} (l : Lang S) (told : (h : List Event) (who : ℕ) (p : Par
       go : (b : Bool) → same_part q p ≡ b → is_done (cond b (Held who) (standing h p)) ≡ true
       go false same = done
       go true same =
-          let free : is_free (standing h p) ≡ true = subst (λ x. is_free (standing h x) ≡ true) (part_is q p same) (first_free h q legal.1.2) in
-          let taken : is_free (standing h p) ≡ false = not_both (standing h p) done in absurd (cc)
+          let free : is_unclaimed (standing h p) ≡ true = subst (λ x. is_unclaimed (standing h x) ≡ true) (part_is q p same) (first_free h q legal.1.2) in
+          let taken : is_unclaimed (standing h p) ≡ false = not_both (standing h p) done in absurd
+          (cc)
   stays (event.Finished who q) h legal p done = go (same_part q p)
     where
       go : (b : Bool) → is_done (cond b Done (standing h p)) ≡ true

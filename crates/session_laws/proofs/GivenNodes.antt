@@ -9,11 +9,11 @@ use Rattle.doc_nodes.specs.declared.node.Node.{Node}
 use Rattle.doc_nodes.specs.Imports.{order}
 use Rattle.exec_rules.specs.declared.row.Assigned.{Assigned}
 use Rattle.exec_rules.specs.declared.version.Version.{Version}
-use Rattle.exec_rules.specs.Keys.{nothing, assigned_at, key_of}
-use Rattle.exec_rules.specs.Assigning.{Update, Work, Given, added, given, assign_one, assign_all, assigned_all, assignment}
+use Rattle.exec_rules.specs.Keys.{nothing_assigned, assigned_at, key_of}
+use Rattle.exec_rules.specs.Assigning.{Update, Work, Given, extended_work, given, assign_one, assign_all, assigned_all, assignment}
 use Rattle.exec_rules.proofs.KnownThere.{get_there}
 use Rattle.exec_rules.proofs.KnownGiven.{given_rises}
-use Rattle.core_rules.specs.Doc.{version_of}
+use Rattle.core_rules.specs.Doc.{assigned_version}
 use Rattle.core_rules.specs.FromScratch.{assigned_to}
 use Rattle.core_rules.proofs.KnownKeys.{key_is, key_rests, assigned_other, assigned_newest, other_place, inside_more, listed}
 use Rattle.session_laws.proofs.GivenNode.{InOrder, IsGiven, AreGiven, among, given_on}
@@ -52,7 +52,7 @@ module _ (u : Update) (made : ℕ) (facts : InOrder u.nodes) where
         subst (λ x. IsGiven u made (assigned_at done) (front ++ p ∷ []) x other) (sym e)
         (subst (λ x. IsGiven u made (assigned_at done) (front ++ p ∷ []) p x) same new_given)
 
-    pub step : AreGiven u made (added w p g) (front ++ p ∷ [])
+    pub step : AreGiven u made (extended_work w p g) (front ++ p ∷ [])
     step = record {
       next = let more = given_rises u p pair (key_of u.nodes w.done pair.1) w.next in omega (arith, more, so.next);
       each = λ q other is there. each_given q other (among front p q is) there;
@@ -64,7 +64,7 @@ module _ (u : Update) (made : ℕ) (facts : InOrder u.nodes) where
       let there : has (order u.nodes) p ≡ true = ap (λ ps. has ps p) split ∙ has_middle front p rest in
       let found = get_there u.nodes p ((facts.every p).0 there) in
       subst (λ x. AreGiven u made x (front ++ p ∷ []))
-      (sym (ap (λ o. option_map_or (λ (pair : List ℕ × Node). added w p (given u p pair (key_of u.nodes w.done pair.1) w.next)) o w) found.1))
+      (sym (ap (λ o. option_map_or (λ (pair : List ℕ × Node). extended_work w p (given u p pair (key_of u.nodes w.done pair.1) w.next)) o w) found.1))
       (step w front rest p found.0 found.1 split so)
 
   all : (ps front : List ℕ) (w : Work) → order u.nodes ≡ front ++ ps → AreGiven u made w front
@@ -79,12 +79,12 @@ module _ (u : Update) (made : ℕ) (facts : InOrder u.nodes) where
         (record { next = less; each = λ p pair is at. absurd (cc) })
 
     abbrev pub new : Version
-    new = version_of u.nodes u.blobs (assignment u first)
+    new = assigned_version u.nodes u.blobs (assignment u first)
 
     listed_at : (p : ℕ) → p < length u.nodes → assigned_to new p ≡ assigned_at (assigned_all u first).done p
     listed_at p lt =
         let e : 0 + p ≡ p = omega arith in
-        ap (λ o. option_map_or (λ (a : Assigned). a) o nothing) (listed (assigned_all u first).done 0 (length u.nodes) p lt)
+        ap (λ o. option_map_or (λ (a : Assigned). a) o nothing_assigned) (listed (assigned_all u first).done 0 (length u.nodes) p lt)
         ∙ ap (assigned_at (assigned_all u first).done) e
 
     -- each node of the new version

@@ -21,7 +21,7 @@ use Rattle.core_rules.specs.Legal.{IsLegal}
 use Rattle.core_rules.specs.Numbered.{numbered}
 use Rattle.core_rules.specs.Parts.{forks, kinds_by, same_kind, same_part}
 use Rattle.core_rules.specs.Ready.{IsFirst, has_inputs, is_part, is_wanted}
-use Rattle.core_rules.specs.Standing.{held, is_free, standing}
+use Rattle.core_rules.specs.Standing.{held, is_unclaimed, standing}
 use Rattle.core_rules.proofs.KnownNumbers.{numbered_within}
 use Rattle.core_rules.proofs.KnownStays.{parts_grown}
 use Rattle.session_laws.specs.Reporting.{execution_for}
@@ -45,7 +45,7 @@ module _ {S : Type 0} (l : Lang S) where
 
   first_part : (h : List Event) (p : Part) → IsFirst l h p → is_part l (doc l h).homes p ≡ true
   first_part h p first =
-      (and_parts (is_part l (doc l h).homes p) (is_wanted (doc l h) p.exec && (is_free (standing h p) && has_inputs h (doc l h).homes p)) first.ready).0
+      (and_parts (is_part l (doc l h).homes p) (is_wanted (doc l h) p.exec && (is_unclaimed (standing h p) && has_inputs h (doc l h).homes p)) first.ready).0
 
   -- what a worker holds
   pub held_part : (h : List Event) → IsLegal l h → (who : ℕ) (p : Part) → held h who ≡ Some p → is_part l (doc l h).homes p ≡ true

@@ -19,7 +19,7 @@ use Rattle.exec_rules.proofs.KnownGiven.{live_at, rows_given}
 use Rattle.exec_rules.proofs.KnownListed.{in_print}
 use Rattle.exec_rules.proofs.KnownThere.{get_there}
 use Rattle.core_rules.specs.Numbered.{next_number}
-use Rattle.core_rules.specs.Doc.{Doc, assignment_of, update_of, version_of}
+use Rattle.core_rules.specs.Doc.{Doc, assignment_of, update_of, assigned_version}
 use Rattle.core_rules.specs.FromScratch.{assigned_to}
 use Rattle.session_laws.specs.Keeping.{HasNewRow, IsNew, KeepsFront, KeepsPrint, KeepsRow}
 use Rattle.session_laws.proofs.GivenNode.{InOrder, IsGiven}
@@ -94,10 +94,11 @@ module _ (laws : RowLaws) (d : Doc) (nodes : NodeList) (blobs : BlobList) (p : �
 
 -- each node of the version that an update makes
 pub keeps_front : RowLaws → ((nodes : NodeList) → InOrder nodes) → (d : Doc) (nodes : NodeList) (blobs : BlobList) (p : ℕ) (pair : List ℕ × Node)
-    → slice_get nodes p ≡ Some pair → KeepsFront d (version_of nodes blobs (assignment_of d nodes blobs)) p pair
+    → slice_get nodes p ≡ Some pair
+    → KeepsFront d (assigned_version nodes blobs (assignment_of d nodes blobs)) p pair
 keeps_front laws orders d nodes blobs p pair at =
     let u = update_of d nodes blobs in
-    let new : Version = version_of nodes blobs (assignment_of d nodes blobs) in
+    let new : Version = assigned_version nodes blobs (assignment_of d nodes blobs) in
     let g : IsGiven u (length d.homes) (assigned_to new) (order nodes) p pair =
     given_in u (length d.homes) (orders nodes) (next_number d.homes) (omega arith) p pair at in
     let key : Key = (assigned_to new p).key in

@@ -31,7 +31,7 @@ module _ {S : Type 0} (l : Lang S) (u : Updates) where
       ∙ sym (ap (λ (d : core.Doc). d.live) both_empty.doc_is)
 
   above : (more : Buffer) → second_outcome l u ≡ Ok more → (first_doc u.first (first_outcome l u)).last < u.second
-  above more is = newer (buffer_by buffer.empty (first_outcome l u)) (first_doc u.first (first_outcome l u)) u.second u.second_asked more is
+  above more is = newer (buffer_by buffer.empty_buffer (first_outcome l u)) (first_doc u.first (first_outcome l u)) u.second u.second_asked more is
 
   -- what the second assigns is not cancelled
   pub kept : (s : Session) → HasBoth l u s → (version : Version) → version_of (document l s).live u.second ≡ Some version

@@ -4,7 +4,7 @@ use Rattle.std.specs.Prelude.{slice_get}
 use Rattle.std.specs.Option.{option_map_or}
 use Rattle.doc_nodes.specs.declared.node.Entry.{Entry}
 use Rattle.exec_rules.specs.declared.row.Row.{Row}
-use Rattle.exec_rules.specs.Rows.{live_print, live_prints, first_print, takes_print, print_of, behind, with_prints}
+use Rattle.exec_rules.specs.Rows.{live_print, live_prints, first_print, takes_print, print_of, number_behind, with_prints}
 use Rattle.exec_rules.proofs.KnownGiven.{live_at, first_live, rest_live, next_below}
 use Rattle.core_rules.specs.Doc.{Doc}
 use Rattle.session_laws.specs.Keeping.{KeepsPrint}
@@ -44,5 +44,5 @@ module _ (d : Doc) where
       (subst (λ o. KeepsPrint d o (print_of e (first_print live) m)) (first_live live) (first_so e.visible (first_print live) m new))
   prints_at (e ∷ es) (v ∷ vs) live m (suc i) row new at =
       subst (λ o. KeepsPrint d o row.print) (rest_live live i)
-      (prints_at es vs (drop 1 live) (behind e (first_print live) m) i row
+      (prints_at es vs (drop 1 live) (number_behind e (first_print live) m) i row
       (next_below (length d.homes) m (takes_print e (first_print live)) new) at)

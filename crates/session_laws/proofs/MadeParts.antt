@@ -15,7 +15,7 @@ use Rattle.language.specs.Lang.{Lang}
 use Rattle.core_rules.specs.declared.event.Event.{Event}
 use Rattle.core_rules.specs.declared.event.Event.TheVariants as event
 use Rattle.core_rules.specs.Assigned.{assigns}
-use Rattle.core_rules.specs.Doc.{Doc, assignment_of, doc, version_of}
+use Rattle.core_rules.specs.Doc.{Doc, assignment_of, doc, assigned_version}
 use Rattle.core_rules.specs.FromScratch.{assigned_to}
 use Rattle.core_rules.specs.Legal.{IsLegal}
 use Rattle.core_rules.specs.Placed.{RowOf}
@@ -30,7 +30,7 @@ use Rattle.session_laws.proofs.Worked.{in_row}
 -- what updates keep, what they make, what is in the tip, and who holds what
 pub record MadeLaws {S : Type 0} (l : Lang S) : Type 0 where
   pub keeps : (d : Doc) (nodes : NodeList) (blobs : BlobList) (p : ℕ) (pair : List ℕ × Node) → slice_get nodes p ≡ Some pair
-      → KeepsFront d (version_of nodes blobs (assignment_of d nodes blobs)) p pair
+      → KeepsFront d (assigned_version nodes blobs (assignment_of d nodes blobs)) p pair
   pub within : (h : List Event) (e : ℕ) → IsLegal l h → assigns (doc l h).tip e ≡ true → e ≤ length (doc l h).homes
   pub tip : (h : List Event) (e : ℕ) → IsLegal l h → is_wanted (doc l h) e ≡ true → is_open l h (doc l h).homes e ≡ true → assigns (doc l h).tip e ≡ true
   pub told : (h : List Event) (who : ℕ) (p : Part) → IsLegal l h → (held h who ≡ Some p) ↔ (standing h p ≡ Held who)
@@ -46,7 +46,7 @@ module _ {S : Type 0} (l : Lang S) where
       go false same = inr (ap Some (sym same))
 
   module _ (keeps : (d : Doc) (nodes : NodeList) (blobs : BlobList) (p : ℕ) (pair : List ℕ × Node) → slice_get nodes p ≡ Some pair
-      → KeepsFront d (version_of nodes blobs (assignment_of d nodes blobs)) p pair)
+      → KeepsFront d (assigned_version nodes blobs (assignment_of d nodes blobs)) p pair)
       (found : (h : List Event) (e : ℕ) → IsLegal l h → assigns (doc l h).tip e ≡ true → RowOf (doc l h).tip e)
       (within : (h : List Event) (e : ℕ) → IsLegal l h → assigns (doc l h).tip e ≡ true → e ≤ length (doc l h).homes) where
     module _ (d : Doc) (v : Version) (p : ℕ) (pair : List ℕ × Node) (kept : KeepsFront d v p pair) (i e : ℕ) (row : Row) (at : slice_get (assigned_to v p).rows i ≡ Some row)

@@ -30,7 +30,7 @@ use Rattle.session_rules.specs.History.{session}
 use Rattle.session_rules.specs.Legal.{IsLegal}
 use Rattle.session_rules.specs.Replies.{report_of}
 use Rattle.session_rules.specs.Session.{Session, document}
-use Rattle.session_rules.specs.Shown.{told_in}
+use Rattle.session_rules.specs.Shown.{protocol_reports}
 use Rattle.session_laws.specs.Reporting.{EachFinished, IsAssignedAt, ReportsSo, TellsHome, TellsScratch, home_version}
 use Rattle.session_laws.proofs.MadeParts.{MadeLaws, made_tip}
 use Rattle.session_laws.proofs.OpenParts.{opens, part_then}
@@ -55,7 +55,7 @@ module _ {S : Type 0} (l : Lang S) (scratch : (h : List Event) (k : ℕ) (one : 
       record {
         works_on = f.works_on;
         scratch = ap (λ o. slice_get (option_map_or (scratch_at l v.nodes v.blobs) o []) i) r.placed ∙ f.scratch;
-        told = ap (λ t. t ∷ []) (reported l s part w.on now ∙ ap₂ (λ source reports. tells.Report part (told_in s.protocol source reports)) w.source w.reports);
+        told = ap (λ t. t ∷ []) (reported l s part w.on now ∙ ap₂ (λ source reports. tells.Report part (protocol_reports s.protocol source reports)) w.source w.reports);
       }
 
   live_one : (e : ℕ) (live : List (Live Version)) → is_assigned live e ≡ true → (k : ℕ) × (one : Live Version) × (slice_get live k ≡ Some one) × (assigns one.version e ≡ true)

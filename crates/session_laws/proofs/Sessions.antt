@@ -8,11 +8,11 @@ use Rattle.buffer_rules.specs.Preparing.{Buffer, prepared}
 use Rattle.buffer_rules.specs.Preparing as buffer
 use Rattle.buffer_rules.specs.Trying.{◌>>=◌}
 use Rattle.buffer_rules.specs.Updates.{Asked}
-use Rattle.core_rules.specs.Doc.{Doc, after}
+use Rattle.core_rules.specs.Doc.{Doc, doc_after}
 use Rattle.core_rules.specs.Doc as core
 use Rattle.core_rules.specs.Standing.{is_open}
 use Rattle.session_rules.specs.Session.{Session, answered, document}
-use Rattle.session_rules.specs.Updating.{runs_out, updated, with_buffer}
+use Rattle.session_rules.specs.Updating.{runs_out, updated_session, with_buffer}
 use Rattle.session_laws.specs.Updates.{Updates}
 use Rattle.session_laws.proofs.Documents.{outcome, buffer_by, doc_by, first_doc, none_open, same_first}
 
@@ -39,47 +39,52 @@ module _ {S : Type 0} (l : Lang S) where
     by_number o true = by_limits o
     by_number o false = (refl, refl)
 
-    pub update_is : (asked : Asked) → Both (updated l s version asked) (outcome s.buffer (document l s) version asked)
+    pub update_is : (asked : Asked)
+        → Both (updated_session l s version asked) (outcome s.buffer (document l s) version asked)
     update_is asked = by_number (prepared s.buffer (length (document l s).live) asked) (nat_lt (document l s).last version)
 
   module _ (u : Updates) where
     abbrev pub first_outcome : Result Buffer Refusal
-    first_outcome = outcome buffer.empty core.empty u.first u.first_asked
+    first_outcome = outcome buffer.empty_buffer core.empty_doc u.first u.first_asked
 
     abbrev pub second_outcome : Result Buffer Refusal
-    second_outcome = outcome (buffer_by buffer.empty first_outcome) (first_doc u.first first_outcome) u.second u.second_asked
+    second_outcome = outcome (buffer_by buffer.empty_buffer first_outcome) (first_doc u.first first_outcome) u.second u.second_asked
 
     -- before the updates, after the first, and after both
     pub record IsBegun (s : Session) : Type 0 where
-      pub buffer_is : s.buffer ≡ buffer.empty
-      pub doc_is : document l s ≡ core.empty
+      pub buffer_is : s.buffer ≡ buffer.empty_buffer
+      pub doc_is : document l s ≡ core.empty_doc
 
     pub record HasFirst (s : Session) : Type 0 where
-      pub buffer_is : s.buffer ≡ buffer_by buffer.empty first_outcome
+      pub buffer_is : s.buffer ≡ buffer_by buffer.empty_buffer first_outcome
       pub doc_is : document l s ≡ first_doc u.first first_outcome
 
     pub record HasBoth (s : Session) : Type 0 where
       pub opened : ℕ → Bool
       pub doc_is : document l s ≡ doc_by opened (first_doc u.first first_outcome) u.second second_outcome
 
-    pub first_comes : (s : Session) → IsBegun s → HasFirst (answered s (updated l s u.first u.first_asked))
+    pub first_comes : (s : Session) → IsBegun s
+        → HasFirst (answered s (updated_session l s u.first u.first_asked))
     first_comes s begun =
         let is = update_is s u.first u.first_asked in
         let opened = is_open l s.events (document l s).homes in
         record {
           buffer_is = is.0 ∙ ap (λ b. buffer_by b (outcome b (document l s) u.first u.first_asked)) begun.buffer_is
-              ∙ ap (λ d. buffer_by buffer.empty (outcome buffer.empty d u.first u.first_asked)) begun.doc_is;
+              ∙ ap (λ d. buffer_by buffer.empty_buffer
+              (outcome buffer.empty_buffer d u.first u.first_asked)) begun.doc_is;
           doc_is = is.1 ∙ ap (λ b. doc_by opened (document l s) u.first (outcome b (document l s) u.first u.first_asked)) begun.buffer_is
-              ∙ ap (λ d. doc_by opened d u.first (outcome buffer.empty d u.first u.first_asked)) begun.doc_is
+              ∙ ap (λ d. doc_by opened d u.first
+              (outcome buffer.empty_buffer d u.first u.first_asked)) begun.doc_is
               ∙ same_first opened none_open u.first first_outcome;
         }
 
-    pub second_comes : (s : Session) → HasFirst s → HasBoth (answered s (updated l s u.second u.second_asked))
+    pub second_comes : (s : Session) → HasFirst s
+        → HasBoth (answered s (updated_session l s u.second u.second_asked))
     second_comes s before =
         let is = update_is s u.second u.second_asked in
         let opens = is_open l s.events (document l s).homes in
         record {
           opened = opens;
           doc_is = is.1 ∙ ap (λ b. doc_by opens (document l s) u.second (outcome b (document l s) u.second u.second_asked)) before.buffer_is
-              ∙ ap (λ d. doc_by opens d u.second (outcome (buffer_by buffer.empty first_outcome) d u.second u.second_asked)) before.doc_is;
+              ∙ ap (λ d. doc_by opens d u.second (outcome (buffer_by buffer.empty_buffer first_outcome) d u.second u.second_asked)) before.doc_is;
         }

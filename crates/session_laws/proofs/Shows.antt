@@ -3,7 +3,7 @@ use Rattle.std.proofs.Common.{◌≡◌, ℕ, List, [], ◌∷◌, Result, Ok, S
 use Rattle.std.specs.Prelude.{slice_get}
 use Rattle.std.specs.List.{flat_map}
 use Rattle.text_edits.specs.declared.edit.Edit.{Edit}
-use Rattle.report_markup.specs.Sorting.{in_order}
+use Rattle.report_markup.specs.Sorting.{ordered_reports}
 use Rattle.snapshots.specs.Converted.{left_by}
 use Rattle.core_tables.specs.declared.versions.Live.{Live}
 use Rattle.core_tables.specs.Live.{version_of}
@@ -30,7 +30,7 @@ use Rattle.session_rules.specs.Heard.{Heard}
 use Rattle.session_rules.specs.Session.{Session, document}
 use Rattle.session_rules.specs.Looking.{Looked, looked_at}
 use Rattle.session_rules.specs.History.{session}
-use Rattle.session_rules.specs.Shown.{placed, told_in}
+use Rattle.session_rules.specs.Shown.{placed_reports, protocol_reports}
 use Rattle.session_rules.specs.Replies.{is_outdated, markup, or_refusal, told_to}
 use Rattle.session_laws.specs.Promises.{are_all_shown, ExactSo, IsShown, ShowsSo}
 use Rattle.session_laws.proofs.KnownExact.{all_seen}
@@ -50,7 +50,7 @@ module _ {S : Type 0} (l : Lang S) (core : (h : List Event) (k : ℕ) (one : Liv
   tells_markup service = ap (λ (r : Result Looked Refusal). or_refusal ((r >>= λ x. Ok s) >>= λ after. r >>= λ x. Ok (markup l s id name edits x ∷ []))) seen
 
   abbrev with_parts : List PartShown → List Told
-  with_parts parts = tells.Markup id name (told_in s.protocol looked.text (in_order (left_by edits (flat_map placed parts))))
+  with_parts parts = tells.Markup id name (protocol_reports s.protocol looked.text (ordered_reports (left_by edits (flat_map placed_reports parts))))
       (pending l s.events (document l s) looked.version name) (is_outdated edits) ∷ []
 
   pub is_shown : (service : Service) → IsShown l s id name edits looked (told_to l service s (Ok (asks.Snapshot id name edits)))

@@ -9,7 +9,7 @@ use Rattle.doc_nodes.specs.declared.inherited.NodeAliases.{NodeAliases}
 use Rattle.doc_nodes.specs.declared.node.Entry.{Entry}
 use Rattle.doc_nodes.specs.declared.node.Node.{Node}
 use Rattle.doc_nodes.specs.Aliases.{aliases_at, aliases_by, folded, in_turn, inherited, known, no_aliases, own_at, own_pairs, pairs_from}
-use Rattle.doc_nodes.specs.Imports.{NodeList, aims, is_bad, order, ordered, place_of}
+use Rattle.doc_nodes.specs.Imports.{NodeList, aims, is_bad, order, ordered_places, place_of}
 use Rattle.doc_nodes.specs.Names.{equal}
 use Rattle.exec_rules.specs.Kept.{BlobList}
 use Rattle.language.specs.Lang.{Lang}
@@ -56,7 +56,7 @@ module _ (all : NodeList) where
   same_aims : aims (plain all) ≡ aims all
   same_aims = same_rows all
 
-  same_ordered : ordered (plain all) ≡ ordered all
+  same_ordered : ordered_places (plain all) ≡ ordered_places all
   same_ordered = ap in_rounds same_aims
 
   pub same_order : order (plain all) ≡ order all

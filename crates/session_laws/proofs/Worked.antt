@@ -30,7 +30,7 @@ use Rattle.core_rules.specs.Settings.{Setting, setting, setting_by, settings, st
 use Rattle.core_rules.proofs.KnownStays.{length_settings, setting_stays}
 use Rattle.session_rules.specs.Replies.{report_of}
 use Rattle.session_rules.specs.Session.{Session, document}
-use Rattle.session_rules.specs.Shown.{told_in}
+use Rattle.session_rules.specs.Shown.{protocol_reports}
 use Rattle.session_laws.specs.Reporting.{execution_for, scratch_reports}
 use Rattle.session_laws.proofs.HeldParts.{is_print, its_execution}
 
@@ -66,10 +66,11 @@ module _ {S : Type 0} (l : Lang S) where
   legal_before (x ∷ more) before legal = legal_before more before legal.0
 
   pub reported : (s : Session) (part : Part) (x : Setting S) → setting l (document l s).homes part.exec ≡ Some x
-      → report_of l s part ≡ tells.Report part (told_in s.protocol x.source (reports_in l part.kind x))
+      → report_of l s part ≡ tells.Report part
+      (protocol_reports s.protocol x.source (reports_in l part.kind x))
   reported s part x at =
       let h = setting_home (document l s).homes part.exec x at in
-      ap₂ (λ source reports. tells.Report part (told_in s.protocol source reports))
+      ap₂ (λ source reports. tells.Report part (protocol_reports s.protocol source reports))
       (ap (λ o. option_map_or (λ (y : Home). y.source) o []) h.homed ∙ h.source)
       (ap (λ o. option_map_or (λ (rs : List Report). rs) (option_map (reports_in l part.kind) o) []) at)
 

@@ -4,7 +4,7 @@ use Rattle.std.specs.Prelude.{◌≡◌, ℕ, ◌≤◌, Bool, true, false, is_s
 use Rattle.std.specs.List.{flat_map, list_all}
 use Rattle.text_words.specs.Members.{has}
 use Rattle.text_edits.specs.declared.edit.Edit.{Edit}
-use Rattle.report_markup.specs.Sorting.{in_order}
+use Rattle.report_markup.specs.Sorting.{ordered_reports}
 use Rattle.snapshots.specs.Converted.{left_by}
 use Rattle.doc_nodes.specs.declared.node.Node.{Node}
 use Rattle.doc_nodes.specs.Wanted.{wanted_at}
@@ -26,8 +26,8 @@ use Rattle.session_rules.specs.Session.{Session, document}
 use Rattle.session_rules.specs.Looking.{Looked, looked_at}
 use Rattle.session_rules.specs.Accepting.{accepted}
 use Rattle.session_rules.specs.History.{session}
-use Rattle.session_rules.specs.Shown.{placed, told_in}
-use Rattle.session_rules.specs.Replies.{is_outdated, told}
+use Rattle.session_rules.specs.Shown.{placed_reports, protocol_reports}
+use Rattle.session_rules.specs.Replies.{is_outdated, entry_replies}
 use Rattle.session_laws.specs.Keeping.{KeepsFront}
 
 -- of each message of a history, behind the entries before it
@@ -45,7 +45,8 @@ pub record IsShown {S : Type 0} (l : Lang S) (s : Session) (id : ℕ) (name : Li
   pub scratch : parts_shown l s.events (document l s) looked.version name
       ≡ scratch_shown l s.events looked.version name
   pub told : reply ≡ tells.Markup id name
-      (told_in s.protocol looked.text (in_order (left_by edits (flat_map placed
+      (protocol_reports s.protocol looked.text
+      (ordered_reports (left_by edits (flat_map placed_reports
       (parts_shown l s.events (document l s) looked.version name)))))
       (pending l s.events (document l s) looked.version name) (is_outdated edits) ∷ []
 
@@ -55,7 +56,8 @@ abbrev pub ShowsSo : {S : Type 0} → Lang S → Service → List Heard → Resu
 ShowsSo l service h read = (id : ℕ) (name : List ℕ) (edits : List Edit) (looked : Looked)
     → read ≡ Ok (asks.Snapshot id name edits)
     → looked_at l (session l service h) id name edits ≡ Ok looked
-    → IsShown l (session l service h) id name edits looked (told l service h (Message read))
+    → IsShown l (session l service h) id name edits looked
+    (entry_replies l service h (Message read))
 
 -- each of the parts is finished
 abbrev pub are_all_shown : List PartShown → Bool

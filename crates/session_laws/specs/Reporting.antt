@@ -23,8 +23,8 @@ use Rattle.session_rules.specs.declared.service.Service.{Service}
 use Rattle.session_rules.specs.Heard.{Heard, Finished}
 use Rattle.session_rules.specs.Session.{Session}
 use Rattle.session_rules.specs.History.{session}
-use Rattle.session_rules.specs.Replies.{told}
-use Rattle.session_rules.specs.Shown.{told_in}
+use Rattle.session_rules.specs.Replies.{entry_replies}
+use Rattle.session_rules.specs.Shown.{protocol_reports}
 
 -- the execution of a row that has a part of this kind
 abbrev pub execution_for : PartKind → Row → Option ℕ
@@ -50,7 +50,7 @@ pub record TellsScratch {S : Type 0} (l : Lang S) (s : Session) (v : Version) (n
   pub scratch : slice_get (option_map_or (scratch_at l v.nodes v.blobs) (place_of v.nodes name) [])
       i ≡ Some works_on
   pub told : reply ≡ tells.Report part
-      (told_in s.protocol works_on.source (scratch_reports l part.kind works_on)) ∷ []
+      (protocol_reports s.protocol works_on.source (scratch_reports l part.kind works_on)) ∷ []
 
 -- the update that made an execution, among what happened
 pub record IsMade {S : Type 0} (l : Lang S) (h : List Event) (exec : ℕ) : Type 0 where
@@ -81,12 +81,12 @@ pub record TellsHome {S : Type 0} (l : Lang S) (s : Session) (part : Part) (repl
 -- to now and assigned it, as one does that is live now
 pub record ReportsSo {S : Type 0} (l : Lang S) (service : Service) (h : List Heard) (who : ℕ)
     (part : Part) : Type 0 where
-  pub home : TellsHome l (session l service h) part (told l service h (Finished who part))
+  pub home : TellsHome l (session l service h) part (entry_replies l service h (Finished who part))
   pub each : (more before : List Event) (k : ℕ) (one : Live Version) (name : List ℕ) (i : ℕ)
       → (session l service h).events ≡ more ++ before
       → slice_get (doc l before).live k ≡ Some one → IsAssignedAt one.version name i part
       → TellsScratch l (session l service h) one.version name i part
-      (told l service h (Finished who part))
+      (entry_replies l service h (Finished who part))
   pub live : (k : ℕ) × (one : Live Version) × (name : List ℕ) × (i : ℕ)
       × (slice_get (doc l (session l service h).events).live k ≡ Some one)
       × IsAssignedAt one.version name i part

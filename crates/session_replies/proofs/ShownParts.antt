@@ -7,7 +7,7 @@ use Rattle.text_words.specs.Members.{has}
 use Rattle.text_edits.specs.declared.edit.Edit.{Edit}
 use Rattle.report_markup.specs.declared.report.Report.{Report}
 use Rattle.report_markup.specs.Ranges.{moved}
-use Rattle.report_markup.specs.Sorting.{in_order}
+use Rattle.report_markup.specs.Sorting.{ordered_reports}
 use Rattle.snapshots.specs.Converted.{left_by}
 use Rattle.snapshots.specs.Gathered.{Movable}
 use Rattle.reply_writing.specs.Forms.{IsRising}
@@ -25,9 +25,9 @@ use Rattle.core_rules.specs.Shown.{PartShown, parts_shown, scratch_shown}
 use Rattle.core_rules.specs.Standing.{is_open}
 use Rattle.core_rules.specs.Updates.{node_in}
 use Rattle.exec_lists.specs.declared.results.NodeResults.{NodeResults}
-use Rattle.exec_lists.specs.Parts.{told}
+use Rattle.exec_lists.specs.Parts.{told_part}
 use Rattle.prover_core.specs.Results.{is_reported, AreResultsIn}
-use Rattle.session_rules.specs.Shown.{placed, shown}
+use Rattle.session_rules.specs.Shown.{placed_reports, finished_reports}
 use Rattle.session_replies.specs.Edited.{PlacesFit}
 use Rattle.session_replies.specs.Marked.{reported, shown_of, AreMovable}
 use Rattle.session_replies.proofs.RisingNumbers.{range_filtered}
@@ -35,18 +35,19 @@ use Rattle.session_replies.proofs.LiveTexts.{each_kept, found_at, live_laid}
 use Rattle.session_replies.proofs.MovableParts.{shown_moves}
 
 -- unfinished parts show nothing
-finished_show : (parts : List PartShown) → flat_map placed (filter is_reported parts) ≡ flat_map placed parts
+finished_show : (parts : List PartShown)
+    → flat_map placed_reports (filter is_reported parts) ≡ flat_map placed_reports parts
 finished_show [] = refl
 finished_show (p ∷ parts) = go p.reports refl (finished_show parts)
   where
-    go : (o : Option (List Report)) → p.reports ≡ o → flat_map placed (filter is_reported parts) ≡ flat_map placed parts
-        → flat_map placed (cond (is_some p.reports) (p ∷ filter is_reported parts) (filter is_reported parts)) ≡ placed p ++ flat_map placed parts
+    go : (o : Option (List Report)) → p.reports ≡ o → flat_map placed_reports (filter is_reported parts) ≡ flat_map placed_reports parts
+        → flat_map placed_reports (cond (is_some p.reports) (p ∷ filter is_reported parts) (filter is_reported parts)) ≡ placed_reports p ++ flat_map placed_reports parts
     go None e rest =
-        ap (λ (r : Option (List Report)). flat_map placed (cond (is_some r) (p ∷ filter is_reported parts) (filter is_reported parts))) e
-        ∙ rest ∙ sym (ap (λ (r : Option (List Report)). option_map_or (map (moved p.span.start)) r [] ++ flat_map placed parts) e)
+        ap (λ (r : Option (List Report)). flat_map placed_reports (cond (is_some r) (p ∷ filter is_reported parts) (filter is_reported parts))) e
+        ∙ rest ∙ sym (ap (λ (r : Option (List Report)). option_map_or (map (moved p.span.start)) r [] ++ flat_map placed_reports parts) e)
     go (Some rs) e rest =
-        ap (λ (r : Option (List Report)). flat_map placed (cond (is_some r) (p ∷ filter is_reported parts) (filter is_reported parts))) e
-        ∙ ap (λ rs. placed p ++ rs) rest
+        ap (λ (r : Option (List Report)). flat_map placed_reports (cond (is_some r) (p ∷ filter is_reported parts) (filter is_reported parts))) e
+        ∙ ap (λ rs. placed_reports p ++ rs) rest
 
 -- what the core's law says of live versions
 abbrev pub ShownLaw : {S : Type 0} → Lang S → Type 0
@@ -68,15 +69,17 @@ module _ {S : Type 0} (l : Lang S) (h : List Event) (id : ℕ) (name : List ℕ)
         subst (λ (v : Version). parts_shown l h (doc l h) v name ≡ scratch_shown l h v name) at.version_is
         (law h at.place at.one name legal at.stands)
 
-    told_is : map told results.parts.items ≡ filter is_reported (scratch_shown l h found.version name)
+    told_is : map told_part results.parts.items ≡ filter is_reported
+        (scratch_shown l h found.version name)
     told_is = found.parts ∙ ap (filter is_reported) from_nothing
 
-    pub shown_is : (edits : List Edit) → shown_of edits (map told results.parts.items) ≡ shown l h found.version name edits
-    shown_is edits = ap (λ rs. in_order (left_by edits rs))
-        (ap (flat_map placed) told_is ∙ finished_show (scratch_shown l h found.version name))
+    pub shown_is : (edits : List Edit) → shown_of edits (map told_part results.parts.items) ≡ finished_reports l h found.version name edits
+    shown_is edits = ap (λ rs. ordered_reports (left_by edits rs))
+        (ap (flat_map placed_reports) told_is ∙ finished_show
+        (scratch_shown l h found.version name))
 
     pub told_moves : AreTidy l → (edits : List Edit) (node : Node) → node_in found.version name ≡ Some node → PlacesFit edits node.text
-        → AreMovable edits (map told results.parts.items)
+        → AreMovable edits (map told_part results.parts.items)
     told_moves tidy edits node at fit =
         let laid = live_laid l h id found.version name node legal found.live at in
         subst (AreMovable edits) (sym told_is)

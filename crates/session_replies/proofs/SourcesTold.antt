@@ -5,7 +5,7 @@ use Rattle.std.specs.Option.{option_map, option_map_or, option_and_then}
 use Rattle.exec_rules.specs.declared.home.Home.{Home}
 use Rattle.language.specs.Lang.{Lang}
 use Rattle.core_rules.specs.Numbered.{numbered}
-use Rattle.core_rules.specs.Settings.{Setting, behind_among, setting, setting_by, settings, taken_up}
+use Rattle.core_rules.specs.Settings.{Setting, behind_among, setting, setting_by, settings, taken_up_state}
 use Rattle.core_rules.proofs.KnownStays.{length_settings}
 use Rattle.session_replies.specs.Reported.{source_of}
 
@@ -26,5 +26,5 @@ module _ {S : Type 0} (l : Lang S) where
           → (setting l hs e ≡ Some s → source_of hs e ≡ s.source)
           → option_map_or (λ (x : Home). x.source) (if e == suc (length hs) then Some h else numbered hs e) [] ≡ s.source
       go true is at rest = ap (λ b. option_map_or (λ (x : Home). x.source) (if b then Some h else numbered hs e) []) is
-          ∙ same_source h (taken_up l (behind_among l (settings l hs)) h.input) s at
+          ∙ same_source h (taken_up_state l (behind_among l (settings l hs)) h.input) s at
       go false is at rest = ap (λ b. option_map_or (λ (x : Home). x.source) (if b then Some h else numbered hs e) []) is ∙ rest at

@@ -24,13 +24,13 @@ use Rattle.core_rules.specs.Shown.{pending}
 use Rattle.core_rules.specs.Standing.{is_open}
 use Rattle.core_rules.specs.Updates.{node_in}
 use Rattle.exec_lists.specs.declared.results.NodeResults.{NodeResults}
-use Rattle.exec_lists.specs.Parts.{told}
+use Rattle.exec_lists.specs.Parts.{told_part}
 use Rattle.prover_core.specs.Answers.{CancelledSo}
 use Rattle.prover_core.specs.Results.{AreResultsIn}
 use Rattle.session_rules.specs.declared.service.Service.{Service}
 use Rattle.session_rules.specs.Session.{Session, document, with_event}
 use Rattle.session_rules.specs.Looking.{Looked, looked_at}
-use Rattle.session_rules.specs.Shown.{told_in}
+use Rattle.session_rules.specs.Shown.{protocol_reports}
 use Rattle.session_rules.specs.Replies.{cancelling, is_outdated, markup, or_refusal, told_to}
 use Rattle.session_replies.specs.Marked.{marked}
 use Rattle.session_replies.specs.Cancelled.{cancelling_told}
@@ -56,13 +56,13 @@ module _ {S : Type 0} (l : Lang S) (service : Service) (s : Session) where
       → IsLegal l s.events → (found : AreResultsIn l s.events id name results)
       → node_in found.version name ≡ Some node → edit_all edits node.text ≡ Ok text
       → told_to l service s (Ok (asks.Snapshot id name edits))
-      ≡ tells.Markup id name (marked s.protocol text edits (map told results.parts.items)) results.pending.items (is_outdated edits) ∷ []
+      ≡ tells.Markup id name (marked s.protocol text edits (map told_part results.parts.items)) results.pending.items (is_outdated edits) ∷ []
   snapshot_told law id name edits results node text legal found at edited =
       looked_told id name edits _ (looked_is id name edits found.version node text found.live at edited)
-      ∙ ap (λ reports. tells.Markup id name (told_in s.protocol text reports)
+      ∙ ap (λ reports. tells.Markup id name (protocol_reports s.protocol text reports)
       (pending l s.events (document l s) found.version name) (is_outdated edits) ∷ [])
       (sym (shown_is l s.events id name results found law legal edits))
-      ∙ ap (λ execs. tells.Markup id name (marked s.protocol text edits (map told results.parts.items)) execs (is_outdated edits) ∷ [])
+      ∙ ap (λ execs. tells.Markup id name (marked s.protocol text edits (map told_part results.parts.items)) execs (is_outdated edits) ∷ [])
       (sym found.pending_is)
 
   unknown_told : (exec : ℕ) → is_assigned (document l s).live exec ≡ false

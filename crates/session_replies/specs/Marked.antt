@@ -4,23 +4,23 @@ use Rattle.std.specs.Option.{option_map_or}
 use Rattle.std.specs.List.{flat_map, AllByRecursion}
 use Rattle.text_edits.specs.declared.edit.Edit.{Edit}
 use Rattle.report_markup.specs.declared.report.Report.{Report}
-use Rattle.report_markup.specs.Sorting.{in_order}
+use Rattle.report_markup.specs.Sorting.{ordered_reports}
 use Rattle.snapshots.specs.declared.part.AssignedPart.{AssignedPart}
 use Rattle.snapshots.specs.Converted.{left_by}
 use Rattle.snapshots.specs.Gathered.{Movable}
 use Rattle.message_values.specs.declared.protocol.Protocol.{Protocol}
 use Rattle.core_rules.specs.Shown.{PartShown}
 use Rattle.exec_lists.specs.declared.results.PartResult.{PartResult}
-use Rattle.session_rules.specs.Shown.{placed, told_in}
+use Rattle.session_rules.specs.Shown.{placed_reports, protocol_reports}
 
 -- what is shown of parts: their reports at the places of the version's text, as pending edits leave
 -- them, in report order
 abbrev pub shown_of : List Edit → List PartShown → List Report
-shown_of edits parts = in_order (left_by edits (flat_map placed parts))
+shown_of edits parts = ordered_reports (left_by edits (flat_map placed_reports parts))
 
 -- the same as a protocol tells it, where the text is the one behind the edits
 abbrev pub marked : Protocol → List ℕ → List Edit → List PartShown → List Report
-marked protocol text edits parts = told_in protocol text (shown_of edits parts)
+marked protocol text edits parts = protocol_reports protocol text (shown_of edits parts)
 
 -- what a part reports, where it is finished
 abbrev pub reported : PartShown → List Report

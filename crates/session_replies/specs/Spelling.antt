@@ -5,5 +5,5 @@ use Rattle.reply_writing.specs.declared.told.Told.{Told}
 use Rattle.reply_writing.specs.Replies.{reply_chunks}
 
 -- a reply as a byte message
-abbrev pub spelling : Told → List ℕ
-spelling told = plain_spelling (reply_chunks told)
+abbrev pub reply_spelling : Told → List ℕ
+reply_spelling told = plain_spelling (reply_chunks told)

@@ -5,7 +5,7 @@ use Rattle.reply_writing.specs.declared.told.Told.{Told}
 use Rattle.reply_writing.specs.declared.told.Told.TheVariants as tells
 use Rattle.core_jobs.specs.declared.done.Done.{Done}
 use Rattle.core_jobs.specs.Jobs.{JobContent}
-use Rattle.session_rules.specs.Shown.{told_in}
+use Rattle.session_rules.specs.Shown.{protocol_reports}
 
 -- a job, and the protocol by which its reports are told
 pub record Work (S : Type 0) : Type 0 where
@@ -20,4 +20,5 @@ pub record WorkDone (S : Type 0) : Type 0 where
 
 -- the reply that tells the part's reports
 abbrev pub work_report : {S : Type 0} → WorkDone S → Told
-work_report work = tells.Report work.done.part (told_in work.protocol work.source work.done.reports)
+work_report work = tells.Report work.done.part
+    (protocol_reports work.protocol work.source work.done.reports)

@@ -3,7 +3,7 @@ ghost use Rattle.std.specs.Prelude.{◌≡◌, map, IfOk};
 ghost use Rattle.reply_writing.specs.declared.told.Told.TheVariants as tells;
 ghost use Rattle.reply_writing.specs.Lent.{executions_of, row_of, rows_of};
 ghost use Rattle.exec_assign.specs.Told.{told_row, told_command, told_node};
-ghost use Rattle.session_replies.specs.Spelling.{spelling};
+ghost use Rattle.session_replies.specs.Spelling.{reply_spelling};
 ghost use Rattle.session_replies.specs.Assigned.{command_told, node_told, nodes_told, node_of};
 
 use exec_assign::{ToldCommand, ToldNode};
@@ -24,7 +24,7 @@ pub(crate) struct NodeLent<'a> {
 /// their commands in the order of places. It is linear in these.
 pub fn assign(alloc: Global, version: VersionId, nodes: &[ToldNode]) -> Result<Vec<u8>, AllocError>
     ensures { IfOk result (λ bytes. bytes.items
-        ≡ spelling (tells.Assign version (nodes_told (map told_node nodes.now)))) }
+        ≡ reply_spelling (tells.Assign version (nodes_told (map told_node nodes.now)))) }
 {
     let rows = rows_of_nodes(alloc, nodes)?;
     let nodes = lent(alloc, &rows)?;

@@ -1,7 +1,7 @@
 //! What comes of a job.
 ghost use Rattle.std.specs.Prelude.{◌≡◌};
 ghost use Rattle.reply_writing.specs.declared.told.Told.TheVariants as tells;
-ghost use Rattle.session_replies.specs.Spelling.{spelling};
+ghost use Rattle.session_replies.specs.Spelling.{reply_spelling};
 ghost use Rattle.session_replies.specs.Works.{work_report};
 
 use core_jobs::{Done, Job};
@@ -23,18 +23,18 @@ pub struct SessionDone<S> {
 impl<S> Model for SessionDone<S> {
     ghost use Rattle.std.specs.Prelude.{◌≡◌};
     ghost use Rattle.reply_writing.specs.declared.told.Told.TheVariants as tells;
-    ghost use Rattle.session_replies.specs.Spelling.{spelling};
+    ghost use Rattle.session_replies.specs.Spelling.{reply_spelling};
     ghost use Rattle.session_replies.specs.Works.{WorkDone, work_report};
 
     ghost Value = { WorkDone S };
 
     ghost view = { λ d. record { done = d.done; source = d.job.source; protocol = d.protocol } };
 
-    ghost invariant = { λ d. (d.report.items ≡ spelling (work_report (record {
+    ghost invariant = { λ d. (d.report.items ≡ reply_spelling (work_report (record {
       done = d.done;
       source = d.job.source;
       protocol = d.protocol;
-    }))) × (d.dropped.items ≡ spelling (tells.Dropped d.done.part)) };
+    }))) × (d.dropped.items ≡ reply_spelling (tells.Dropped d.done.part)) };
 }
 
 /// What came of a part, and the bytes of both replies.
@@ -54,12 +54,12 @@ impl<S> SessionDone<S> {
         report: Vec<u8>,
         dropped: Vec<u8>,
     ) -> SessionDone<S>
-        requires report { report.items ≡ spelling (work_report (record {
+        requires report { report.items ≡ reply_spelling (work_report (record {
           done = done;
           source = job.source;
           protocol = protocol;
         })) }
-        requires dropped { dropped.items ≡ spelling (tells.Dropped done.part) }
+        requires dropped { dropped.items ≡ reply_spelling (tells.Dropped done.part) }
         ensures { result ≡ record { done = done; source = job.source; protocol = protocol } }
     {
         SessionDone {
@@ -84,8 +84,8 @@ impl<S: Drop> SessionDone<S> {
     /// What came of it, and the bytes of both replies.
     pub fn into_parts(self) -> DoneParts<S>
         ensures done { result.done ≡ self.done }
-        ensures report { result.report.items ≡ spelling (work_report self) }
-        ensures dropped { result.dropped.items ≡ spelling (tells.Dropped self.done.part) }
+        ensures report { result.report.items ≡ reply_spelling (work_report self) }
+        ensures dropped { result.dropped.items ≡ reply_spelling (tells.Dropped self.done.part) }
     {
         DoneParts {
             done: self.done,

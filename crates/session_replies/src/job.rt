@@ -1,7 +1,7 @@
 //! Jobs.
 ghost use Rattle.std.specs.Prelude.{◌≡◌, IfOk};
 ghost use Rattle.reply_writing.specs.declared.told.Told.TheVariants as tells;
-ghost use Rattle.session_replies.specs.Spelling.{spelling};
+ghost use Rattle.session_replies.specs.Spelling.{reply_spelling};
 ghost use Rattle.session_replies.specs.Works.{work_report};
 ghost use Rattle.core_jobs.specs.Questions.{questions_by};
 ghost use Rattle.session_replies.specs.Questions.{SessionJobAsks};
@@ -29,14 +29,14 @@ pub struct SessionJob<S> {
 impl<S> Model for SessionJob<S> {
     ghost use Rattle.std.specs.Prelude.{◌≡◌};
     ghost use Rattle.reply_writing.specs.declared.told.Told.TheVariants as tells;
-    ghost use Rattle.session_replies.specs.Spelling.{spelling};
+    ghost use Rattle.session_replies.specs.Spelling.{reply_spelling};
     ghost use Rattle.session_replies.specs.Works.{Work};
 
     ghost Value = { Work S };
 
     ghost view = { λ j. record { job = j.job; protocol = j.protocol } };
 
-    ghost invariant = { λ j. j.dropped.items ≡ spelling (tells.Dropped j.job.part) };
+    ghost invariant = { λ j. j.dropped.items ≡ reply_spelling (tells.Dropped j.job.part) };
 }
 
 /// A job of the core, and the bytes of the reply that its part was let go.
@@ -49,7 +49,7 @@ pub struct JobParts<S> {
 impl<S> SessionJob<S> {
     /// The job, with the reply that tells that its part was let go. It takes no memory.
     pub fn new(job: Job<S>, protocol: Protocol, dropped: Vec<u8>) -> SessionJob<S>
-        requires { dropped.items ≡ spelling (tells.Dropped job.part) }
+        requires { dropped.items ≡ reply_spelling (tells.Dropped job.part) }
         ensures { result ≡ record { job = job; protocol = protocol } }
     {
         SessionJob {
@@ -76,7 +76,7 @@ impl<S> SessionJob<S> {
     /// The core's job, and the bytes of the reply.
     pub fn into_parts(self) -> JobParts<S>
         ensures job { result.job ≡ self.job }
-        ensures dropped { result.dropped.items ≡ spelling (tells.Dropped self.job.part) }
+        ensures dropped { result.dropped.items ≡ reply_spelling (tells.Dropped self.job.part) }
     {
         JobParts {
             job: self.job,
@@ -133,7 +133,7 @@ fn report_on<S>(
     source: &[char],
     done: &Done<S>,
 ) -> Result<Vec<u8>, AllocError>
-    ensures { IfOk result (λ bytes. bytes.items ≡ spelling (work_report (record {
+    ensures { IfOk result (λ bytes. bytes.items ≡ reply_spelling (work_report (record {
       done = done.now;
       source = source.now;
       protocol = protocol;

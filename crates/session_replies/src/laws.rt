@@ -19,12 +19,12 @@ ghost use Rattle.core_jobs.specs.declared.done.Done.{Done};
 ghost use Rattle.core_jobs.specs.Jobs.{JobContent};
 ghost use Rattle.core_jobs.specs.Fits.{IsJobOf, IsDoneOf};
 ghost use Rattle.exec_lists.specs.declared.results.NodeResults.{NodeResults};
-ghost use Rattle.exec_lists.specs.Parts.{told};
+ghost use Rattle.exec_lists.specs.Parts.{told_part};
 ghost use Rattle.prover_core.specs.Answers.{CancelledSo};
 ghost use Rattle.prover_core.specs.Results.{AreResultsIn};
 ghost use Rattle.session_rules.specs.declared.service.Service.{Service};
 ghost use Rattle.session_rules.specs.Session.{Session, document};
-ghost use Rattle.session_rules.specs.Shown.{shown, told_in};
+ghost use Rattle.session_rules.specs.Shown.{finished_reports, protocol_reports};
 ghost use Rattle.session_rules.specs.Replies.{is_outdated, live_among, told_to, report_of};
 ghost use Rattle.session_replies.specs.Edited.{PlacesFit};
 ghost use Rattle.session_replies.specs.Marked.{shown_of, marked, AreMovable};
@@ -43,21 +43,21 @@ pub fn snapshot_law<L: Language>()
     ensures shown { (h : List Event) (id : ℕ) (name : List ℕ) (edits : List Edit)
         (results : NodeResults) → IsLegal L.lang h
         → (found : AreResultsIn L.lang h id name results)
-        → shown_of edits (map told results.parts.items)
-        ≡ shown L.lang h found.version name edits }
+        → shown_of edits (map told_part results.parts.items)
+        ≡ finished_reports L.lang h found.version name edits }
     ensures rises { (h : List Event) (id : ℕ) (name : List ℕ) (results : NodeResults)
         → AreResultsIn L.lang h id name results → IsRising results.pending.items }
     ensures movable { (h : List Event) (id : ℕ) (name : List ℕ) (edits : List Edit)
         (results : NodeResults) (node : Node) → IsLegal L.lang h
         → (found : AreResultsIn L.lang h id name results)
         → node_in found.version name ≡ Some node → PlacesFit edits node.text
-        → AreMovable edits (map told results.parts.items) }
+        → AreMovable edits (map told_part results.parts.items) }
     ensures told { (service : Service) (s : Session) (id : ℕ) (name : List ℕ) (edits : List Edit)
         (results : NodeResults) (node : Node) (text : List ℕ) → IsLegal L.lang s.events
         → (found : AreResultsIn L.lang s.events id name results)
         → node_in found.version name ≡ Some node → edit_all edits node.text ≡ Ok text
         → told_to L.lang service s (Ok (asks.Snapshot id name edits))
-        ≡ tells.Markup id name (marked s.protocol text edits (map told results.parts.items))
+        ≡ tells.Markup id name (marked s.protocol text edits (map told_part results.parts.items))
         results.pending.items (is_outdated edits) ∷ [] }
 {
     core_law::<L>();
@@ -67,7 +67,7 @@ pub fn snapshot_law<L: Language>()
 pub fn report_law<L: Language>()
     ensures told { (s : Session) (done : Done L.State)
         → IsDoneOf L.lang (document L.lang s).homes done
-        → report_of L.lang s done.part ≡ tells.Report done.part (told_in s.protocol
+        → report_of L.lang s done.part ≡ tells.Report done.part (protocol_reports s.protocol
         (source_of (document L.lang s).homes done.part.exec) done.reports) }
     ensures source { (s : Session) (job : JobContent L.State)
         → IsJobOf L.lang (document L.lang s).homes job

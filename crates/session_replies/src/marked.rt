@@ -4,10 +4,10 @@ ghost use Rattle.snapshots.specs.Seen.{seen};
 ghost use Rattle.snapshots.specs.Gathered.{gathered, AllMovable};
 ghost use Rattle.reply_writing.specs.Forms.{IsRising};
 ghost use Rattle.reply_writing.specs.declared.told.Told.TheVariants as tells;
-ghost use Rattle.exec_lists.specs.Parts.{told};
+ghost use Rattle.exec_lists.specs.Parts.{told_part};
 ghost use Rattle.session_rules.specs.Replies.{is_outdated};
-ghost use Rattle.session_rules.specs.Shown.{told_in};
-ghost use Rattle.session_replies.specs.Spelling.{spelling};
+ghost use Rattle.session_rules.specs.Shown.{protocol_reports};
+ghost use Rattle.session_replies.specs.Spelling.{reply_spelling};
 ghost use Rattle.session_replies.specs.Marked.{shown_of, marked, AreMovable, assigned_part};
 
 use exec_lists::{NodeResults, PartResult};
@@ -32,10 +32,10 @@ pub fn markup<'a>(
     edits: &[Edit],
     results: &'a NodeResults<'a>,
 ) -> Result<Vec<u8>, AllocError>
-    requires movable { AreMovable edits.now (map told results.now.parts.items) }
+    requires movable { AreMovable edits.now (map told_part results.now.parts.items) }
     requires rising { IsRising results.now.pending.items }
-    ensures { IfOk result (λ bytes. bytes.items ≡ spelling (tells.Markup version node.now
-        (marked protocol text.now edits.now (map told results.now.parts.items))
+    ensures { IfOk result (λ bytes. bytes.items ≡ reply_spelling (tells.Markup version node.now
+        (marked protocol text.now edits.now (map told_part results.now.parts.items))
         results.now.pending.items (is_outdated edits.now))) }
 {
     let shown = shown_parts(alloc, edits, &results.parts)?;
@@ -51,9 +51,9 @@ fn shown_parts<'a>(
     edits: &[Edit],
     parts: &[PartResult<'a>],
 ) -> Result<Vec<Shown<'a>>, AllocError>
-    requires { AreMovable edits.now (map told parts.now) }
+    requires { AreMovable edits.now (map told_part parts.now) }
     ensures { IfOk result (λ shown. map seen shown.items
-        ≡ shown_of edits.now (map told parts.now)) }
+        ≡ shown_of edits.now (map told_part parts.now)) }
 {
     let parts = assigned_parts(alloc, parts)?;
     let Snapshot { reports, .. } = snapshot(alloc, parts.as_slice(), edits)?;
@@ -93,7 +93,7 @@ fn told_reports<'a>(
     shown: Vec<Shown<'a>>,
 ) -> Result<Vec<Shown<'a>>, AllocError>
     ensures { IfOk result (λ reports. map seen reports.items
-        ≡ told_in protocol text.now (map seen shown.entry.items)) }
+        ≡ protocol_reports protocol text.now (map seen shown.entry.items)) }
 {
     match protocol {
         Protocol::Scalars => Ok(shown),

@@ -1,7 +1,7 @@
 //! The reply to a removal of versions.
 ghost use Rattle.std.specs.Prelude.{◌≡◌, ℕ, List, IfOk};
 ghost use Rattle.reply_writing.specs.declared.told.Told.TheVariants as tells;
-ghost use Rattle.session_replies.specs.Spelling.{spelling};
+ghost use Rattle.session_replies.specs.Spelling.{reply_spelling};
 ghost use Rattle.session_replies.specs.Removed.{IsRisen};
 
 use pide_base::VersionId;
@@ -10,7 +10,7 @@ use std::alloc::{AllocError, Global};
 /// The reply to a removal of the versions of these ids, which tells them rising, each once.
 pub fn removed_versions(alloc: Global, ids: &[VersionId]) -> Result<Vec<u8>, AllocError>
     ensures { (risen : List ℕ) → IsRisen ids.now risen
-        → IfOk result (λ bytes. bytes.items ≡ spelling (tells.Removed risen)) }
+        → IfOk result (λ bytes. bytes.items ≡ reply_spelling (tells.Removed risen)) }
 {
     let risen = rising(alloc, ids)?;
     reply_writing::removed(alloc, &risen)

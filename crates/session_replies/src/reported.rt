@@ -1,8 +1,8 @@
 //! The reply that tells what came of a part.
 ghost use Rattle.std.specs.Prelude.{◌≡◌, IfOk};
 ghost use Rattle.reply_writing.specs.declared.told.Told.TheVariants as tells;
-ghost use Rattle.session_rules.specs.Shown.{told_in};
-ghost use Rattle.session_replies.specs.Spelling.{spelling};
+ghost use Rattle.session_rules.specs.Shown.{protocol_reports};
+ghost use Rattle.session_replies.specs.Spelling.{reply_spelling};
 
 use message_values::Protocol;
 use pide_base::Part;
@@ -20,7 +20,7 @@ pub fn report(
     reports: &[Report],
 ) -> Result<Vec<u8>, AllocError>
     ensures { IfOk result (λ bytes. bytes.items
-        ≡ spelling (tells.Report part (told_in protocol source.now reports.now))) }
+        ≡ reply_spelling (tells.Report part (protocol_reports protocol source.now reports.now))) }
 {
     match protocol {
         Protocol::Scalars => { reply_writing::report(alloc, part, Reports::Own(reports)) }

@@ -18,7 +18,7 @@ use Rattle.buffer_laws.specs.buffer_rules_below.Preparing as buffer
 use Rattle.buffer_laws.specs.core_rules_below.declared.event.Event.{Event}
 use Rattle.buffer_laws.specs.core_rules_below.declared.event.Event.TheVariants as event
 use Rattle.buffer_laws.specs.core_rules_below.Assigned.{is_assigned}
-use Rattle.buffer_laws.specs.core_rules_below.Doc.{Doc, doc, assignment_of, updated}
+use Rattle.buffer_laws.specs.core_rules_below.Doc.{Doc, doc, assignment_of, updated_doc}
 use Rattle.buffer_laws.specs.core_rules_below.Legal.{IsLegal as IsLegalList, MayFollow as MayFollowList}
 use Rattle.buffer_laws.specs.core_rules_below.Standing.{has_ended, is_open}
 use Rattle.buffer_laws.specs.core_rules_below.Updates.{FitsUpdate}
@@ -31,8 +31,9 @@ pub record FitLaws : Type 0 where
   pub fits : (b b' : Buffer) (d : Doc) (live id : ℕ) (asked : Asked) → Agrees b d → prepared b live asked ≡ Ok b' → d.last < id
       → (assignment_of d b'.nodes b'.document.blobs).next ≤ id_end → FitsUpdate d id b'.nodes b'.document.blobs
   pub kept : (b b' : Buffer) (d : Doc) (live id : ℕ) (asked : Asked) (opened : ℕ → Bool) → Agrees b d → prepared b live asked ≡ Ok b'
-      → Agrees b' (updated opened d id b'.nodes b'.document.blobs (assignment_of d b'.nodes b'.document.blobs))
-  pub begins : Agrees buffer.empty start_doc
+      → Agrees b' (updated_doc opened d id b'.nodes b'.document.blobs (assignment_of d b'.nodes
+      b'.document.blobs))
+  pub begins : Agrees buffer.empty_buffer start_doc
 
 module _ {S : Type 0} (l : Lang S) (laws : FitLaws) where
   -- a session's events are legal, and both documents agree
@@ -58,7 +59,7 @@ module _ {S : Type 0} (l : Lang S) (laws : FitLaws) where
   }
 
   pub update_sound : (s after : Session) (version : ℕ) (asked : Asked) → has_ended s.events ≡ false → IsSound s
-      → updating.updated l s version asked ≡ Ok after → IsSound after
+      → updating.updated_session l s version asked ≡ Ok after → IsSound after
   update_sound s after version asked open_ sound e = go (nat_lt (document l s).last version) refl e
     where
       made : (b : Buffer) → prepared s.buffer (length (document l s).live) asked ≡ Ok b → (document l s).last < version

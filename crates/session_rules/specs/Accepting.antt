@@ -8,7 +8,7 @@ use Rattle.message_values.specs.declared.refusal.Refusal.TheVariants.{UnknownFun
 use Rattle.buffer_laws.specs.buffer_rules_below.Trying.{◌>>=◌}
 use Rattle.session_rules.specs.declared.service.Service.{Service}
 use Rattle.session_rules.specs.Session.{Session}
-use Rattle.session_rules.specs.Updating.{updated, cancelled, removed}
+use Rattle.session_rules.specs.Updating.{updated_session, cancelled, removed}
 use Rattle.session_rules.specs.Looking.{looked_at, settles, claims, finishes}
 
 -- the session after a message, or why it is refused. Theories of a build are no message of a
@@ -16,7 +16,7 @@ use Rattle.session_rules.specs.Looking.{looked_at, settles, claims, finishes}
 abbrev pub accepted : {S : Type 0} → Lang S → Service → Session → EditorMessage
     → Result Session Refusal
 accepted l service s (asks.Update version items blobs) =
-    updated l s version (record { items = items; blobs = blobs })
+    updated_session l s version (record { items = items; blobs = blobs })
 accepted l service s (asks.Snapshot version node edits) =
     looked_at l s version node edits >>= λ looked. Ok s
 accepted l service s (asks.Cancel exec) = cancelled l s exec

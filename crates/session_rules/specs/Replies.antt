@@ -30,7 +30,7 @@ use Rattle.session_rules.specs.Accepting.{accepted}
 use Rattle.session_rules.specs.Looking.{Looked, looked_at, settles}
 use Rattle.session_rules.specs.History.{session}
 use Rattle.session_rules.specs.Steps.{Due, Claims, due}
-use Rattle.session_rules.specs.Shown.{shown, told_in}
+use Rattle.session_rules.specs.Shown.{finished_reports, protocol_reports}
 
 -- the nodes whose rows are others in the new version, as a reply tells them
 abbrev pub rows_told : Version → Version → List NodeRows
@@ -47,7 +47,8 @@ is_outdated (edit ∷ edits) = true
 -- what a snapshot tells
 abbrev pub markup : {S : Type 0} → Lang S → Session → ℕ → List ℕ → List Edit → Looked → Told
 markup l s id name edits looked = tells.Markup id name
-    (told_in s.protocol looked.text (shown l s.events looked.version name edits))
+    (protocol_reports s.protocol looked.text
+    (finished_reports l s.events looked.version name edits))
     (pending l s.events (document l s) looked.version name) (is_outdated edits)
 
 -- a cancellation has an effect where a part is unfinished and the execution wasn't cancelled
@@ -62,19 +63,19 @@ live_among d ids = filter (has ids) (map (λ live. live.id) d.live)
 
 -- what is told of a message that is not refused, by the session before it and that after it; what
 -- a worker is told to do is told by the entry that follows
-abbrev pub told_of : {S : Type 0} → Lang S → Service → Session → Session → EditorMessage
+abbrev pub message_replies : {S : Type 0} → Lang S → Service → Session → Session → EditorMessage
     → Result (List Told) Refusal
-told_of l service s s' (asks.Update version items blobs) =
+message_replies l service s s' (asks.Update version items blobs) =
     Ok (tells.Assign version (rows_told (document l s).tip (document l s').tip) ∷ [])
-told_of l service s s' (asks.Snapshot version node edits) =
+message_replies l service s s' (asks.Snapshot version node edits) =
     looked_at l s version node edits >>= λ looked. Ok (markup l s version node edits looked ∷ [])
-told_of l service s s' (asks.Cancel exec) = Ok (cancelling l s exec ∷ [])
-told_of l service s s' (asks.RemoveVersions versions) =
+message_replies l service s s' (asks.Cancel exec) = Ok (cancelling l s exec ∷ [])
+message_replies l service s s' (asks.RemoveVersions versions) =
     Ok (tells.Removed (live_among (document l s) versions) ∷ [])
-told_of l service s s' (asks.Settle id) = settles l service s id >>= λ version.
+message_replies l service s s' (asks.Settle id) = settles l service s id >>= λ version.
     Ok (tells.Settled id (stuck_in l s.events (document l s) version) ∷ [])
-told_of l service s s' (asks.Protocol protocol) = Ok (tells.Protocol protocol ∷ [])
-told_of l service s s' other = Ok []
+message_replies l service s s' (asks.Protocol protocol) = Ok (tells.Protocol protocol ∷ [])
+message_replies l service s s' other = Ok []
 
 -- a refusal is told by its number
 abbrev pub or_refusal : Result (List Told) Refusal → List Told
@@ -85,11 +86,11 @@ or_refusal (Err reason) = tells.Refused reason ∷ []
 abbrev pub told_to : {S : Type 0} → Lang S → Service → Session → Result EditorMessage Refusal
     → List Told
 told_to l service s read = or_refusal (read >>= λ message.
-    accepted l service s message >>= λ after. told_of l service s after message)
+    accepted l service s message >>= λ after. message_replies l service s after message)
 
 -- what came of a finished part, at places of its command's source
 abbrev pub report_of : {S : Type 0} → Lang S → Session → Part → Told
-report_of l s part = tells.Report part (told_in s.protocol
+report_of l s part = tells.Report part (protocol_reports s.protocol
     (option_map_or (λ home. home.source) (numbered (document l s).homes part.exec) [])
     (option_map_or (λ reports. reports) (reports_of l (document l s).homes part) []))
 
@@ -99,12 +100,12 @@ claim_told part (Claims w) = tells.Claimed w part ∷ []
 claim_told part other = []
 
 -- what is told of an entry after a history
-abbrev pub told : {S : Type 0} → Lang S → Service → List Heard → Heard → List Told
-told l service h (Message read) = told_to l service (session l service h) read
-told l service h (Claimed who part) = claim_told part (due l service h)
-told l service h (Finished who part) = report_of l (session l service h) part ∷ []
-told l service h (Dropped who part) = tells.Dropped part ∷ []
-told l service h Ended = []
+abbrev pub entry_replies : {S : Type 0} → Lang S → Service → List Heard → Heard → List Told
+entry_replies l service h (Message read) = told_to l service (session l service h) read
+entry_replies l service h (Claimed who part) = claim_told part (due l service h)
+entry_replies l service h (Finished who part) = report_of l (session l service h) part ∷ []
+entry_replies l service h (Dropped who part) = tells.Dropped part ∷ []
+entry_replies l service h Ended = []
 
 -- the bytes of replies
 abbrev pub bytes_of : List Told → List ℕ
@@ -113,4 +114,4 @@ bytes_of = flat_map (λ t. plain_spelling (reply_chunks t))
 -- all that is written, entry by entry in order
 abbrev pub replies : {S : Type 0} → Lang S → Service → List Heard → List ℕ
 replies l service [] = []
-replies l service (e ∷ h) = replies l service h ++ bytes_of (told l service h e)
+replies l service (e ∷ h) = replies l service h ++ bytes_of (entry_replies l service h e)

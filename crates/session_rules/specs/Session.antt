@@ -18,8 +18,14 @@ pub record Session : Type 0 where
   pub called : Bool
 
 -- before anything happened
-abbrev pub empty : Session
-empty = record { buffer = buffer.empty; events = []; protocol = Scalars; called = false }
+abbrev pub empty_session : Session
+empty_session = record {
+  buffer = buffer.empty_buffer;
+  events = [];
+  protocol = Scalars;
+  called =
+      false;
+}
 
 -- the versions and the executions
 abbrev pub document : {S : Type 0} → Lang S → Session → Doc

@@ -10,7 +10,7 @@ use Rattle.reply_writing.specs.declared.told.Told.{Told}
 use Rattle.buffer_laws.specs.core_rules_below.Small.{small}
 use Rattle.session_rules.specs.declared.service.Service.TheVariants.{Workers, Script}
 use Rattle.session_rules.specs.Heard.{Heard, Message}
-use Rattle.session_rules.specs.Replies.{told}
+use Rattle.session_rules.specs.Replies.{entry_replies}
 
 -- a message that makes a version of these items
 abbrev pub update : ℕ → List Item → Heard
@@ -49,8 +49,8 @@ two_commands = record {
 
 -- what is told of an entry by a session without workers
 abbrev pub alone : List Heard → Heard → List Told
-alone h e = told small (Workers 0) h e
+alone h e = entry_replies small (Workers 0) h e
 
 -- and by one that follows a script
 abbrev pub scripted : List Heard → Heard → List Told
-scripted h e = told small Script h e
+scripted h e = entry_replies small Script h e

@@ -26,8 +26,8 @@ with_buffer s version buffer = with_event (record s { buffer = buffer })
     (event.Update version buffer.nodes buffer.document.blobs)
 
 -- an update: its version is above all before, the editor's document takes it, and ids suffice
-abbrev pub updated : {S : Type 0} → Lang S → Session → ℕ → Asked → Result Session Refusal
-updated l s version asked = if nat_lt (document l s).last version
+abbrev pub updated_session : {S : Type 0} → Lang S → Session → ℕ → Asked → Result Session Refusal
+updated_session l s version asked = if nat_lt (document l s).last version
     then (prepared s.buffer (length (document l s).live) asked >>= λ buffer.
     if runs_out (document l s) buffer then Err Limit else Ok (with_buffer s version buffer))
     else Err VersionNotHigher

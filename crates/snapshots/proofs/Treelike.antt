@@ -8,11 +8,11 @@ use Rattle.text_edits.specs.declared.edit.Edit.{Edit}
 use Rattle.text_edits.specs.Offsets.{convert_list}
 use Rattle.report_markup.specs.declared.report.Report.{Report}
 use Rattle.report_markup.specs.Ranges.{AreTreelike, IsTreelike, moved_range, moved}
-use Rattle.report_markup.specs.Sorting.{in_order}
+use Rattle.report_markup.specs.Sorting.{ordered_reports}
 use Rattle.report_markup.proofs.KnownOrders.{All-order}
 use Rattle.snapshots.specs.declared.part.AssignedPart.{AssignedPart}
 use Rattle.snapshots.specs.Converted.{converted, left_range, at_range, left_by}
-use Rattle.snapshots.specs.Gathered.{reported, gathered, shown}
+use Rattle.snapshots.specs.Gathered.{reported, gathered, snapshot_reports}
 use Rattle.snapshots.specs.Nested.{LieInside, Agree, StandSo, AreNested}
 
 All-flat_map : {X Y : Type 0} (P : Y → Type 0) (f : X → List Y) (xs : List X)
@@ -122,10 +122,10 @@ gathered_so parts n =
     parts (both LieInside (StandSo p) parts n.inside hp.1)))
     parts (both LieInside (λ p. AllByRecursion (StandSo p) parts) parts n.inside n.so))
 
-ordered_so : (xs : List Report) → Between xs xs → Between (in_order xs) (in_order xs)
+ordered_so : (xs : List Report) → Between xs xs → Between (ordered_reports xs) (ordered_reports xs)
 ordered_so xs h =
-    All-order (λ a. AllByRecursion (λ b. AreTreelike a.range b.range) (in_order xs)) xs
-    (each-so (λ a. AllByRecursion (λ b. AreTreelike a.range b.range) xs) (λ a. AllByRecursion (λ b. AreTreelike a.range b.range) (in_order xs))
+    All-order (λ a. AllByRecursion (λ b. AreTreelike a.range b.range) (ordered_reports xs)) xs
+    (each-so (λ a. AllByRecursion (λ b. AreTreelike a.range b.range) xs) (λ a. AllByRecursion (λ b. AreTreelike a.range b.range) (ordered_reports xs))
     (λ a row. All-order (λ b. AreTreelike a.range b.range) xs row) xs h)
 
 module _ (mono : (edits : List Edit) (i j : ℕ) → i ≤ j → convert_list edits i ≤ convert_list edits j) where
@@ -139,5 +139,6 @@ module _ (mono : (edits : List Edit) (i j : ℕ) → i ≤ j → convert_list ed
       (λ b k. stays mono edits a.range b.range k) xs row))
       xs h)
 
-  pub shown_so : (edits : List Edit) (parts : List AssignedPart) → AreNested parts → IsTreelike (shown edits parts)
+  pub shown_so : (edits : List Edit) (parts : List AssignedPart) → AreNested parts
+      → IsTreelike (snapshot_reports edits parts)
   shown_so edits parts n = ordered_so (left_by edits (gathered parts)) (left_so edits (gathered parts) (gathered_so parts n))

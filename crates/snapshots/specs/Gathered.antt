@@ -5,7 +5,7 @@ use Rattle.std.specs.Borrow.{Bor}
 use Rattle.text_edits.specs.declared.edit.Edit.{Edit}
 use Rattle.report_markup.specs.declared.report.Report.{Report}
 use Rattle.report_markup.specs.Ranges.{moved, moved_range}
-use Rattle.report_markup.specs.Sorting.{in_order}
+use Rattle.report_markup.specs.Sorting.{ordered_reports}
 use Rattle.snapshots.specs.declared.part.AssignedPart.{AssignedPart}
 use Rattle.snapshots.specs.Converted.{left_by, Fits}
 
@@ -20,8 +20,8 @@ gathered parts = flat_map (λ p. map (moved p.span.start) (reported p.reports)) 
 
 -- what a snapshot shows: the reports of the finished parts, as the edits leave them, in report
 -- order (after `Document.Snapshot` of Isabelle/Scala)
-abbrev pub shown : List Edit → List AssignedPart → List Report
-shown edits parts = in_order (left_by edits (gathered parts))
+abbrev pub snapshot_reports : List Edit → List AssignedPart → List Report
+snapshot_reports edits parts = ordered_reports (left_by edits (gathered parts))
 
 -- a report's range can be moved on and converted
 abbrev pub Movable : List Edit → ℕ → Report → Type 0

@@ -4,10 +4,10 @@ ghost use Rattle.std.specs.List.{sum_by, AllByRecursion};
 ghost use Rattle.std.specs.List.Sorted.{IsPermutation};
 ghost use Rattle.report_markup.specs.declared.report.Report.{Report};
 ghost use Rattle.report_markup.specs.Ranges.{moved};
-ghost use Rattle.report_markup.specs.Sorting.{in_order};
+ghost use Rattle.report_markup.specs.Sorting.{ordered_reports};
 ghost use Rattle.snapshots.specs.Seen.{seen, CountsSame};
 ghost use Rattle.snapshots.specs.Converted.{left_range, left_by, Fits};
-ghost use Rattle.snapshots.specs.Gathered.{reported, shown, Movable, AllMovable};
+ghost use Rattle.snapshots.specs.Gathered.{reported, snapshot_reports, Movable, AllMovable};
 
 use crate::part::AssignedPart;
 use crate::shown::Shown;
@@ -114,7 +114,7 @@ fn put_in_order<'a>(reports: Vec<Shown<'a>>) -> Result<Vec<Shown<'a>>, AllocErro
     ensures { (all : List Report)
         → ((measure : Report → ℕ)
         → sum_by measure (map seen reports.entry.items) ≡ sum_by measure all)
-        → IfOk result (λ ordered. map seen ordered.items ≡ in_order all) }
+        → IfOk result (λ ordered. map seen ordered.items ≡ ordered_reports all) }
 {
     one_order();
     let mut reports = reports;
@@ -125,7 +125,7 @@ fn put_in_order<'a>(reports: Vec<Shown<'a>>) -> Result<Vec<Shown<'a>>, AllocErro
 /// The reports in report order, by the ranges where they are shown.
 pub fn in_report_order<'a>(reports: Vec<Shown<'a>>) -> Result<Vec<Shown<'a>>, AllocError>
     ensures { IfOk result (λ ordered. map seen ordered.items
-        ≡ in_order (map seen reports.entry.items)) }
+        ≡ ordered_reports (map seen reports.entry.items)) }
 {
     put_in_order(reports)
 }
@@ -137,7 +137,8 @@ pub(crate) fn gather<'a>(
     edits: &[Edit],
 ) -> Result<Vec<Shown<'a>>, AllocError>
     requires { AllMovable edits.now parts.now }
-    ensures { IfOk result (λ reports. map seen reports.items ≡ shown edits.now parts.now) }
+    ensures { IfOk result (λ reports. map seen reports.items ≡ snapshot_reports edits.now
+        parts.now) }
 {
     let mut reports = Vec::new(alloc);
     let mut last = Last {

@@ -3,7 +3,7 @@ ghost use Rattle.std.specs.Prelude.{List};
 ghost use Rattle.text_edits.specs.declared.edit.Edit.{Edit};
 ghost use Rattle.report_markup.specs.Ranges.{IsTreelike};
 ghost use Rattle.snapshots.specs.declared.part.AssignedPart.{AssignedPart};
-ghost use Rattle.snapshots.specs.Gathered.{shown};
+ghost use Rattle.snapshots.specs.Gathered.{snapshot_reports};
 ghost use Rattle.snapshots.specs.Nested.{AreNested};
 
 use text_edits::places_stay_in_order;
@@ -12,7 +12,7 @@ use text_edits::places_stay_in_order;
 /// range, nested or disjoint, whatever the edits: a markup tree can have them all.
 pub fn shown_stays_treelike()
     ensures { (edits : List Edit) (parts : List AssignedPart) → AreNested parts
-        → IsTreelike (shown edits parts) }
+        → IsTreelike (snapshot_reports edits parts) }
 {
     places_stay_in_order();
 }

@@ -1,7 +1,7 @@
 //! Taking a snapshot.
 ghost use Rattle.std.specs.Prelude.{◌≡◌, ◌≢◌, ◌↔◌, [], map, IfOk, IsTrue};
 ghost use Rattle.snapshots.specs.Seen.{seen};
-ghost use Rattle.snapshots.specs.Gathered.{shown, AllMovable};
+ghost use Rattle.snapshots.specs.Gathered.{snapshot_reports, AllMovable};
 ghost use Rattle.snapshots.specs.Pending.{IsPending};
 
 use crate::content::Snapshot;
@@ -20,7 +20,8 @@ pub fn snapshot<'a>(
     edits: &[Edit],
 ) -> Result<Snapshot<'a>, AllocError>
     requires { AllMovable edits.now parts.now }
-    ensures reports { IfOk result (λ s. map seen s.reports.items ≡ shown edits.now parts.now) }
+    ensures reports { IfOk result (λ s. map seen s.reports.items ≡ snapshot_reports edits.now
+        parts.now) }
     ensures pending { IfOk result (λ s. IsPending parts.now s.pending.items) }
     ensures outdated { IfOk result (λ s. IsTrue s.outdated ↔ (edits.now ≢ [])) }
 {

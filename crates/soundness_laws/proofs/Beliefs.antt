@@ -23,7 +23,7 @@ use Rattle.session_rules.specs.declared.service.Service.{Service}
 use Rattle.session_rules.specs.Heard.{Heard}
 use Rattle.session_rules.specs.History.{session}
 use Rattle.session_rules.specs.Session.{Session, document}
-use Rattle.session_rules.specs.Shown.{placed}
+use Rattle.session_rules.specs.Shown.{placed_reports}
 use Rattle.session_laws.proofs.KnownWaited.{live_at}
 use Rattle.isar_rules.specs.Isar.{isar}
 use Rattle.isar_rules.specs.Kept.{errors_in}
@@ -86,7 +86,7 @@ module _ (laws : Laws) (service : Service) (h : List Heard) (legal : IsLegalList
   sound_told plain whole tells = sound_shown (λ q n needs at. record {
     whole = whole q n needs at;
     checked = none_told service h id v live plain n (tells q n needs at);
-    clean = subst (λ ps. errors_in (flat_map placed ps) ≡ [])
+    clean = subst (λ ps. errors_in (flat_map placed_reports ps) ≡ [])
         (sym (of_version (λ x. parts_shown isar s.events (document isar s) x n ≡ scratch_shown isar s.events x n)
         (document isar s).live id v live
         (λ k one is. laws.shown s.events k one n legal is))) (clean_told service h id v live plain n (tells q n needs at));

@@ -24,7 +24,7 @@ use Rattle.core_rules.specs.Scratch.{Run, final, run_from, scratch, scratch_at, 
 use Rattle.core_rules.specs.Settings.{Setting, state_behind}
 use Rattle.core_rules.specs.Shown.{parts_shown, scratch_shown}
 use Rattle.core_rules.specs.Sources.{HasHome}
-use Rattle.session_rules.specs.Shown.{placed}
+use Rattle.session_rules.specs.Shown.{placed_reports}
 use Rattle.session_laws.specs.Promises.{are_all_shown}
 use Rattle.session_laws.proofs.KnownExact.{all_seen}
 use Rattle.isar_rules.specs.declared.state.State.{State}
@@ -102,10 +102,12 @@ module _ (laws : Laws) (h : List Event) (legal : IsLegal isar h) (k : ℕ) (live
       let long : length one.1.commands ≡ length is.pair.1.entries =
       ap (λ (r : Run State). length r.commands) is.run ∙ length_run is.pair.1 v.blobs is.pair.1.entries is.begins in
       let within : length ss ≡ length (entries_in v name) = ap length commands ∙ long ∙ sym (ap length entries) in
-      let clean : errors_in (flat_map placed (scratch_shown isar h v name)) ≡ [] =
-      subst (λ ps. errors_in (flat_map placed ps) ≡ []) (laws.shown h k live name legal at) quiet.clean in
+      let clean : errors_in (flat_map placed_reports (scratch_shown isar h v name)) ≡ [] =
+      subst (λ ps. errors_in (flat_map placed_reports ps) ≡ [])
+      (laws.shown h k live name legal at) quiet.clean in
       subst AreClean commands (commands_clean h (entries_in v name) (rows_in v name) ss quiet.whole (omega (arith, within))
-      (seen_all name quiet.checked) (fine (flat_map placed (scratch_shown isar h v name)) clean))
+      (seen_all name quiet.checked) (fine (flat_map placed_reports (scratch_shown isar h v name))
+      clean))
 
   pub clean_from : (name : List ℕ) (p : ℕ) → place_of v.nodes name ≡ Some p → OfEachNeeded (IsQuiet h v) v p → AreCleanFrom v.nodes v.blobs p
   clean_from name p place quiet =

@@ -13,9 +13,9 @@ use Rattle.core_rules.specs.Scratch.{Run, Runs, begins_at, final, run_all, run_f
 use Rattle.isar_rules.specs.declared.state.State.{State}
 use Rattle.isar_rules.specs.Isar.{isar}
 use Rattle.isar_rules.specs.Kept.{errors_in}
-use Rattle.text_check.specs.OneText.{entries_of, markup_of, name_of, one_node, one_sheet, reported}
+use Rattle.text_check.specs.OneText.{entries_of, markup_of, text_name, one_node, one_sheet, reported}
 use Rattle.theory_laws.specs.Axioms.{IsAxiomOf}
-use Rattle.theory_laws.specs.Clean.{AreClean, told}
+use Rattle.theory_laws.specs.Clean.{AreClean, told_reports}
 use Rattle.theory_laws.specs.Facts.{FactsFollow}
 use Rattle.text_check.proofs.KnownOneNode.{order_one}
 use Rattle.soundness_laws.specs.Sound.{IsSound}
@@ -37,7 +37,8 @@ commands_clean node [] state f = tt
 commands_clean node (e ∷ es) state f =
     let s = set_in node [] e state in
     let others = flat_map (reported isar) (zip es (run_from isar node [] es (state_behind isar s))) in (
-      without_errors (told s) (unmoved e.range.start (told s) (front (reported isar (e, s)) others f)),
+      without_errors (told_reports s) (unmoved e.range.start (told_reports s) (front (reported
+          isar (e, s)) others f)),
       commands_clean node es (state_behind isar s) (behind (reported isar (e, s)) others f),
     )
 
@@ -74,7 +75,7 @@ module _ (name : List ℕ) (node : Node) where
 -- the only node of a text
 abbrev pub node_of : List ℕ → Node
 node_of text = cut (record { text = text; required = true; ranges = [] })
-    (aliases_at (uncut_all (one_sheet text)) 0).pairs (before_in [] (name_of text)) 1
+    (aliases_at (uncut_all (one_sheet text)) 0).pairs (before_in [] (text_name text)) 1
 
 -- its commands report no error
 pub text_fine : (text : List ℕ) → errors_in (markup_of isar text) ≡ []
@@ -83,4 +84,4 @@ text_fine text e = unordered (flat_map (reported isar) (zip (entries_of (one_nod
     (fine (markup_of isar text) e)
 
 pub sound_text : Alone → (text : List ℕ) → errors_in (markup_of isar text) ≡ [] → IsSound text
-sound_text alone text e = sound (name_of text) (node_of text) alone (text_fine text e)
+sound_text alone text e = sound (text_name text) (node_of text) alone (text_fine text e)

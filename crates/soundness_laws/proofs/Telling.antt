@@ -2,7 +2,7 @@
 use Rattle.std.proofs.Common.{◌≡◌, ℕ, false, List, [], ◌∷◌, Some, Result, Ok, Err, refl, sym, ap, subst, ◌∙◌}
 use Rattle.std.specs.List.{flat_map}
 use Rattle.report_markup.specs.declared.report.Report.{Report}
-use Rattle.report_markup.specs.Sorting.{in_order}
+use Rattle.report_markup.specs.Sorting.{ordered_reports}
 use Rattle.snapshots.specs.Converted.{left_by}
 use Rattle.core_tables.specs.Live.{version_of}
 use Rattle.exec_rules.specs.declared.version.Version.{Version}
@@ -17,7 +17,7 @@ use Rattle.session_rules.specs.History.{session}
 use Rattle.session_rules.specs.Looking.{Looked, looked_at}
 use Rattle.session_rules.specs.Replies.{markup, or_refusal}
 use Rattle.session_rules.specs.Session.{Session, document}
-use Rattle.session_rules.specs.Shown.{placed, shown, told_in}
+use Rattle.session_rules.specs.Shown.{placed_reports, finished_reports, protocol_reports}
 use Rattle.session_laws.proofs.KnownLooked.{seen_version}
 use Rattle.isar_rules.specs.Isar.{isar}
 use Rattle.isar_rules.specs.Kept.{errors_in}
@@ -59,14 +59,15 @@ module _ (service : Service) (h : List Heard) (id : ℕ) (v : Version) (live : v
       let none : pending isar s.events (document isar s) looked.0.version name ≡ [] = cc in
       subst (λ x. pending isar s.events (document isar s) x name ≡ []) version_is none
 
-  pub clean_told : errors_in (flat_map placed (scratch_shown isar s.events v name)) ≡ []
+  pub clean_told : errors_in (flat_map placed_reports (scratch_shown isar s.events v name)) ≡ []
   clean_told =
       let whole = looked.1.reply in
-      let reports : told_in s.protocol looked.0.text (shown isar s.events looked.0.version name []) ≡ tells_none.reports = cc in
-      let scalars : shown isar s.events looked.0.version name [] ≡ tells_none.reports =
-      ap (λ p. told_in p looked.0.text (shown isar s.events looked.0.version name [])) (sym plain) ∙ reports in
-      let there : shown isar s.events v name [] ≡ tells_none.reports =
-      subst (λ x. shown isar s.events x name [] ≡ tells_none.reports) version_is scalars in
-      let all : List Report = flat_map placed (scratch_shown isar s.events v name) in
+      let reports : protocol_reports s.protocol looked.0.text (finished_reports isar s.events looked.0.version name []) ≡ tells_none.reports = cc in
+      let scalars : finished_reports isar s.events looked.0.version name [] ≡ tells_none.reports =
+      ap (λ p. protocol_reports p looked.0.text (finished_reports isar s.events looked.0.version name [])) (sym plain) ∙ reports in
+      let there : finished_reports isar s.events v name [] ≡ tells_none.reports =
+      subst (λ x. finished_reports isar s.events x name [] ≡ tells_none.reports) version_is
+      scalars in
+      let all : List Report = flat_map placed_reports (scratch_shown isar s.events v name) in
       without_errors all (unleft all (unordered (left_by [] all)
-      (fine (in_order (left_by [] all)) (ap errors_in there ∙ tells_none.clean))))
+      (fine (ordered_reports (left_by [] all)) (ap errors_in there ∙ tells_none.clean))))

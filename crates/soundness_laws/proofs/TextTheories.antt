@@ -11,7 +11,7 @@ use Rattle.core_rules.specs.Scratch.{Run, final, scratch, scratch_at}
 use Rattle.isar_rules.specs.declared.state.State.{State}
 use Rattle.isar_rules.specs.Isar.{isar}
 use Rattle.isar_rules.specs.Kept.{errors_in}
-use Rattle.text_check.specs.OneText.{markup_of, name_of}
+use Rattle.text_check.specs.OneText.{markup_of, text_name}
 use Rattle.theory_laws.specs.Clean.{AreClean}
 use Rattle.theory_laws.specs.Imports.{AreCleanFrom, Needs, itself}
 use Rattle.theory_laws.specs.Theories.{IsStatedFrom, IsStatedIn, IsTheoryOf}
@@ -63,7 +63,8 @@ module _ (just : Just) (name : List ℕ) (node : Node) where
 
 pub text_theory : Just → (text : List ℕ) → errors_in (markup_of isar text) ≡ [] → IsTheory text
 text_theory just text e = (
-  run (name_of text) (node_of text),
-  only (name_of text) (node_of text),
-  λ some. node_theory just (name_of text) (node_of text) (clean (name_of text) (node_of text) (text_fine text e)) some,
+  run (text_name text) (node_of text),
+  only (text_name text) (node_of text),
+  λ some. node_theory just (text_name text) (node_of text)
+      (clean (text_name text) (node_of text) (text_fine text e)) some,
 )

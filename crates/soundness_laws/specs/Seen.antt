@@ -12,8 +12,8 @@ use Rattle.core_rules.specs.Shown.{parts_shown, pending}
 use Rattle.core_rules.specs.Stuck.{is_settled, stuck_in}
 use Rattle.session_rules.specs.declared.service.Service.{Service}
 use Rattle.session_rules.specs.Heard.{Heard, Message}
-use Rattle.session_rules.specs.Replies.{told}
-use Rattle.session_rules.specs.Shown.{placed}
+use Rattle.session_rules.specs.Replies.{entry_replies}
+use Rattle.session_rules.specs.Shown.{placed_reports}
 use Rattle.isar_rules.specs.Isar.{isar}
 use Rattle.isar_rules.specs.Kept.{errors_in}
 use Rattle.theory_laws.specs.Imports.{Needs}
@@ -28,7 +28,8 @@ HasNoPending h v name = pending isar h (doc isar h) v name ≡ []
 
 -- no error is among what is shown of the node, its prints included
 abbrev pub ShowsNoError : List Event → Version → List ℕ → Type 0
-ShowsNoError h v name = errors_in (flat_map placed (parts_shown isar h (doc isar h) v name)) ≡ []
+ShowsNoError h v name = errors_in (flat_map placed_reports (parts_shown isar h (doc isar h) v
+    name)) ≡ []
 
 -- all of the node is checked, and no error is shown
 pub record IsQuiet (h : List Event) (v : Version) (name : List ℕ) : Type 0 where
@@ -44,7 +45,7 @@ pub record HasSettled (h : List Event) (v : Version) : Type 0 where
 -- a snapshot of the node, with no edits pending, would tell no error now, and nothing as pending
 pub record TellsNoError (service : Service) (h : List Heard) (id : ℕ) (name : List ℕ) : Type 0 where
   pub reports : List Report
-  pub reply : told isar service h (Message (Ok (asks.Snapshot id name [])))
+  pub reply : entry_replies isar service h (Message (Ok (asks.Snapshot id name [])))
       ≡ tells.Markup id name reports [] false ∷ []
   pub clean : errors_in reports ≡ []
 

@@ -3,7 +3,7 @@ use Rattle.std.specs.Prelude.{◌≡◌, ℕ, ◌<◌, List, [], ◌∷◌, leng
 use Rattle.core_rules.specs.Scratch.{Run, final, scratch}
 use Rattle.isar_rules.specs.declared.state.State.{State}
 use Rattle.isar_rules.specs.Isar.{isar}
-use Rattle.text_check.specs.OneText.{name_of, one_node}
+use Rattle.text_check.specs.OneText.{text_name, one_node}
 use Rattle.theory_laws.specs.Axioms.{IsAxiomOf}
 use Rattle.theory_laws.specs.Facts.{FactsFollow}
 use Rattle.theory_laws.specs.Theories.{IsStatedIn, IsTheoryOf}
@@ -21,4 +21,4 @@ IsSound text = (run : Run State) × ComesTo text run
 -- those that the commands state
 abbrev pub IsTheory : List ℕ → Type 0
 IsTheory text = (run : Run State) × ComesTo text run × (0 < length run.commands
-    → IsTheoryOf (IsStatedIn (name_of text) run.commands) (final isar run))
+    → IsTheoryOf (IsStatedIn (text_name text) run.commands) (final isar run))

@@ -5,7 +5,7 @@ use Rattle.nj_formula.specs.Meaning.{meaning}
 use Rattle.theory_ctx.specs.Answers.{Answer, found, unknown, ambiguous}
 use Rattle.theory_ctx.specs.declared.local.Local.{Local}
 use Rattle.theory_ctx.specs.Locals.{Scoped, local_of, local_first, looked_in}
-use Rattle.theory_ctx.specs.Looked.{parts_of, looked}
+use Rattle.theory_ctx.specs.Looked.{name_parts, looked}
 use Rattle.proof_terms.specs.declared.fault.TermFault.TheVariants.{ProvesAnother}
 use Rattle.proof_checks.specs.Checks.{cited}
 use Rattle.proof_checks.specs.Statements.{is_same}
@@ -41,4 +41,5 @@ module _ (name : List ℕ) (goal other : Formula) (same : meaning goal ≡ meani
   of_parts answer (x ∷ y ∷ parts) ones others alike = answered answer
 
   pub cited_alike : (scope : Scoped) (locals : List Local) → SayAlike scope.locals locals → cited name goal (looked_in scope name) ≡ cited name other (looked_in (record scope { locals = locals }) name)
-  cited_alike scope locals alike = of_parts (looked scope.facts scope.theory name) (parts_of name) scope.locals locals alike
+  cited_alike scope locals alike = of_parts (looked scope.facts scope.theory name)
+      (name_parts name) scope.locals locals alike

@@ -16,7 +16,7 @@ use Rattle.proof_state.specs.declared.levels.Levels.TheVariants.{Closed, Prove, 
 use Rattle.proof_state.specs.Blocks.{achieved}
 use Rattle.proof_state.specs.Fits.{fitting}
 use Rattle.proof_state.specs.Fresh.{is_taken}
-use Rattle.proof_state.specs.Steps.{Command, closed, shown, proved, stated, step, proof, fix, assume, have, show, next, qed, by}
+use Rattle.proof_state.specs.Steps.{Command, closed_levels, shown_levels, proved, stated_levels, step, proof, fix, assume, have, show, next, qed, by}
 use Rattle.report_markup.specs.declared.report.Report.{Report}
 use Rattle.isar_rules.specs.declared.shape.Shape.{Shape}
 use Rattle.isar_rules.specs.declared.shape.Shape.TheVariants as shape
@@ -25,7 +25,7 @@ use Rattle.isar_rules.specs.declared.state.Theory.{Theory}
 use Rattle.isar_rules.specs.declared.state.Place.{Place}
 use Rattle.isar_rules.specs.Effects.{Effect}
 use Rattle.isar_rules.specs.Errors.{and_then, formula_in}
-use Rattle.isar_rules.specs.Proofs.{Ordered, text_of_name, ordered, levels_or, effect_of, stands, proof_made}
+use Rattle.isar_rules.specs.Proofs.{Ordered, text_of_name, ordered_command, levels_or, effect_of, stands, proof_made}
 use Rattle.isar_rules.proofs.KnownTried.{IfTried, chained}
 use Rattle.suggest_laws.specs.Citable.{IsFree}
 use Rattle.suggest_laws.specs.CitableStates.{CitableBlock, CitablePurpose, CitableFrame, CitableLevels, CitablePlace}
@@ -48,7 +48,7 @@ module _ (aliases : List (List ℕ)) where
   achieved_citable (P.Have name) goal block free readable citable = (citable.0, ((free, readable), citable.1))
   achieved_citable (P.Show place) goal block free readable citable = citable
 
-  closed_citable : (goal : Formula) (around : List Frame) → IsReadable goal → Frames around → CitableLevels aliases (closed goal around)
+  closed_citable : (goal : Formula) (around : List Frame) → IsReadable goal → Frames around → CitableLevels aliases (closed_levels goal around)
   closed_citable goal [] readable all = tt
   closed_citable goal (frame ∷ around) readable all = (achieved_citable frame.purpose goal frame.block all.0.1 readable all.0.0, all.1)
 
@@ -62,11 +62,11 @@ module _ (aliases : List (List ℕ)) where
   proved_citable by goal around readable all = closed_citable goal around readable all
   proved_citable _ goal around readable all = tt
 
-  shown_citable : (c : Formula) (block : Block) (around : List Frame) (fits : Option ℕ) → IsReadable c → CitableBlock aliases block → Frames around → IfReached (shown c block around fits)
+  shown_citable : (c : Formula) (block : Block) (around : List Frame) (fits : Option ℕ) → IsReadable c → CitableBlock aliases block → Frames around → IfReached (shown_levels c block around fits)
   shown_citable c block around (Some place) readable citable all = (readable, ((citable, tt), all))
   shown_citable c block around None readable citable all = tt
 
-  stated_citable : (c : Command) (block : Block) (around : List Frame) → CommandCitable c → CitableBlock aliases block → Frames around → IfReached (stated c block around)
+  stated_citable : (c : Command) (block : Block) (around : List Frame) → CommandCitable c → CitableBlock aliases block → Frames around → IfReached (stated_levels c block around)
   unfolding CommandCitable
   stated_citable (fix facts x) block around command citable all = go (is_taken facts x block around)
     where
@@ -79,7 +79,8 @@ module _ (aliases : List (List ℕ)) where
   stated_citable next block around command citable all = ((citable.0, tt), all)
   stated_citable qed block around command citable all = go (length block.pending == 0)
     where
-      go : (b : Bool) → IfReached (cond b (Ok (closed block.goal around)) (Err Fault.SubgoalsRemain))
+      go : (b : Bool)
+          → IfReached (cond b (Ok (closed_levels block.goal around)) (Err Fault.SubgoalsRemain))
       go true = closed_citable block.goal around citable.0 all
       go false = tt
   stated_citable _ block around command citable all = tt
@@ -96,7 +97,7 @@ module _ (aliases : List (List ℕ)) where
   named_free None free = tt
   named_free (Some n) free = free
 
-  ordered_citable : (facts : List Fact) (s : Shape) (levels : Levels) → ShapeFree aliases s → IfTried OrderCitable (ordered facts s levels)
+  ordered_citable : (facts : List Fact) (s : Shape) (levels : Levels) → ShapeFree aliases s → IfTried OrderCitable (ordered_command facts s levels)
   unfolding CommandCitable
   ordered_citable facts (shape.Proof dash) (Prove goal around) free = tt
   ordered_citable facts shape.By (Prove goal around) free = tt
@@ -128,7 +129,7 @@ module _ (aliases : List (List ℕ)) where
   pub proof_citable : (theory : Theory) (name : List ℕ) (goal : Formula) (levels : Levels) (s : Shape) → CitableLevels aliases levels → ShapeFree aliases s
       → IfTried (λ e. CitablePlace aliases e.place) (proof_made theory name goal levels s)
   proof_citable theory name goal levels s citable free =
-      chained OrderCitable (λ (e : Effect). CitablePlace aliases e.place) (ordered theory.facts s levels) _ (ordered_citable theory.facts s levels free)
+      chained OrderCitable (λ (e : Effect). CitablePlace aliases e.place) (ordered_command theory.facts s levels) _ (ordered_citable theory.facts s levels free)
       (λ o command. reached o (step o.0 levels) (step_citable o.0 levels command citable))
     where
       reached : (o : Ordered) (r : Result Levels ProofFault) → IfReached r

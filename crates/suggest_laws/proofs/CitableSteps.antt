@@ -16,14 +16,14 @@ use Rattle.isar_rules.specs.declared.state.Theory.{Theory}
 use Rattle.isar_rules.specs.declared.state.State.{State}
 use Rattle.isar_rules.specs.declared.state.Place.{Place}
 use Rattle.isar_rules.specs.declared.state.Place.TheVariants as place
-use Rattle.isar_rules.specs.BlobLines.{Listed, facts_of}
+use Rattle.isar_rules.specs.BlobLines.{Listed, listed_facts}
 use Rattle.isar_rules.specs.Effects.{Effect, makes}
 use Rattle.isar_rules.specs.Errors.{Tried, and_then, formula_in, name_differs, name_taken}
-use Rattle.isar_rules.specs.Loads.{load_made, with_all, facts_or as listed_or, loaded}
+use Rattle.isar_rules.specs.Loads.{load_made, with_all, facts_or_bad_line as listed_or, loaded}
 use Rattle.isar_rules.specs.Reports.{def_report, formula_report}
 use Rattle.isar_rules.specs.Shapes.{shape_of}
-use Rattle.isar_rules.specs.Steps.{acted, tried, made_by, after_error, aliases_at, step}
-use Rattle.isar_rules.specs.Theories.{facts_or, begins, begun, has_fact, stated, with_fact}
+use Rattle.isar_rules.specs.Steps.{acted, tried, made_effect, after_error, aliases_at, step}
+use Rattle.isar_rules.specs.Theories.{facts_or_bad_import, begins, beginning_effect, has_fact, stated_effect, with_fact}
 use Rattle.isar_rules.proofs.KnownTried.{IfTried, chained, always}
 use Rattle.suggest_laws.specs.CitableStates.{CitablePlace, alias_names, IsCitableState}
 use Rattle.suggest_laws.proofs.ChainedTries.{in_readable}
@@ -35,18 +35,18 @@ module _ (aliases : List (List ℕ)) where
   abbrev Citable : Effect → Type 0
   Citable e = CitablePlace aliases e.place
 
-  begun_citable : (node : List ℕ) (given : Given) (keyword : Option (List ℕ)) (name : Spot) (imports : List Spot) → IfTried Citable (begun node given keyword name imports)
+  begun_citable : (node : List ℕ) (given : Given) (keyword : Option (List ℕ)) (name : Spot) (imports : List Spot) → IfTried Citable (beginning_effect node given keyword name imports)
   begun_citable node given keyword name imports = go (equal name.text node)
     where
       began : (k : Option (List ℕ)) (facts : List Fact) → IfTried Citable (begins name imports k facts)
       began (Some k) facts = tt
       began None facts = tt
 
-      go : (b : Bool) → IfTried Citable (cond b (and_then (facts_or given) (begins name imports keyword)) (Err name_differs))
-      go true = chained (λ _. ⊤) Citable (facts_or given) (begins name imports keyword) (always (facts_or given)) (λ facts h. began keyword facts)
+      go : (b : Bool) → IfTried Citable (cond b (and_then (facts_or_bad_import given) (begins name imports keyword)) (Err name_differs))
+      go true = chained (λ _. ⊤) Citable (facts_or_bad_import given) (begins name imports keyword) (always (facts_or_bad_import given)) (λ facts h. began keyword facts)
       go false = tt
 
-  stated_citable : (next : Formula → Place) (theory : Theory) (name quoted : Spot) → ((f : Formula) → IsReadable f → CitablePlace aliases (next f)) → IfTried Citable (stated next theory name quoted)
+  stated_citable : (next : Formula → Place) (theory : Theory) (name quoted : Spot) → ((f : Formula) → IsReadable f → CitablePlace aliases (next f)) → IfTried Citable (stated_effect next theory name quoted)
   stated_citable next theory name quoted each =
       chained IsReadable Citable (formula_in quoted.text) _ (in_readable quoted.text) (λ f readable. go f (each f readable) (has_fact name.text theory))
     where
@@ -57,7 +57,7 @@ module _ (aliases : List (List ℕ)) where
 
   load_citable : (blob : Option (List ℕ)) (theory : Theory) (name : Spot) → IfTried Citable (load_made blob theory name)
   load_citable None theory name = tt
-  load_citable (Some text) theory name = go (facts_of text)
+  load_citable (Some text) theory name = go (listed_facts text)
     where
       go : (r : Result (List Listed) ℕ) → IfTried Citable (and_then (listed_or r) (λ facts. and_then (with_all theory facts) (λ more. Ok (loaded name facts more))))
       go (Ok facts) = chained (λ _. ⊤) Citable (with_all theory facts) _ (always (with_all theory facts)) (λ more h. tt)
@@ -93,7 +93,7 @@ module _ (aliases : List (List ℕ)) where
   nothing (Some s) = tt
 
 made_citable : (source : List ℕ) (tokens : List Token) (before : State) (t : Tried Effect) → IsCitableState before → IfTried (Citable (alias_names before)) t
-    → IsCitableState (made_by source tokens before t).state
+    → IsCitableState (made_effect source tokens before t).state
 made_citable source tokens before (Ok e) citable next = next
 made_citable source tokens before (Err text) citable next = error_citable (alias_names before) before.place citable
 

@@ -15,7 +15,7 @@ use Rattle.buffer_rules.specs.Nodes.{cut, uncut, uncut_all}
 use Rattle.buffer_rules.specs.Sheets.{SheetList}
 use Rattle.isar_rules.specs.declared.state.State.{State}
 use Rattle.isar_rules.specs.Isar.{isar}
-use Rattle.isar_rules.specs.Starts.{start}
+use Rattle.isar_rules.specs.Starts.{start_state}
 use Rattle.suggest_laws.specs.Suggesting.{IsEditedAt}
 use Rattle.suggest_laws.proofs.EditedSheets.{same_headers}
 use Rattle.suggest_laws.proofs.HeadRuns.{imports_same}
@@ -60,7 +60,8 @@ module _ (counted : Counted) (blobs : BlobList) (sheets others : SheetList) (p :
 
   -- other nodes come to the same
   run_stays : (runs : Runs State) (q : ℕ) (x : List ℕ × Sheet) → run_in counted blobs others runs q x ≡ run_in counted blobs sheets runs q x
-  run_stays runs q x = ap₂ (λ imports aliases. run_node isar (cut x.1 aliases.pairs [] 0) blobs (start x.0 imports aliases))
+  run_stays runs q x = ap₂ (λ imports aliases. run_node isar (cut x.1 aliases.pairs [] 0) blobs
+      (start_state x.0 imports aliases))
       (imports_same (uncut_all others) (uncut_all sheets) same runs (uncut x.1).imports) (aliases_stay q)
 
   one_stays : (runs : Runs State) (q : ℕ) → (q == p) ≡ false

@@ -14,7 +14,7 @@ use Rattle.outer_tokens.proofs.KnownReading.{IsOn}
 use Rattle.outer_tokens.proofs.KnownLexing.{AreStaged, are-tokens, tokens-staged}
 use Rattle.command_spans.specs.Cutting.{spans_of}
 use Rattle.buffer_rules.specs.Cuts.{command_ranges, source}
-use Rattle.doc_headers.specs.Reading.{nothing, header_in}
+use Rattle.doc_headers.specs.Reading.{empty_reading, header_in}
 use Rattle.suggest_laws.specs.Insertion.{is_error, EndsWell, IsUnbroken, IsCommandText, sources_in}
 use Rattle.suggest_laws.proofs.SpanLemmas.{ranges}
 use Rattle.suggest_laws.proofs.CutLemmas.{Cut, cut-at}
@@ -77,15 +77,17 @@ module _ (names : List (List ℕ)) (p q w : List ℕ) (k : ℕ) (r : Range) (siz
           ∙ all-sources names p q w s next c.front c.back c.ends c.waits parts.0 parts.1 in_it later
           ∙ (λ i. sym first i ++ w ∷ sym rest i);
       header =
-          told-alike reads-on names (whole names p q w) nothing (c.front ++ more) refl (inserted-staged names p q w s next c.back in_it later c.front parts.0 well refl is)
-          ∙ same-header reads-on (whole names p q w) (p ++ q) nothing c.front more c.back kept.texts refl
+          told-alike reads-on names (whole names p q w) empty_reading (c.front ++ more) refl (inserted-staged names p q w s next c.back in_it later c.front parts.0 well refl is)
+          ∙ same-header reads-on (whole names p q w) (p ++ q) empty_reading c.front more c.back
+          kept.texts refl
           (λ read goes at. ⊎_elim
           (λ (ended : s ≡ EndedStage). absurd (both_ways (is_ended read.stage) goes (ap is_ended (at ∙ kept.after ∙ ended))))
           (λ (on : IsOn s).
           let here : IsOn read.stage = subst IsOn (sym (at ∙ kept.after)) on in
           waits-none reads-on (whole names p q w) read more here (inr (refl, inl in_it.begins)) ∙ sym (waits-none reads-on (p ++ q) read c.back here c.waits))
           which)
-          ∙ sym (told-alike reads-on names (p ++ q) nothing (c.front ++ c.back) refl all-staged);
+          ∙ sym (told-alike reads-on names (p ++ q) empty_reading (c.front ++ c.back) refl
+          all-staged);
     } where
       more : List Token
       more = added names p q w s next c.back in_it later

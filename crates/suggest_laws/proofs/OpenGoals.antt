@@ -8,7 +8,7 @@ use Rattle.theory_ctx.specs.declared.local.Local.{Local}
 use Rattle.proof_state.specs.declared.frame.Frame.{Frame}
 use Rattle.proof_state.specs.declared.levels.Levels.TheVariants as levels
 use Rattle.proof_state.specs.declared.local_fact.LocalFact.{LocalFact}
-use Rattle.proof_state.specs.Named.{named}
+use Rattle.proof_state.specs.Named.{named_facts}
 use Rattle.proof_state.specs.Locals.{around_locals}
 use Rattle.proof_terms.specs.declared.term.Term.{Term}
 use Rattle.suggest_rules.specs.Search.{suggested}
@@ -19,19 +19,20 @@ use Rattle.suggest_laws.specs.Citable.{IsFree, IsCitable}
 use Rattle.suggest_laws.specs.CitableStates.{CitableFact, CitableFrame, CitablePlace}
 
 module _ (names : List (List ℕ)) where
-  named_citable : (facts : List LocalFact) → AllByRecursion (CitableFact names) facts → AllByRecursion (IsCitable names) (named facts)
+  named_citable : (facts : List LocalFact) → AllByRecursion (CitableFact names) facts → AllByRecursion (IsCitable names) (named_facts facts)
   named_citable [] all = tt
   named_citable (fact ∷ facts) all = go fact.name all.0.0 (named_citable facts all.1)
     where
-      go : (name : Option (List ℕ)) → IfSome name (IsFree names) → AllByRecursion (IsCitable names) (named facts)
-          → AllByRecursion (IsCitable names) (cons_option (option_map (λ n. record { name = n; formula = fact.formula }) name) (named facts))
+      go : (name : Option (List ℕ)) → IfSome name (IsFree names)
+          → AllByRecursion (IsCitable names) (named_facts facts)
+          → AllByRecursion (IsCitable names) (cons_option (option_map (λ n. record { name = n; formula = fact.formula }) name) (named_facts facts))
       go None free more = more
       go (Some n) free more = ((free, all.0.1), more)
 
   pub around_citable : (around : List Frame) → AllByRecursion (CitableFrame names) around → AllByRecursion (IsCitable names) (around_locals around)
   around_citable [] all = tt
   around_citable (frame ∷ around) all =
-      each-both (IsCitable names) (named frame.block.facts) (around_locals around) (named_citable frame.block.facts all.0.0.1) (around_citable around all.1)
+      each-both (IsCitable names) (named_facts frame.block.facts) (around_locals around) (named_citable frame.block.facts all.0.0.1) (around_citable around all.1)
 
 -- the open goal and the facts for which a proof is suggested
 pub record IsOpen (names : List (List ℕ)) (t : Term) : Type 0 where

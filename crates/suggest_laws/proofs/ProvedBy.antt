@@ -9,7 +9,7 @@ use Rattle.theory_ctx.specs.Locals.{Scoped}
 use Rattle.outer_tokens.specs.declared.token.Token.{Token}
 use Rattle.proof_state.specs.declared.frame.Frame.{Frame}
 use Rattle.proof_state.specs.declared.levels.Levels.TheVariants as levels
-use Rattle.proof_state.specs.Steps.{closed}
+use Rattle.proof_state.specs.Steps.{closed_levels}
 use Rattle.proof_terms.specs.declared.term.Term.{Term}
 use Rattle.proof_checks.specs.Checks.{Found, checked}
 use Rattle.suggest_rules.specs.Search.{suggested}
@@ -26,13 +26,13 @@ use Rattle.isar_rules.specs.declared.state.Place.TheVariants as place
 use Rattle.isar_rules.specs.declared.state.State.{State}
 use Rattle.isar_rules.specs.Cites.{refs}
 use Rattle.isar_rules.specs.Effects.{forking}
-use Rattle.isar_rules.specs.Forks.{scope_at, verdict, judged, forked_at, fork}
+use Rattle.isar_rules.specs.Forks.{scope_at, verdict, judged_reports, forked_at, fork}
 use Rattle.isar_rules.specs.Kept.{errors_in}
 use Rattle.isar_rules.specs.Proofs.{stands}
 use Rattle.isar_rules.specs.Reports.{report, whole}
 use Rattle.isar_rules.specs.Shapes.{shape_by, shape_of}
 use Rattle.isar_rules.specs.Shown.{suggested_at}
-use Rattle.isar_rules.specs.Steps.{tried, made_by, step}
+use Rattle.isar_rules.specs.Steps.{tried, made_effect, step}
 use Rattle.isar_rules.specs.Verbs.{verb_of}
 use Rattle.isar_rules.proofs.KnownQuiet.{IsQuiet, no_errors, sorted}
 use Rattle.suggest_laws.specs.Citable.{IsCitable}
@@ -71,17 +71,20 @@ module _ (theory : Theory) (name : List ℕ) (start goal : Formula) (around : Li
 
   module _ (proof : IsProofText names goal scope text) (blob : Option (List ℕ)) where
     abbrev made : Made State
-    made = made_by text (by_token ∷ proof.more) before (Ok (forking (stands theory name start (closed goal around))))
+    made = made_effect text (by_token ∷ proof.more) before
+        (Ok (forking (stands theory name start (closed_levels goal around))))
 
     made_is : step text blob before ≡ made
     made_is =
-        ap (λ ts. made_by text ts before (tried blob before.place (shape_of aliases text ts))) proof.tokens
-        ∙ ap (λ s. made_by text (by_token ∷ proof.more) before (tried blob before.place s)) (by_is proof.more)
+        ap (λ ts. made_effect text ts before (tried blob before.place (shape_of aliases text ts)))
+        proof.tokens
+        ∙ ap (λ s. made_effect text (by_token ∷ proof.more) before (tried blob before.place s))
+        (by_is proof.more)
 
     forked_is : errors_in (fork text before) ≡ []
     forked_is =
         ap (λ ts. errors_in (forked_at text ts before.place)) proof.tokens
-        ∙ (ap (λ r. errors_in (judged text goal scope r)) proof.read
+        ∙ (ap (λ r. errors_in (judged_reports text goal scope r)) proof.read
         ∙ told text (refs scope proof.term) (refs_quiet scope proof.term) (checked proof.term goal scope) proof.proves)
 
     is_proved : IsProvedBy before text blob

@@ -10,7 +10,7 @@ use Rattle.proof_terms.specs.declared.fault.TermFault.{TermFault}
 use Rattle.proof_terms.specs.declared.term.Term.{Term}
 use Rattle.proof_terms.specs.declared.term.Term.TheVariants.{Fact}
 use Rattle.proof_terms.specs.Marks.{mark}
-use Rattle.proof_terms.specs.Slots.{Slot, formula, object, named, proof, slots, a_formula, a_name, a_proof, built}
+use Rattle.proof_terms.specs.Slots.{Slot, formula, object, named, proof, slots, a_formula, a_name, a_proof, built_term}
 use Rattle.proof_terms.specs.Reading.{and_then, unquoted, read_parts, read_close, read_term, made}
 use Rattle.suggest_laws.specs.Lexemes.{Lexeme, word, opening, closing, text_of}
 use Rattle.suggest_laws.specs.Alike.{IsAlike, fact}
@@ -103,7 +103,7 @@ module _ (aliases : List (List ℕ)) where
             ap (read_term (suc n)) (rule_marks w.rule inside place rest)
             ∙ (rule_read n w.rule (record { start = place; stop = place + 1 }) (record { start = place + 1; stop = end })
             (marks_of mark end inside ++ (mark_at mark kind.Sym (end + length (text_of inside)) closing ∷ rest))
-            ∙ (ap (λ o. and_then (and_then o (λ qs more. made (built w.rule qs) more)) (λ t more. and_then (read_close more) (λ _ last. Ok (t, last)))) parts.1
+            ∙ (ap (λ o. and_then (and_then o (λ qs more. made (built_term w.rule qs) more)) (λ t more. and_then (read_close more) (λ _ last. Ok (t, last)))) parts.1
             ∙ ap (λ o. and_then (made o (mark_at mark kind.Sym (end + length (text_of inside)) closing ∷ rest)) (λ t more. and_then (read_close more) (λ _ last. Ok (t, last)))) (built_is w.rule parts.0)));
         alike = subst (λ v. IsAlike v (term_of w.rule parts.0)) (sym w.is) (made_alike w.rule w.propositional w.parts parts.0 parts.2);
       }

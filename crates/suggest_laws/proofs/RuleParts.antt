@@ -9,7 +9,7 @@ use Rattle.nj_print.specs.ArgumentText.{argument_text}
 use Rattle.nj_print.specs.Printed.{formula_text}
 use Rattle.proof_terms.specs.declared.term.Term.{Term}
 use Rattle.proof_terms.specs.declared.term.Term.TheVariants.{ConjI, ConjE1, ConjE2, DisjI1, DisjI2, DisjE, ImpI, ImpE, NotI, NotE, FalseE, AllI, AllE, ExI, ExE}
-use Rattle.proof_terms.specs.Slots.{Slot, formula, object, named, proof, slots, Part, a_formula, an_object, a_name, a_proof, built}
+use Rattle.proof_terms.specs.Slots.{Slot, formula, object, named, proof, slots, Part, a_formula, an_object, a_name, a_proof, built_term}
 use Rattle.proof_terms.proofs.KnownTerms.{fold-ConjI, fold-ConjE1, fold-ConjE2, fold-DisjI1, fold-DisjI2, fold-DisjE, fold-ImpI, fold-ImpE, fold-NotI, fold-NotE, fold-FalseE, fold-AllI, fold-AllE, fold-ExI, fold-ExE}
 use Rattle.suggest_rules.specs.TermText.{ruled, quoted, term_layer, term_text}
 
@@ -56,7 +56,8 @@ term_of R.ExI p = ExI p.0 p.1.0
 term_of R.ExE p = ExE p.0 p.1.0 p.1.1.0 p.1.1.1.0 p.1.1.1.1.0
 
 -- it is what reading builds of them
-pub built_is : (r : Rule) (p : Parts (slots r)) → built r (listed (slots r) p) ≡ Some (term_of r p)
+pub built_is : (r : Rule) (p : Parts (slots r))
+    → built_term r (listed (slots r) p) ≡ Some (term_of r p)
 built_is R.ConjI p = refl
 built_is R.ConjE1 p = refl
 built_is R.ConjE2 p = refl

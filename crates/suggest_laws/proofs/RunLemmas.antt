@@ -10,10 +10,10 @@ use Rattle.isar_rules.specs.Effects.{Effect}
 use Rattle.isar_rules.specs.Errors.{Tried}
 use Rattle.isar_rules.specs.Isar.{isar}
 use Rattle.isar_rules.specs.Shapes.{shape_of}
-use Rattle.isar_rules.specs.Steps.{made_by, tried, aliases_at, step}
+use Rattle.isar_rules.specs.Steps.{made_effect, tried, aliases_at, step}
 
 -- each command keeps the aliases
-made_aliases : (source : List ℕ) (tokens : List Token) (before : State) (t : Tried Effect) → (made_by source tokens before t).state.aliases ≡ before.aliases
+made_aliases : (source : List ℕ) (tokens : List Token) (before : State) (t : Tried Effect) → (made_effect source tokens before t).state.aliases ≡ before.aliases
 made_aliases source tokens before (Ok e) = refl
 made_aliases source tokens before (Err text) = refl
 

@@ -14,7 +14,7 @@ use Rattle.buffer_rules.specs.Numbers.{Command, ids_of}
 use Rattle.buffer_rules.specs.Sheets.{SheetList}
 use Rattle.isar_rules.specs.declared.state.State.{State}
 use Rattle.isar_rules.specs.Isar.{isar}
-use Rattle.isar_rules.specs.Starts.{start}
+use Rattle.isar_rules.specs.Starts.{start_state}
 use Rattle.suggest_laws.proofs.CutNodes.{AreCut, Cuts, aliases_in, cut_heads, cuts_at}
 use Rattle.suggest_laws.proofs.CutRuns.{commands_are}
 use Rattle.suggest_laws.proofs.HeadRuns.{imports_same}
@@ -56,7 +56,7 @@ module _ (counted : Counted) (blobs : BlobList) where
 
       begins_same : (runs : Runs State) (q : ℕ) (x : List ℕ × Sheet) (before : List Command) (next : ℕ)
           → begins_at isar nodes runs q (x.0, cut x.1 (aliases_in sheets q) before next) ≡ begins_in runs q x
-      begins_same runs q x before next = sym (ap₂ (start x.0) (imports_same (uncut_all sheets) nodes heads runs (uncut x.1).imports) (same_at (uncut_all sheets) nodes heads q))
+      begins_same runs q x before next = sym (ap₂ (start_state x.0) (imports_same (uncut_all sheets) nodes heads runs (uncut x.1).imports) (same_at (uncut_all sheets) nodes heads q))
 
       run_same : (runs : Runs State) (q : ℕ) (x : List ℕ × Sheet) (before : List Command) (next : ℕ)
           → run_node isar (cut x.1 (aliases_in sheets q) before next) blobs (begins_at isar nodes runs q (x.0, cut x.1 (aliases_in sheets q) before next)) ≡ run_in runs q x

@@ -17,7 +17,7 @@ use Rattle.nj_formula.specs.declared.formula.Formula.{Formula}
 use Rattle.nj_print.specs.Readable.{IsReadable}
 use Rattle.theory_ctx.specs.declared.local.Local.{Local}
 use Rattle.theory_ctx.specs.Locals.{Scoped}
-use Rattle.theory_ctx.specs.Looked.{parts_of}
+use Rattle.theory_ctx.specs.Looked.{name_parts}
 use Rattle.proof_terms.specs.declared.term.Term.{Term}
 use Rattle.proof_terms.specs.Marks.{mark, marks}
 use Rattle.proof_terms.specs.Reading.{whole, read_term, proof_of, deepest}
@@ -40,7 +40,7 @@ use Rattle.suggest_laws.proofs.Written.{IsWritten, lexemes}
 use Rattle.suggest_laws.proofs.WrittenLexemes.{lexemes_sit, lexemes_quiet}
 
 -- an identifier has no dot
-one_part : (x : List ℕ) → AllPass is_identifier_part x → parts_of x ≡ x ∷ []
+one_part : (x : List ℕ) → AllPass is_identifier_part x → name_parts x ≡ x ∷ []
 one_part [] pass = refl
 one_part (c ∷ x) pass =
     slice_split-cons_no (λ b. b == 46) c x (apart is_identifier_part 46 c refl (pass 0 0 (omega arith)))

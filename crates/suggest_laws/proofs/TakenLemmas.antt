@@ -21,7 +21,7 @@ use Rattle.isar_rules.specs.declared.state.State.{State}
 use Rattle.isar_rules.specs.Isar.{isar}
 use Rattle.isar_rules.specs.Kept.{error_at, errors_in}
 use Rattle.isar_rules.specs.Shown.{place_text, suggested_at}
-use Rattle.isar_rules.specs.Starts.{start}
+use Rattle.isar_rules.specs.Starts.{start_state}
 use Rattle.isar_rules.specs.Steps.{step}
 use Rattle.theory_laws.specs.Clean.{IsClean}
 use Rattle.suggest_laws.specs.Insertion.{IsUnbroken, IsCommandText, sources_in}
@@ -74,7 +74,7 @@ module _ (laws : Laws) (begins : Beginning) (sheet : Sheet) (before later : List
   names = map (λ pair. pair.0) begins.aliases.pairs
 
   abbrev from : State
-  from = start begins.name begins.imports begins.aliases
+  from = start_state begins.name begins.imports begins.aliases
 
   abbrev old : List (List ℕ)
   old = sources_in sheet.text names

@@ -25,7 +25,7 @@ use Rattle.buffer_rules.specs.Sheets.{SheetList}
 use Rattle.suggest_laws.specs.Insertion.{IsUnbroken}
 use Rattle.isar_rules.specs.declared.state.State.{State}
 use Rattle.isar_rules.specs.Isar.{isar}
-use Rattle.isar_rules.specs.Starts.{start}
+use Rattle.isar_rules.specs.Starts.{start_state}
 use Rattle.suggest_laws.specs.Edited.{NodeComesTo, IsTakenAt}
 use Rattle.suggest_laws.specs.Suggesting.{IsEditedAt, IsTaken, Suggests, beginning_at, node_of, run_of}
 use Rattle.suggest_laws.proofs.CutNodes.{AreCut, Cuts, aliases_in, cut_after, cut_heads, cuts_at}
@@ -137,7 +137,7 @@ module _ (laws : Laws) (sheets others : SheetList) (p : ℕ) (sheet : Sheet) (bl
       let o = old_node (nodes_after tip sheets next).nodes are_cut in
       let begins = beginning_at sheets p edited.name given in
       let same : run ≡ run_of begins sheet o.before o.next blobs =
-      old_run tip next run comes ∙ sym (same_ids laws.counted blobs sheet (aliases_in sheets p) o.before o.next (start edited.name given (aliases_at (uncut_all sheets) p))) in
+      old_run tip next run comes ∙ sym (same_ids laws.counted blobs sheet (aliases_in sheets p) o.before o.next (start_state edited.name given (aliases_at (uncut_all sheets) p))) in
       let taken = laws.taken sheets others p edited.name given sheet o.before [] o.next 0 blobs k e s text new edited
       (ap (λ es. slice_get es k) (sym o.entries) ∙ entry_is)
       (ap (λ (r : Run State). slice_get r.commands k) (sym same) ∙ command_is) suggests

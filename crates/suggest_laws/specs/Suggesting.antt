@@ -17,7 +17,7 @@ use Rattle.buffer_rules.specs.Sheets.{SheetList}
 use Rattle.isar_rules.specs.declared.state.State.{State}
 use Rattle.isar_rules.specs.Isar.{isar}
 use Rattle.isar_rules.specs.Reports.{report, whole}
-use Rattle.isar_rules.specs.Starts.{start}
+use Rattle.isar_rules.specs.Starts.{start_state}
 use Rattle.theory_laws.specs.Clean.{IsClean}
 
 -- what a node begins with, beside its text
@@ -48,7 +48,7 @@ node_of begins sheet before next = cut sheet begins.aliases.pairs before next
 -- its commands, each in its state
 abbrev pub run_of : Beginning → Sheet → List Command → ℕ → BlobList → Run State
 run_of begins sheet before next blobs = run_node isar (node_of begins sheet before next) blobs
-    (start begins.name begins.imports begins.aliases)
+    (start_state begins.name begins.imports begins.aliases)
 
 -- the report is among these
 abbrev pub IsAmong : Report → List Report → Type 0

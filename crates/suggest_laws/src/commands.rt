@@ -8,7 +8,7 @@ ghost use Rattle.proof_terms.specs.declared.term.Term.{Term};
 ghost use Rattle.suggest_rules.specs.TermText.{by_text};
 ghost use Rattle.isar_rules.specs.declared.state.State.{State};
 ghost use Rattle.isar_rules.specs.Shown.{suggested_at};
-ghost use Rattle.isar_rules.specs.Starts.{start};
+ghost use Rattle.isar_rules.specs.Starts.{start_state};
 ghost use Rattle.isar_rules.specs.Steps.{step};
 ghost use Rattle.suggest_laws.specs.Insertion.{IsCommandText};
 ghost use Rattle.suggest_laws.specs.CitableStates.{alias_names, IsCitableState};
@@ -18,7 +18,7 @@ ghost use Rattle.suggest_laws.specs.Proving.{IsProvedBy};
 /// command leaves such a state behind such a state.
 pub fn citable_states()
     ensures begins { (name : List ℕ) (imports : Imports State) (aliases : NodeAliases)
-        → IsCitableState (start name imports aliases) }
+        → IsCitableState (start_state name imports aliases) }
     ensures kept { (source : List ℕ) (blob : Option (List ℕ)) (state : State)
         → IsCitableState state → IsCitableState (step source blob state).state }
 {}

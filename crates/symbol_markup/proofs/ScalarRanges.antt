@@ -14,7 +14,7 @@ use Rattle.symbols.specs.Symbols.{AreSymbolsBetween, IsBoundary, symbols_of}
 use Rattle.symbols.specs.Boundaries.{boundaries}
 use Rattle.report_markup.specs.declared.report.Report.{Report}
 use Rattle.report_markup.specs.Order.{said_cmp, report_cmp}
-use Rattle.report_markup.specs.Sorting.{insert_if, insert_report, in_order}
+use Rattle.report_markup.specs.Sorting.{insert_if, insert_report, ordered_reports}
 use Rattle.report_markup.proofs.KnownOrders.{All-order}
 use Rattle.symbol_markup.specs.Places.{IsSymbolPlace, symbol_place, symbol_range, StandsOnSymbols}
 use Rattle.symbol_markup.specs.Places.{scalar_place, scalar_range}
@@ -118,11 +118,11 @@ module _ (text : List ℕ)
       go false = refl
 
   ordered : (rs : List Report) → AllByRecursion Stands rs
-      → in_order (map told rs) ≡ map told (in_order rs)
+      → ordered_reports (map told rs) ≡ map told (ordered_reports rs)
   ordered [] all = refl
   ordered (r ∷ rs) all =
       ap (insert_report (told r)) (ordered rs all.1)
-      ∙ inserted r (in_order rs) all.0 (All-order Stands rs all.1)
+      ∙ inserted r (ordered_reports rs) all.0 (All-order Stands rs all.1)
 
   none-empty : (rs : List Report) → AllByRecursion Stands rs
       → filter (λ r. is_filled r.range) (map told rs) ≡ map told rs
@@ -142,8 +142,8 @@ module _ (text : List ℕ)
       ∙ ap (λ qs. r ∷ qs) (each-back rs all.1)
 
   pub reports-back : (rs : List Report) → AllByRecursion Stands rs
-      → map (at_scalars text) (in_symbols text rs) ≡ in_order rs
+      → map (at_scalars text) (in_symbols text rs) ≡ ordered_reports rs
   reports-back rs all =
-      ap (λ qs. map (at_scalars text) (in_order qs)) (none-empty rs all)
+      ap (λ qs. map (at_scalars text) (ordered_reports qs)) (none-empty rs all)
       ∙ ap (map (at_scalars text)) (ordered rs all)
-      ∙ each-back (in_order rs) (All-order Stands rs all)
+      ∙ each-back (ordered_reports rs) (All-order Stands rs all)

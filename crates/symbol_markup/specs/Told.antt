@@ -2,7 +2,7 @@
 use Rattle.std.specs.Prelude.{ℕ, ◌==◌, Bool, not, List, map, filter}
 use Rattle.pide_base.specs.declared.range.Range.{Range}
 use Rattle.report_markup.specs.declared.report.Report.{Report}
-use Rattle.report_markup.specs.Sorting.{in_order}
+use Rattle.report_markup.specs.Sorting.{ordered_reports}
 use Rattle.symbol_markup.specs.Places.{symbol_range, scalar_range}
 
 -- the report at its range in symbols
@@ -17,7 +17,7 @@ is_filled range = not (range.start == range.stop)
 -- symbol, in report order by the new ranges (this project's own)
 abbrev pub in_symbols : List ℕ → List Report → List Report
 in_symbols text reports =
-    in_order (filter (λ r. is_filled r.range) (map (at_symbols text) reports))
+    ordered_reports (filter (λ r. is_filled r.range) (map (at_symbols text) reports))
 
 -- a report that counts symbols, at its range in scalars
 abbrev pub at_scalars : List ℕ → Report → Report

@@ -3,7 +3,7 @@ ghost use Rattle.std.specs.Prelude.{◌≡◌, ◌+◌, ◌≤◌, ◌↔◌, �
 ghost use Rattle.std.specs.List.{AllByRecursion};
 ghost use Rattle.pide_base.specs.declared.range.Range.{Range};
 ghost use Rattle.report_markup.specs.declared.report.Report.{Report};
-ghost use Rattle.report_markup.specs.Sorting.{in_order};
+ghost use Rattle.report_markup.specs.Sorting.{ordered_reports};
 ghost use Rattle.symbols.specs.Symbols.{IsBoundary, symbols_of};
 ghost use Rattle.symbol_markup.specs.Places.{IsSymbolPlace, symbol_place, symbol_range};
 ghost use Rattle.symbol_markup.specs.Places.{StandsOnSymbols, scalar_place, scalar_range};
@@ -37,7 +37,7 @@ pub fn ranges_are_had_back()
         scalar_range text (symbol_range text range) ≡ range }
     ensures reports { (text : List ℕ) (reports : List Report)
         → AllByRecursion (λ r. StandsOnSymbols text r.range) reports
-        → map (at_scalars text) (in_symbols text reports) ≡ in_order reports }
+        → map (at_scalars text) (in_symbols text reports) ≡ ordered_reports reports }
 {
     places_are_numbered();
     places_in_symbols();

@@ -11,7 +11,7 @@ use Rattle.text_words.specs.Members.{has}
 use Rattle.task_queue.specs.Tasks.{standing, is_ready}
 use Rattle.task_queue.specs.Waiters.{Waits, HasAll}
 use Rattle.task_queue.specs.Ready.{AreReady, with_standing}
-use Rattle.task_queue.specs.Changes.{taken, nobody_waits}
+use Rattle.task_queue.specs.Changes.{taken_task, nobody_waits}
 use Rattle.task_queue.specs.Kept.{looked, seen, IsKept}
 use Rattle.task_queue.proofs.Changed.{here, elsewhere}
 use Rattle.task_queue.proofs.Unready.{IsUnready}
@@ -24,8 +24,8 @@ before g None t is = cc
 before g (Some u) t is = (u, refl, ap (λ o. option_map_or (λ x. x) o (g u)) is)
 
 -- a part that is taken is not ready
-pub taken_unready : (o : Option Standing) → IsUnready (option_map taken o)
-taken_unready o r is = let u = before taken o r is in
+pub taken_unready : (o : Option Standing) → IsUnready (option_map taken_task o)
+taken_unready o r is = let u = before taken_task o r is in
     let P : Standing → Type 0 = λ x. is_ready x ≡ false in subst P u.2 refl
 
 -- the part of x stands otherwise, and waits for nothing that it didn't wait for

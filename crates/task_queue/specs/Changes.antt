@@ -18,8 +18,8 @@ waiting task = record {
 }
 
 -- the task is taken
-abbrev pub taken : Standing → Standing
-taken s = record s { held = true }
+abbrev pub taken_task : Standing → Standing
+taken_task s = record s { held = true }
 
 -- a set without an execution, which stands in it once at most
 abbrev pub removed : ℕ → List ℕ → List ℕ

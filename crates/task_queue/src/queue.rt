@@ -11,7 +11,7 @@ ghost use Rattle.task_queue.specs.Kept.{looked};
 ghost use Rattle.pide_base.specs.Ids.{IsId};
 ghost use Rattle.pide_base.specs.declared.part.Part.{Part};
 ghost use Rattle.task_queue.specs.declared.task.Standing.{Standing};
-ghost use Rattle.task_queue.specs.Changes.{waiting, taken, without, with_priority, nobody_waits, IsHeld, ready_kind, released};
+ghost use Rattle.task_queue.specs.Changes.{waiting, taken_task, without, with_priority, nobody_waits, IsHeld, ready_kind, released};
 
 use crate::deque::PartDeque;
 use crate::inputs::Inputs;
@@ -247,7 +247,7 @@ impl TaskQueue {
         ensures none { IfNone result ((part : Part) → IsReadyPart (standing self.old) part → ⊥) }
         ensures tasks { IfSome result (λ part. (e : ℕ) → standing self.new e
             ≡ with_standing (standing self.old) part.exec
-            (option_map taken (standing self.old part.exec)) e) }
+            (option_map taken_task (standing self.old part.exec)) e) }
         ensures unchanged { IfNone result (self.new ≡ self.old) }
         ensures count { length self.new.tasks ≡ length self.old.tasks }
         ensures room { self.old.room ≤ self.new.room }
@@ -266,7 +266,7 @@ impl TaskQueue {
 /// Notes that somebody has taken the execution's present part.
 fn hold(tasks: &mut Table, exec: u64)
     ensures tasks { (e : ℕ) → looked tasks.new e
-        ≡ with_standing (looked tasks.old) exec (option_map taken (looked tasks.old exec)) e }
+        ≡ with_standing (looked tasks.old) exec (option_map taken_task (looked tasks.old exec)) e }
     ensures len { hash_map_len tasks.new ≡ hash_map_len tasks.old }
     ensures room { spare tasks.new ≡ spare tasks.old }
 {

@@ -3,7 +3,7 @@
 ghost use Rattle.std.specs.Prelude.{◌≡◌, ◌≤◌, ◌∷◌, [], IfOk};
 ghost use Rattle.pide_base.specs.Ids.{IsId, id_end};
 ghost use Rattle.exec_assign.specs.Fitting.{RowsFit};
-ghost use Rattle.exec_assign.specs.Telling.{made_by};
+ghost use Rattle.exec_assign.specs.Telling.{update_version};
 
 use doc_nodes::Nodes;
 use exec_assign::{
@@ -64,7 +64,7 @@ fn listed_by(
 ) -> Result<(Assignment, Vec<ToldNode>), AssignFault>
     requires first { 1 ≤ next }
     requires next { next ≤ id_end }
-    ensures rows { IfOk result (λ pair. RowsFit (made_by update.now pair.0.assigned)) }
+    ensures rows { IfOk result (λ pair. RowsFit (update_version update.now pair.0.assigned)) }
     ensures first { IfOk result (λ pair. 1 ≤ pair.0.next) }
     ensures next { IfOk result (λ pair. pair.0.next ≤ id_end) }
 {

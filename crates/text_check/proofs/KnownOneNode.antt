@@ -6,7 +6,7 @@ use Rattle.std.specs.Option.{option_map, option_and_then}
 use Rattle.text_words.specs.Members.{has}
 use Rattle.import_rounds.specs.Rounds.{is_next}
 use Rattle.doc_nodes.specs.declared.node.Node.{Node}
-use Rattle.doc_nodes.specs.Imports.{NodeList, aims, order, ordered, place_of}
+use Rattle.doc_nodes.specs.Imports.{NodeList, aims, order, ordered_places, place_of}
 use Rattle.language.specs.Lang.{Lang}
 use Rattle.language.specs.declared.made.Imported.{Imported}
 use Rattle.language.specs.declared.made.Imports.TheVariants.{Ordered}
@@ -28,7 +28,7 @@ with_others some (inr none) = rw none refl
 
 -- the only node is first, ordered or not
 pub order_one : (name : List ℕ) (node : Node) → order ((name, node) ∷ []) ≡ 0 ∷ []
-order_one name node = with_others (ordered ((name, node) ∷ []))
+order_one name node = with_others (ordered_places ((name, node) ∷ []))
     (filter_one (is_next (aims ((name, node) ∷ [])) []) 0)
 
 -- where no node is done no place has a state

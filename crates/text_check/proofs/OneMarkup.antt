@@ -4,7 +4,7 @@ use Rattle.std.specs.List.{flat_map, zip, AllByRecursion}
 use Rattle.std.specs.Option.{option_map_or}
 use Rattle.std.proofs.lemmas.List.{length-map}
 use Rattle.pide_base.specs.declared.range.Range.{Range}
-use Rattle.report_markup.specs.Sorting.{in_order}
+use Rattle.report_markup.specs.Sorting.{ordered_reports}
 use Rattle.doc_headers.specs.Reading.{header_in}
 use Rattle.doc_headers.specs.declared.parts.Header.{Header}
 use Rattle.doc_nodes.specs.declared.inherited.NodeAliases.{NodeAliases}
@@ -17,7 +17,7 @@ use Rattle.buffer_rules.specs.declared.sheet.Sheet.{Sheet}
 use Rattle.buffer_rules.specs.Cuts.{command_ranges, source}
 use Rattle.buffer_rules.specs.Nodes.{cut as cut_sheet, nodes_after, ranges_in, sources, uncut, uncut_all}
 use Rattle.buffer_rules.specs.Numbers.{ids_of}
-use Rattle.text_check.specs.OneText.{markup_of, name_of, named, one_sheet, reported}
+use Rattle.text_check.specs.OneText.{markup_of, text_name, name_or_scratch, one_sheet, reported}
 use Rattle.text_check.specs.declared.heading.Heading.{Heading}
 use Rattle.text_check.specs.Headings.{begins, headed, heading_in, heading_of}
 use Rattle.node_check.specs.Walking.{LiesIn, reports_from}
@@ -58,21 +58,23 @@ ranges_by text heading = command_ranges text (map (λ pair. pair.0) heading.alia
 
 -- the commands stand where its text is cut
 ranges_at : Numbered → (text : List ℕ)
-    → map (λ e. e.range) (node_of text).entries ≡ ranges_by text (told (name_of text) (header_in text))
+    → map (λ e. e.range) (node_of text).entries ≡ ranges_by text
+    (told (text_name text) (header_in text))
 ranges_at numbered text =
     let sheet = sheet_of text in
     let aliases = aliases_of text in
     ranges_so sheet aliases (ids_of [] (sources sheet aliases) 1) (ranges_in sheet aliases)
     (numbered (sources sheet aliases) ∙ length-map (ranges_in sheet aliases) (source text))
-    ∙ ap (λ (in_force : NodeAliases). command_ranges text (map (λ pair. pair.0) in_force.pairs)) (aliases_alike (name_of text) (uncut_of text))
+    ∙ ap (λ (in_force : NodeAliases). command_ranges text (map (λ pair. pair.0) in_force.pairs)) (aliases_alike (text_name text) (uncut_of text))
 
 -- the markup is what its commands report one after the other
 pub markup_so : {S : Type 0} (l : Lang S) → Numbered → (text : List ℕ)
-    → markup_of l text ≡ in_order (reports_from l text (ranges_by text (heading_of text)) (begins l (heading_of text)))
+    → markup_of l text ≡ ordered_reports (reports_from l text (ranges_by text (heading_of text))
+    (begins l (heading_of text)))
 markup_so l numbered text =
-    let heading = told (name_of text) (header_in text) in
-    subst (λ h. markup_of l text ≡ in_order (reports_from l text (ranges_by text h) (begins l h))) (told_so (name_of text) (header_in text))
-    (ap in_order (ap (λ settings. flat_map (reported l) (zip (node_of text).entries settings)) (scratch_one l (name_of text) (node_of text))
+    let heading = told (text_name text) (header_in text) in
+    subst (λ h. markup_of l text ≡ ordered_reports (reports_from l text (ranges_by text h) (begins l h))) (told_so (text_name text) (header_in text))
+    (ap ordered_reports (ap (λ settings. flat_map (reported l) (zip (node_of text).entries settings)) (scratch_one l (text_name text) (node_of text))
     ∙ reported_so l (node_of text) (node_of text).entries (begins l heading)
     ∙ ap (λ ranges. reports_from l text ranges (begins l heading)) (ranges_at numbered text)))
 
@@ -81,12 +83,14 @@ pub lie_so : Numbered → (text : List ℕ)
     → AllByRecursion (λ pair. AreRising 0 (length pair.1.text) pair.1.entries) (nodes_after [] (one_sheet text) 1).nodes
     → AllByRecursion (LiesIn (length text)) (ranges_by text (heading_of text))
 lie_so numbered text rising =
-    subst (λ h. AllByRecursion (LiesIn (length text)) (ranges_by text h)) (told_so (name_of text) (header_in text))
+    subst (λ h. AllByRecursion (LiesIn (length text)) (ranges_by text h))
+    (told_so (text_name text) (header_in text))
     (subst (AllByRecursion (LiesIn (length text))) (ranges_at numbered text)
     (lie_within 0 (length text) (node_of text).entries rising.0))
 
 -- the heading of a text that has a header
 pub heading_some : (text : List ℕ) (h : Header) → header_in text ≡ Some h
-    → headed (named h.name) h.imports h.keywords ≡ heading_of text
+    → headed (name_or_scratch h.name) h.imports h.keywords ≡ heading_of text
 heading_some text h found =
-    sym (ap (λ x. heading_in (option_map_or (λ header. named header.name) x (codes "Scratch")) x) found)
+    sym (ap (λ x. heading_in (option_map_or (λ header. name_or_scratch header.name) x (codes
+    "Scratch")) x) found)

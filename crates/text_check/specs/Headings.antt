@@ -9,7 +9,7 @@ use Rattle.doc_nodes.specs.Aliases.{aliases_at}
 use Rattle.language.specs.declared.made.Imports.{Imports}
 use Rattle.language.specs.declared.made.Imports.TheVariants.{Ordered, Bad}
 use Rattle.language.specs.Lang.{Lang}
-use Rattle.text_check.specs.OneText.{name_of}
+use Rattle.text_check.specs.OneText.{text_name}
 use Rattle.text_check.specs.declared.heading.Heading.{Heading}
 
 -- a node of a header alone
@@ -41,7 +41,7 @@ heading_in name (Some header) = headed name header.imports header.keywords
 
 -- those of a text
 abbrev pub heading_of : List ℕ → Heading
-heading_of text = heading_in (name_of text) (header_in text)
+heading_of text = heading_in (text_name text) (header_in text)
 
 -- what the node has from its imports: there are no other nodes
 abbrev pub imports_of : {S : Type 0} → Option (List ℕ) → Imports S

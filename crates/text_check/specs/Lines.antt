@@ -26,9 +26,9 @@ said_text r = codes " " ++ kind_word r.kind ++ flat_map property_text r.properti
     ++ text_part r.text ++ codes "\n"
 
 -- the line of a report
-abbrev pub line : Report → List ℕ
-line r = place_text r ++ said_text r
+abbrev pub report_line : Report → List ℕ
+report_line r = place_text r ++ said_text r
 
 -- the markup of a text, a report a line
 abbrev pub lines : {S : Type 0} → Lang S → List ℕ → List ℕ
-lines l text = flat_map line (markup_of l text)
+lines l text = flat_map report_line (markup_of l text)

@@ -7,7 +7,7 @@ use Rattle.std.specs.Str.{encode_utf8_all}
 use Rattle.pide_base.specs.NodeName.{is_node_name}
 use Rattle.report_markup.specs.declared.report.Report.{Report}
 use Rattle.report_markup.specs.Ranges.{moved}
-use Rattle.report_markup.specs.Sorting.{in_order}
+use Rattle.report_markup.specs.Sorting.{ordered_reports}
 use Rattle.doc_headers.specs.Reading.{header_in}
 use Rattle.doc_nodes.specs.declared.node.Entry.{Entry}
 use Rattle.doc_nodes.specs.Imports.{NodeList}
@@ -18,16 +18,18 @@ use Rattle.buffer_rules.specs.Sheets.{SheetList}
 use Rattle.buffer_rules.specs.Nodes.{nodes_after}
 
 -- a name that a node can have, else `Scratch`
-abbrev pub named : List ℕ → List ℕ
-named name = if is_node_name (encode_utf8_all name) then encode_utf8_all name else codes "Scratch"
+abbrev pub name_or_scratch : List ℕ → List ℕ
+name_or_scratch name = if is_node_name (encode_utf8_all name) then encode_utf8_all name else codes
+    "Scratch"
 
 -- the name of the text's node: that of the theory, if it has a header
-abbrev pub name_of : List ℕ → List ℕ
-name_of text = option_map_or (λ header. named header.name) (header_in text) (codes "Scratch")
+abbrev pub text_name : List ℕ → List ℕ
+text_name text = option_map_or (λ header. name_or_scratch header.name) (header_in text)
+    (codes "Scratch")
 
 -- the text as the only sheet of a document
 abbrev pub one_sheet : List ℕ → SheetList
-one_sheet text = (name_of text, record { text = text; required = true; ranges = [] }) ∷ []
+one_sheet text = (text_name text, record { text = text; required = true; ranges = [] }) ∷ []
 
 -- the nodes of this document
 abbrev pub one_node : List ℕ → NodeList
@@ -46,7 +48,7 @@ reported l pair = map (moved pair.0.range.start) ((made_of l pair.1).reports
 
 -- what the nodes of a document report that has one
 abbrev pub all_reported : {S : Type 0} → Lang S → NodeList → List Report
-all_reported l nodes = in_order
+all_reported l nodes = ordered_reports
     (flat_map (reported l) (zip (entries_of nodes) (scratch_at l nodes [] 0)))
 
 -- what is reported of a text, in report order

@@ -7,7 +7,7 @@ use Rattle.nj_print.specs.Printed.{formula_text}
 use Rattle.isar_rules.specs.Reports.{name_is, theory_is}
 use Rattle.isar_rules.specs.Small.{said, prop}
 use Rattle.text_check.specs.OneText.{markup_of}
-use Rattle.text_check.specs.Lines.{line}
+use Rattle.text_check.specs.Lines.{report_line}
 
 -- a command, and an error
 abbrev pub command : ℕ → ℕ → List ℕ → Report
@@ -58,6 +58,7 @@ pub record SmallFacts : Type 0 where
 
 -- lines of reports
 pub record SmallLines : Type 0 where
-  pub property : line (command 0 6 (codes "theory")) ≡ codes "0-6 command name=theory\n"
-  pub text : line (error 28 32 (codes "unknown name x")) ≡ codes "28-32 error: unknown name x\n"
-  pub neither : line (said kind.Proved 34 47 [] []) ≡ codes "34-47 proved\n"
+  pub property : report_line (command 0 6 (codes "theory")) ≡ codes "0-6 command name=theory\n"
+  pub text : report_line (error 28 32 (codes "unknown name x"))
+      ≡ codes "28-32 error: unknown name x\n"
+  pub neither : report_line (said kind.Proved 34 47 [] []) ≡ codes "34-47 proved\n"

@@ -1,6 +1,6 @@
 //! What the commands of a text go by besides its text.
 ghost use Rattle.std.specs.Prelude.{◌≡◌, [], codes, IfOk};
-ghost use Rattle.text_check.specs.OneText.{named};
+ghost use Rattle.text_check.specs.OneText.{name_or_scratch};
 ghost use Rattle.text_check.specs.Headings.{alone, begins, bare, heading_of, headed, imports_of};
 
 use doc_headers::{Header, KeywordPair, header, one_header};
@@ -61,7 +61,7 @@ fn scratch(alloc: Global) -> Result<NodeName, AllocError>
 
 /// The name, where a node can have it, else `Scratch`.
 fn named(alloc: Global, name: &[char]) -> Result<NodeName, AllocError>
-    ensures { IfOk result (λ found. found ≡ named name.now) }
+    ensures { IfOk result (λ found. found ≡ name_or_scratch name.now) }
 {
     match NodeName::new(text_of(alloc, name)?) {
         Ok(name) => Ok(name),

@@ -1,7 +1,7 @@
 //! A report as a line.
 ghost use Rattle.std.specs.Prelude.{◌≡◌, ◌++◌, decimal, OnOk, string_bytes};
 ghost use Rattle.std.specs.List.{flat_map};
-ghost use Rattle.text_check.specs.Lines.{line, place_text, property_text, said_text, text_part};
+ghost use Rattle.text_check.specs.Lines.{report_line, place_text, property_text, said_text, text_part};
 
 use itoa::Buffer;
 use report_markup::{Property, Report};
@@ -10,7 +10,7 @@ use std::alloc::AllocError;
 /// Adds the line of a report: where it stands, in scalars, its kind, its properties, its text and
 /// the end of the line. For want of memory some of it may have been added.
 pub fn write_line(out: &mut String, report: &Report) -> Result<(), AllocError>
-    ensures { OnOk result (string_bytes out.new ≡ string_bytes out.old ++ line report.now) }
+    ensures { OnOk result (string_bytes out.new ≡ string_bytes out.old ++ report_line report.now) }
 {
     write_place(out, report)?;
     write_said(out, report)

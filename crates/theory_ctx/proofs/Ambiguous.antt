@@ -11,7 +11,7 @@ use Rattle.std.proofs.lemmas.Slice.Eq.{bytes_eq-Decides}
 use Rattle.std.proofs.lemmas.Bool.{and_parts}
 use Rattle.shared_map.specs.Pairs.{IsSorted}
 use Rattle.shared_map.proofs.KnownSorted.{IsSorted-filter}
-use Rattle.theory_ctx.specs.Facts.{Fact, fact_of, is_import, imported}
+use Rattle.theory_ctx.specs.Facts.{Fact, fact_of, is_import, facts_elsewhere}
 use Rattle.theory_ctx.specs.Order.{by_bytes, by_name}
 use Rattle.theory_ctx.specs.Spelled.{long_name}
 use Rattle.theory_ctx.specs.Answers.{Answer, unknown, ambiguous}
@@ -44,9 +44,10 @@ module _ (facts : List Fact) (own one other : List ℕ) where
 
   pub told_of : (parts : List (List ℕ)) → looked_by facts own parts ≡ ambiguous one other → Told parts
   told_of [] e = absurd (no_other unknown one other e)
-  told_of (n ∷ []) e = go (fact_of own n facts) refl (imported own n facts) refl e
+  told_of (n ∷ []) e = go (fact_of own n facts) refl (facts_elsewhere own n facts) refl e
     where
-      go : (o : Option Fact) → fact_of own n facts ≡ o → (l : List Fact) → imported own n facts ≡ l
+      go : (o : Option Fact) → fact_of own n facts ≡ o → (l : List Fact)
+          → facts_elsewhere own n facts ≡ l
           → first_of o l ≡ ambiguous one other → Told (n ∷ [])
       go (Some g) h l k e = absurd (no_other (first_of (Some g) l) one other e)
       go None h [] k e = absurd (no_other unknown one other e)
@@ -58,7 +59,8 @@ module _ (facts : List Fact) (own one other : List ℕ) where
 
   pub ambiguous_of : (parts : List (List ℕ)) → Told parts → looked_by facts own parts ≡ ambiguous one other
   ambiguous_of parts (n, first, second, plain, two, a, b) =
-      ap (looked_by facts own) plain ∙ ap (λ o. first_of o (imported own n facts)) two.none_own
+      ap (looked_by facts own) plain ∙ ap (λ o. first_of o (facts_elsewhere own n facts))
+      two.none_own
       ∙ ap among two.others.1
       ∙ ap (λ z. ambiguous z (long_name second.0.theory second.0.name)) (sym a) ∙ ap (ambiguous one) (sym b)
 

@@ -11,7 +11,7 @@ use Rattle.shared_map.proofs.KnownSorted.{Each-united}
 use Rattle.theory_ctx.specs.declared.fact_name.FactName.{FactName}
 use Rattle.theory_ctx.specs.Facts.{Fact}
 use Rattle.theory_ctx.specs.Order.{by_name}
-use Rattle.theory_ctx.specs.Merged.{added}
+use Rattle.theory_ctx.specs.Merged.{extended_facts}
 use Rattle.theory_ctx.specs.NameSets.{Names, has_name, Covers, CoversAll}
 
 covers_more : (names more : Names) → ((x : List ℕ) → has_name names x ≡ true → has_name more x ≡ true)
@@ -25,7 +25,7 @@ or_right b c e = ap (λ d. b || d) e ∙ or-true b
 
 pub covers_added : (names more : Names) (name : FactName) (f : Formula) (facts : List Fact)
     → ((x : List ℕ) → has_name more x ≡ (is_free x (meaning f) || has_name names x))
-    → CoversAll names facts → CoversAll more (added (name, f) facts)
+    → CoversAll names facts → CoversAll more (extended_facts (name, f) facts)
 covers_added names more name f facts is each =
     Each-united by_name (λ fact. Covers more fact.1) ((name, f) ∷ []) facts
     (λ x free. is x ∙ or_left (is_free x (meaning f)) (has_name names x) free, tt)

@@ -12,7 +12,7 @@ use Rattle.shared_map.proofs.KnownAlike.{same_pairs}
 use Rattle.theory_ctx.specs.declared.fact_name.FactName.{FactName}
 use Rattle.theory_ctx.specs.Facts.{Fact, is_called, fact_of}
 use Rattle.theory_ctx.specs.Order.{by_name, by_name_total}
-use Rattle.theory_ctx.specs.Merged.{merged, all_of}
+use Rattle.theory_ctx.specs.Merged.{merged_facts, all_of}
 use Rattle.theory_ctx.specs.Agreement.{IsPart, DoAgree, AreSame}
 use Rattle.theory_ctx.proofs.Named.{fact_of_first}
 
@@ -45,14 +45,15 @@ fact_of-fold t n (part ∷ parts) all sorted each =
     ∙ or_assoc (fact_of t n all) (fact_of t n part) (fact_of t n (all_of parts))
     ∙ ap (option_or (fact_of t n all)) (sym (find-append (is_called t n) part (all_of parts)))
 
-pub fact_of-merged : (t n : List ℕ) (parts : List (List Fact)) → Each (IsSorted by_name) parts → fact_of t n (merged parts) ≡ fact_of t n (all_of parts)
+pub fact_of-merged : (t n : List ℕ) (parts : List (List Fact)) → Each (IsSorted by_name) parts → fact_of t n (merged_facts parts) ≡ fact_of t n (all_of parts)
 fact_of-merged t n parts each = fact_of-fold t n parts [] tt each
 
 IsSorted-fold : (parts : List (List Fact)) (all : List Fact) → IsSorted by_name all → Each (IsSorted by_name) parts → IsSorted by_name (fold (united by_name) all parts)
 IsSorted-fold [] all sorted each = sorted
 IsSorted-fold (part ∷ parts) all sorted each = IsSorted-fold parts (united by_name all part) (IsSorted-united by_name_total all part sorted each.0) each.1
 
-pub IsSorted-merged : (parts : List (List Fact)) → Each (IsSorted by_name) parts → IsSorted by_name (merged parts)
+pub IsSorted-merged : (parts : List (List Fact)) → Each (IsSorted by_name) parts
+    → IsSorted by_name (merged_facts parts)
 IsSorted-merged parts each = IsSorted-fold parts [] tt each
 
 -- what is found in the parts is a fact of one of them
@@ -104,12 +105,13 @@ same_facts t n parts others agree same = go (fact_of t n (all_of parts)) refl (f
         ap Some (agree here.0 there.0 t n f g here.1 ((same there.0).1 there.1) here.2 there.2)
 
 pub same_merged : (parts others : List (List Fact)) → Each (IsSorted by_name) parts → Each (IsSorted by_name) others
-    → DoAgree parts → AreSame parts others → merged parts ≡ merged others
+    → DoAgree parts → AreSame parts others → merged_facts parts ≡ merged_facts others
 same_merged parts others each more agree same =
-    same_pairs by_name_total (merged parts) (merged others) (IsSorted-merged parts each) (IsSorted-merged others more)
+    same_pairs by_name_total (merged_facts parts) (merged_facts others)
+    (IsSorted-merged parts each) (IsSorted-merged others more)
     (λ key.
-    fact_of_first key.theory key.name (merged parts)
+    fact_of_first key.theory key.name (merged_facts parts)
     ∙ fact_of-merged key.theory key.name parts each
     ∙ same_facts key.theory key.name parts others agree same
     ∙ sym (fact_of-merged key.theory key.name others more)
-    ∙ sym (fact_of_first key.theory key.name (merged others)))
+    ∙ sym (fact_of_first key.theory key.name (merged_facts others)))

@@ -6,7 +6,7 @@ use Rattle.std.specs.Str.{bytes_eq}
 use Rattle.std.proofs.lemmas.Map.Text.{is_eq-slice_cmp}
 use Rattle.std.proofs.lemmas.Option.{none-some}
 use Rattle.shared_map.specs.Cuts.{within}
-use Rattle.theory_ctx.specs.Facts.{Fact, is_called, fact_of, is_import, imported}
+use Rattle.theory_ctx.specs.Facts.{Fact, is_called, fact_of, is_import, facts_elsewhere}
 use Rattle.theory_ctx.specs.Order.{by_bytes, to_name, to_fact}
 use Rattle.theory_ctx.proofs.KnownOrder.{both_equal}
 
@@ -28,13 +28,13 @@ elsewhere true name e = e
 elsewhere false name e = refl
 
 -- where the own theory has none, the facts of a name are the imported ones
-pub named_imported : (own n : List ℕ) (facts : List Fact) → fact_of own n facts ≡ None → within (to_name n) facts ≡ imported own n facts
+pub named_imported : (own n : List ℕ) (facts : List Fact) → fact_of own n facts ≡ None → within (to_name n) facts ≡ facts_elsewhere own n facts
 named_imported own n [] none = refl
 named_imported own n (fact ∷ facts) none = go (is_called own n fact) refl none (named_imported own n facts)
   where
     go : (b : Bool) → is_called own n fact ≡ b → cond b (Some fact) (fact_of own n facts) ≡ None
-        → (fact_of own n facts ≡ None → within (to_name n) facts ≡ imported own n facts)
-        → within (to_name n) (fact ∷ facts) ≡ imported own n (fact ∷ facts)
+        → (fact_of own n facts ≡ None → within (to_name n) facts ≡ facts_elsewhere own n facts)
+        → within (to_name n) (fact ∷ facts) ≡ facts_elsewhere own n (fact ∷ facts)
     go true e some more = absurd (none-some fact (sym some))
     go false e rest more =
         ap (λ b. cond b (fact ∷ within (to_name n) facts) (within (to_name n) facts))

@@ -15,9 +15,9 @@ pub data Answer : Type 0 where
   ambiguous : List ℕ → List ℕ → Answer
 
 -- the answer that lent facts are
-abbrev pub told : Lookup → Answer
-told (Found theory name formula) = found (option_copied theory) name.now formula.now
-told Unknown = unknown
-told (Ambiguous first second) =
+abbrev pub told_answer : Lookup → Answer
+told_answer (Found theory name formula) = found (option_copied theory) name.now formula.now
+told_answer Unknown = unknown
+told_answer (Ambiguous first second) =
     ambiguous (long_name first.theory.now first.name.now)
     (long_name second.theory.now second.name.now)

@@ -21,5 +21,5 @@ abbrev pub is_import : List ℕ → List ℕ → Fact → Bool
 is_import t n fact = not (bytes_eq fact.0.theory t) && bytes_eq fact.0.name n
 
 -- the facts n of other theories than t
-abbrev pub imported : List ℕ → List ℕ → List Fact → List Fact
-imported t n = filter (is_import t n)
+abbrev pub facts_elsewhere : List ℕ → List ℕ → List Fact → List Fact
+facts_elsewhere t n = filter (is_import t n)

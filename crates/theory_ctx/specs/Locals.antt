@@ -8,7 +8,7 @@ use Rattle.theory_ctx.specs.Facts.{Fact}
 use Rattle.theory_ctx.specs.Order.{by_bytes}
 use Rattle.theory_ctx.specs.declared.local.Local.{Local}
 use Rattle.theory_ctx.specs.Answers.{Answer, found}
-use Rattle.theory_ctx.specs.Looked.{parts_of, looked}
+use Rattle.theory_ctx.specs.Looked.{name_parts, looked}
 
 -- what a lookup goes through: local facts, the innermost first; a theory; the facts that it sees
 pub record Scoped : Type 0 where
@@ -50,4 +50,4 @@ local_first None answer = answer
 -- the fact that a name means in a scope
 abbrev pub looked_in : Scoped → List ℕ → Answer
 looked_in scope name =
-    local_first (local_of scope.locals (parts_of name)) (looked scope.facts scope.theory name)
+    local_first (local_of scope.locals (name_parts name)) (looked scope.facts scope.theory name)

@@ -1,7 +1,7 @@
 -- Which fact a name means, among the facts that a theory sees (this project's own).
 use Rattle.std.specs.Prelude.{◌==◌, ℕ, List, [], ◌∷◌, Option, Some, None}
 use Rattle.std.specs.List.{slice_split}
-use Rattle.theory_ctx.specs.Facts.{Fact, fact_of, imported}
+use Rattle.theory_ctx.specs.Facts.{Fact, fact_of, facts_elsewhere}
 use Rattle.theory_ctx.specs.Spelled.{long_name}
 use Rattle.theory_ctx.specs.Answers.{Answer, found, unknown, ambiguous}
 
@@ -20,15 +20,15 @@ first_of None others = among others
 -- the fact that a name means in the theory own, by the name's parts, among sorted facts
 abbrev pub looked_by : List Fact → List ℕ → List (List ℕ) → Answer
 -- n: the theory's own fact, else the imported ones, which lie in the order of their theories
-looked_by facts own (n ∷ []) = first_of (fact_of own n facts) (imported own n facts)
+looked_by facts own (n ∷ []) = first_of (fact_of own n facts) (facts_elsewhere own n facts)
 -- T.n: the fact of T alone
 looked_by facts own (t ∷ n ∷ []) = first_of (fact_of t n facts) []
 looked_by facts own parts = unknown
 
 -- a name cut at its dots
-abbrev pub parts_of : List ℕ → List (List ℕ)
-parts_of = slice_split (λ b. b == 46)
+abbrev pub name_parts : List ℕ → List (List ℕ)
+name_parts = slice_split (λ b. b == 46)
 
 -- the fact that a name means in the theory own
 abbrev pub looked : List Fact → List ℕ → List ℕ → Answer
-looked facts own name = looked_by facts own (parts_of name)
+looked facts own name = looked_by facts own (name_parts name)

@@ -1,4 +1,4 @@
-ghost use Rattle.theory_ctx.specs.Looked.{parts_of};
+ghost use Rattle.theory_ctx.specs.Looked.{name_parts};
 ghost use Rattle.theory_ctx.specs.Cited.{HasParts};
 
 /// A name as it is cited.
@@ -12,7 +12,7 @@ pub(crate) enum Cited<'a> {
 
 impl<'a> Cited<'a> {
     pub(crate) fn new(text: &'a str) -> Cited<'a>
-        ensures { HasParts result (parts_of text.now) }
+        ensures { HasParts result (name_parts text.now) }
     {
         match text.split_once('.') {
             None => Cited::Plain(text),

@@ -5,9 +5,9 @@ ghost use Rattle.nj_formula.specs.Free.{is_free};
 ghost use Rattle.shared_map.specs.Pairs.{IsSorted};
 ghost use Rattle.shared_map.specs.Lent.{lent};
 ghost use Rattle.theory_ctx.specs.Facts.{Fact, fact_of, is_called};
-ghost use Rattle.theory_ctx.specs.Answers.{told};
+ghost use Rattle.theory_ctx.specs.Answers.{told_answer};
 ghost use Rattle.theory_ctx.specs.Looked.{among, looked};
-ghost use Rattle.theory_ctx.specs.Merged.{added, merged};
+ghost use Rattle.theory_ctx.specs.Merged.{extended_facts, merged_facts};
 ghost use Rattle.theory_ctx.specs.Order.{by_name, to_name};
 ghost use Rattle.shared_map.specs.Changes.{united};
 ghost use Rattle.shared_map.specs.Cuts.{within};
@@ -98,7 +98,7 @@ impl Ctx {
         formula: Formula,
     ) -> Result<(), AddError>
         ensures ok { OnOk result (self.new
-            ≡ added (record { name = name.now; theory = theory.now }, formula) self.old) }
+            ≡ extended_facts (record { name = name.now; theory = theory.now }, formula) self.old) }
         ensures sorted { OnOk result (IsSorted by_name self.new) }
         ensures taken { (result ≡ Err AddError.Taken)
             ↔ IsSome (fact_of theory.now name.now self.old) }
@@ -122,7 +122,7 @@ impl Ctx {
         formula: Formula,
     ) -> Result<(), AllocError>
         ensures ok { OnOk result (self.new
-            ≡ added (record { name = name.now; theory = theory.now }, formula) self.old) }
+            ≡ extended_facts (record { name = name.now; theory = theory.now }, formula) self.old) }
         ensures sorted { OnOk result (IsSorted by_name self.new) }
         ensures err { OnErr result (self.new ≡ self.old) }
     {
@@ -147,7 +147,7 @@ impl Ctx {
     /// The facts of all parts. Where two parts have different facts of one theory and one name,
     /// that of the earlier part is kept. What only one part has is shared.
     pub fn merge(alloc: Global, parts: &[&Ctx]) -> Result<Ctx, AllocError>
-        ensures { IfOk result (λ ctx. ctx ≡ merged (map (λ part. part.now) parts.now)) }
+        ensures { IfOk result (λ ctx. ctx ≡ merged_facts (map (λ part. part.now) parts.now)) }
     {
         let mut ctx = Ctx::new();
         for part in parts {
@@ -193,7 +193,7 @@ impl Ctx {
 
     /// What the facts of this name are, whichever theory made them.
     fn named(&self, name: &str) -> Lookup<'_>
-        ensures { told result ≡ among (within (to_name name.now) self.now) }
+        ensures { told_answer result ≡ among (within (to_name name.now) self.now) }
     {
         let mut facts = self.facts.range(&Named { name });
         let Some((first, formula)) = facts.next() else {
@@ -212,7 +212,7 @@ impl Ctx {
     /// the theory's own facts, then among those of all others; a long name `T.n` among those of `T`
     /// alone; a name of more parts means none.
     pub fn lookup(&self, theory: &str, name: &str) -> Lookup<'_>
-        ensures { told result ≡ looked self.now theory.now name.now }
+        ensures { told_answer result ≡ looked self.now theory.now name.now }
     {
         match Cited::new(name) {
             Cited::Plain(name) => match self.fact(theory, name) {

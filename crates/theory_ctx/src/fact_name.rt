@@ -1,5 +1,5 @@
 ghost use Rattle.std.specs.Prelude.{◌≡◌, [], ◌∷◌, IfOk};
-ghost use Rattle.theory_ctx.specs.Answers.{told};
+ghost use Rattle.theory_ctx.specs.Answers.{told_answer};
 ghost use Rattle.theory_ctx.specs.Looked.{among};
 
 use crate::lookup::{LongName, Lookup};
@@ -38,7 +38,7 @@ impl FactName {
     }
 
     pub(crate) fn found<'a>(&'a self, formula: &'a Formula) -> Lookup<'a>
-        ensures { told result ≡ among ((self.now, formula.now) ∷ []) }
+        ensures { told_answer result ≡ among ((self.now, formula.now) ∷ []) }
     {
         Lookup::Found {
             theory: Some(&self.theory),

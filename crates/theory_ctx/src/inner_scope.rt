@@ -1,7 +1,7 @@
 ghost use Rattle.std.specs.Prelude.{◌≡◌, ◌∷◌, OnOk, OnErr, drop, reverse, slice_get};
 ghost use Rattle.std.specs.Option.{option_copied};
-ghost use Rattle.theory_ctx.specs.Answers.{told};
-ghost use Rattle.theory_ctx.specs.Looked.{parts_of};
+ghost use Rattle.theory_ctx.specs.Answers.{told_answer};
+ghost use Rattle.theory_ctx.specs.Looked.{name_parts};
 ghost use Rattle.theory_ctx.specs.Locals.{first_named, local_of, looked_in, seen};
 
 use crate::cited::Cited;
@@ -62,7 +62,7 @@ impl<'s, 'a> InnerScope<'s, 'a> {
 
     /// The fact that a name means here, as `Scope::lookup` says.
     pub fn lookup(&self, name: &str) -> Lookup<'_>
-        ensures { told result ≡ looked_in (seen self.now) name.now }
+        ensures { told_answer result ≡ looked_in (seen self.now) name.now }
     {
         match cited_in(self.locals.as_slice(), name) {
             Some(local) => local.found(),
@@ -73,7 +73,7 @@ impl<'s, 'a> InnerScope<'s, 'a> {
 
 /// The last of the facts that is cited so. A long name passes them by.
 fn cited_in<'a>(locals: &'a [Local], name: &str) -> Option<&'a Local>
-    ensures { option_copied result ≡ local_of (reverse locals.now) (parts_of name.now) }
+    ensures { option_copied result ≡ local_of (reverse locals.now) (name_parts name.now) }
 {
     match Cited::new(name) {
         Cited::Plain(name) => newest(locals, name),

@@ -1,5 +1,5 @@
 ghost use Rattle.std.specs.Prelude.{◌≡◌, None};
-ghost use Rattle.theory_ctx.specs.Answers.{told, found};
+ghost use Rattle.theory_ctx.specs.Answers.{told_answer, found};
 
 use crate::lookup::Lookup;
 use nj_formula::{Formula, Name};
@@ -13,7 +13,7 @@ pub struct Local {
 
 impl Local {
     pub(crate) fn found(&self) -> Lookup<'_>
-        ensures { told result ≡ found None self.now.name self.now.formula }
+        ensures { told_answer result ≡ found None self.now.name self.now.formula }
     {
         Lookup::Found {
             theory: None,

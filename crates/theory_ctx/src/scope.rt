@@ -1,7 +1,7 @@
 ghost use Rattle.std.specs.Prelude.{◌≡◌, [], ◌∷◌, ◌++◌, IfOk, OnOk, OnErr};
 ghost use Rattle.std.specs.Option.{option_copied};
-ghost use Rattle.theory_ctx.specs.Answers.{told};
-ghost use Rattle.theory_ctx.specs.Looked.{parts_of};
+ghost use Rattle.theory_ctx.specs.Answers.{told_answer};
+ghost use Rattle.theory_ctx.specs.Looked.{name_parts};
 ghost use Rattle.theory_ctx.specs.Locals.{first_named, joined, local_of, looked_in};
 
 use crate::cited::Cited;
@@ -130,7 +130,7 @@ impl<'a> Scope<'a> {
     /// The fact that a name means here: the innermost local fact of this name, else what
     /// `Ctx::lookup` answers. A long name passes the local facts by.
     pub fn lookup(&self, name: &str) -> Lookup<'_>
-        ensures { told result ≡ looked_in self.now name.now }
+        ensures { told_answer result ≡ looked_in self.now name.now }
     {
         match self.local(name) {
             Some(local) => local.found(),
@@ -139,7 +139,7 @@ impl<'a> Scope<'a> {
     }
 
     fn local(&self, name: &str) -> Option<&Local>
-        ensures { option_copied result ≡ local_of self.now.locals (parts_of name.now) }
+        ensures { option_copied result ≡ local_of self.now.locals (name_parts name.now) }
     {
         match Cited::new(name) {
             Cited::Plain(name) => first_named(&self.blocks, name),

@@ -10,10 +10,10 @@ use Rattle.isar_rules.specs.declared.shape.Shape.TheVariants as shape
 use Rattle.isar_rules.specs.declared.shape.Spot.{Spot}
 use Rattle.isar_rules.specs.declared.state.Theory.{Theory}
 use Rattle.isar_rules.specs.declared.state.Place.TheVariants as place
-use Rattle.isar_rules.specs.BlobLines.{Listed, facts_of}
+use Rattle.isar_rules.specs.BlobLines.{Listed, listed_facts}
 use Rattle.isar_rules.specs.Effects.{makes}
 use Rattle.isar_rules.specs.Errors.{Tried, and_then, formula_in, name_taken}
-use Rattle.isar_rules.specs.Loads.{load_made, with_all, facts_or as listed_or, loaded}
+use Rattle.isar_rules.specs.Loads.{load_made, with_all, facts_or_bad_line as listed_or, loaded}
 use Rattle.isar_rules.specs.Reports.{def_report, formula_report}
 use Rattle.isar_rules.specs.Theories.{with_fact, has_fact, axiom_made, lemma_made}
 use Rattle.isar_rules.proofs.KnownTried.{IfTried}
@@ -89,6 +89,6 @@ module _ (node : List ℕ) (later : List Shape) (rest : List Listed) (blob : Opt
       lines (Ok facts) = ended facts (with_all theory facts) (lines_add theory facts own)
       lines (Err line) = tt
 
-      go : (o : Option (List ℕ)) → IfTried (λ e. Adds node (place.Theory theory) e.place (option_map_or (λ text. lines_in (facts_of text)) o [] ++ rest) (after_at node later rest blob e.place)) (load_made o theory name)
+      go : (o : Option (List ℕ)) → IfTried (λ e. Adds node (place.Theory theory) e.place (option_map_or (λ text. lines_in (listed_facts text)) o [] ++ rest) (after_at node later rest blob e.place)) (load_made o theory name)
       go None = tt
-      go (Some text) = lines (facts_of text)
+      go (Some text) = lines (listed_facts text)

@@ -9,7 +9,7 @@ use Rattle.text_words.specs.Members.{has}
 use Rattle.import_rounds.specs.Rounds.{is_known, in_rounds}
 use Rattle.import_rounds.specs.Looks.{aims_at}
 use Rattle.doc_nodes.specs.declared.node.Node.{Node}
-use Rattle.doc_nodes.specs.Imports.{NodeList, place_of, aims, ordered, is_bad, order}
+use Rattle.doc_nodes.specs.Imports.{NodeList, place_of, aims, ordered_places, is_bad, order}
 use Rattle.exec_rules.specs.Kept.{BlobList}
 use Rattle.core_rules.specs.Scratch.{Run, Runs, final, imports_run, begins_at, run_node, run_all, scratch}
 use Rattle.isar_rules.specs.declared.state.State.{State}
@@ -55,10 +55,10 @@ module _ (laws : Laws) (rounds : Rounds) (name : List ℕ) (node : Node) (blobs 
   abbrev nodes : NodeList
   nodes = (name, node) ∷ []
 
-  unordered : (n : List ℕ) (more : List (List ℕ)) → node.imports ≡ n ∷ more → (o : Option ℕ) → place_of nodes n ≡ o → is_known (ordered nodes) o ≡ true → ⊥
+  unordered : (n : List ℕ) (more : List (List ℕ)) → node.imports ≡ n ∷ more → (o : Option ℕ) → place_of nodes n ≡ o → is_known (ordered_places nodes) o ≡ true → ⊥
   unordered n more is None at e = false≢true e
   unordered n more is (Some q) at e =
-      let f = first (ordered nodes) q e in
+      let f = first (ordered_places nodes) q e in
       let within : q < 1 = rounds.nodes (aims nodes) q e in
       let none : q ≡ 0 = omega (arith, within) in
       let all : list_all (is_known f.front) (aims_at (aims nodes) 0) ≡ true =
@@ -69,9 +69,9 @@ module _ (laws : Laws) (rounds : Rounds) (name : List ℕ) (node : Node) (blobs 
       false≢true (sym f.absent ∙ known)
 
   bad : (n : List ℕ) (more : List (List ℕ)) → node.imports ≡ n ∷ more → is_bad nodes n ≡ true
-  bad n more is = go (is_known (ordered nodes) (place_of nodes n)) refl
+  bad n more is = go (is_known (ordered_places nodes) (place_of nodes n)) refl
     where
-      go : (b : Bool) → is_known (ordered nodes) (place_of nodes n) ≡ b → not b ≡ true
+      go : (b : Bool) → is_known (ordered_places nodes) (place_of nodes n) ≡ b → not b ≡ true
       go true e = absurd (unordered n more is (place_of nodes n) refl e)
       go false e = refl
 

@@ -12,7 +12,7 @@ use Rattle.isar_rules.specs.declared.state.Place.{Place}
 use Rattle.isar_rules.specs.declared.state.Place.TheVariants as place
 use Rattle.isar_rules.specs.BlobLines.{Listed}
 use Rattle.isar_rules.specs.Errors.{Tried, and_then}
-use Rattle.isar_rules.specs.Proofs.{Ordered, ordered, levels_or, effect_of, stands, proof_made}
+use Rattle.isar_rules.specs.Proofs.{Ordered, ordered_command, levels_or, effect_of, stands, proof_made}
 use Rattle.isar_rules.specs.Steps.{acted, tried}
 use Rattle.isar_rules.proofs.KnownTried.{IfTried}
 use Rattle.theory_laws.specs.Stated.{are_closed}
@@ -49,7 +49,8 @@ module _ (node : List ℕ) (later : List Shape) (rest : List Listed) (blob : Opt
     stepped o (Err text) c = tt
 
     proof_adds : IfTried (AddsAt node later rest blob old (Some s)) (proof_made theory name goal levels s)
-    proof_adds = go (ordered theory.facts s levels) (counted later blob theory.facts s levels)
+    proof_adds = go (ordered_command theory.facts s levels)
+        (counted later blob theory.facts s levels)
       where
         go : (t : Tried Ordered) → IfTried (λ o. IfTried (Counted later blob s levels) (levels_or (step o.0 levels))) t
             → IfTried (AddsAt node later rest blob old (Some s)) (and_then t (λ o. and_then (levels_or (step o.0 levels)) (λ after. Ok (effect_of o.0 (stands theory name goal after) o.1))))

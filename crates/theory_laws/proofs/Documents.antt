@@ -14,7 +14,7 @@ use Rattle.language.specs.declared.made.Imported.{Imported}
 use Rattle.core_rules.specs.Scratch.{Run, Runs, final, final_at, import_run, imports_run, begins_at, run_node, run_one, run_all, scratch}
 use Rattle.isar_rules.specs.declared.state.State.{State}
 use Rattle.isar_rules.specs.Isar.{isar}
-use Rattle.isar_rules.specs.Starts.{facts_at, facts_of, given_by, given_from}
+use Rattle.isar_rules.specs.Starts.{facts_at, imported_facts, imports_given, given_from}
 use Rattle.theory_laws.specs.Clean.{AreClean}
 use Rattle.theory_laws.specs.Facts.{AllFollow, FactsFollow}
 use Rattle.theory_laws.specs.Imports.{IsListed, Needs, itself, imports, IsAxiomAmong, AreCleanFrom, IsAxiomFrom}
@@ -31,19 +31,19 @@ named name state = record { name = name; state = state }
 
 -- what imports give together
 module _ (P : Statement → Type 0) where
-  parts_follow : (all : List (Imported State)) → AllByRecursion (λ i. FactsFollow P i.state) all → Each (AllFollow P) (filter_map facts_of all)
+  parts_follow : (all : List (Imported State)) → AllByRecursion (λ i. FactsFollow P i.state) all → Each (AllFollow P) (filter_map imported_facts all)
   parts_follow [] follow = tt
   parts_follow (i ∷ all) follow = go (parts_follow all follow.1) (facts_at i.state.place) follow.0
     where
-      go : Each (AllFollow P) (filter_map facts_of all) → (o : Option (List Fact)) → IfSome o (AllFollow P) → Each (AllFollow P) (cons_option o (filter_map facts_of all))
+      go : Each (AllFollow P) (filter_map imported_facts all) → (o : Option (List Fact)) → IfSome o (AllFollow P) → Each (AllFollow P) (cons_option o (filter_map imported_facts all))
       go rest None here = rest
       go rest (Some facts) here = (here, rest)
 
-  pub given_follow : (all : List (Imported State)) → AllByRecursion (λ i. FactsFollow P i.state) all → GivenFollow P (given_by all (find (λ i. is_none (facts_of i)) all))
-  given_follow all follow = go (find (λ i. is_none (facts_of i)) all)
+  pub given_follow : (all : List (Imported State)) → AllByRecursion (λ i. FactsFollow P i.state) all → GivenFollow P (imports_given all (find (λ i. is_none (imported_facts i)) all))
+  given_follow all follow = go (find (λ i. is_none (imported_facts i)) all)
     where
-      go : (o : Option (Imported State)) → GivenFollow P (given_by all o)
-      go None = each_merged _ (filter_map facts_of all) (parts_follow all follow)
+      go : (o : Option (Imported State)) → GivenFollow P (imports_given all o)
+      go None = each_merged _ (filter_map imported_facts all) (parts_follow all follow)
       go (Some bad) = tt
 
 found_at : (G : One → Type 0) (q : ℕ) (runs : Runs State) → AllByRecursion G runs → IfSome (find (λ one. one.0 == q) runs) (λ one. (one.0 ≡ q) × G one)

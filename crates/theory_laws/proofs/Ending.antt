@@ -24,7 +24,7 @@ use Rattle.isar_rules.specs.Isar.{isar}
 use Rattle.isar_rules.specs.Kept.{errors_in}
 use Rattle.isar_rules.specs.Reports.{announced, error_report}
 use Rattle.isar_rules.specs.Starts.{facts_at}
-use Rattle.isar_rules.specs.Steps.{aliases_at, tried, made_by}
+use Rattle.isar_rules.specs.Steps.{aliases_at, tried, made_effect}
 use Rattle.isar_rules.proofs.KnownTried.{IfTried}
 use Rattle.theory_laws.specs.Axioms.{shape_in}
 use Rattle.theory_laws.specs.Clean.{IsClean, AreClean}
@@ -45,10 +45,10 @@ pub record Came (P : Effect → Type 0) (p : Place) : Type 0 where
   pub so : P effect
 
 pub came : (P : Effect → Type 0) (source : List ℕ) (tokens : List Token) (before : State) (t : Tried Effect) (more : List Report) → IfTried P t
-    → errors_in ((made_by source tokens before t).reports ++ more) ≡ [] → Came P (made_by source tokens before t).state.place
+    → errors_in ((made_effect source tokens before t).reports ++ more) ≡ [] → Came P (made_effect source tokens before t).state.place
 came P source tokens before (Ok e) more so clean = record { effect = e; is = refl; so = so }
 came P source tokens before (Err text) more so clean =
-    let made : List Report = (made_by source tokens before (Err text)).reports in
+    let made : List Report = (made_effect source tokens before (Err text)).reports in
     let refused : AreFine (announced source tokens ++ error_report source text ∷ []) = unordered _ (front made more (fine (made ++ more) clean)) in
     absurd (let no = (behind (announced source tokens) (error_report source text ∷ []) refused).0 in cc)
 

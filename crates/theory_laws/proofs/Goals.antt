@@ -9,14 +9,14 @@ use Rattle.proof_state.specs.declared.levels.Levels.{Levels}
 use Rattle.proof_state.specs.declared.levels.Levels.TheVariants.{Closed, Prove, State}
 use Rattle.proof_state.specs.Fits.{fitting}
 use Rattle.proof_state.specs.Fresh.{is_taken}
-use Rattle.proof_state.specs.Steps.{Command, closed, shown, step, proof, fix, assume, have, show, next, qed, by}
+use Rattle.proof_state.specs.Steps.{Command, closed_levels, shown_levels, step, proof, fix, assume, have, show, next, qed, by}
 use Rattle.report_markup.specs.declared.report.Report.{Report}
 use Rattle.isar_rules.specs.declared.shape.Shape.{Shape}
 use Rattle.isar_rules.specs.declared.shape.Shape.TheVariants as shape
 use Rattle.isar_rules.specs.declared.state.Place.{Place}
 use Rattle.isar_rules.specs.declared.state.Place.TheVariants as place
 use Rattle.isar_rules.specs.Errors.{Tried, and_then, formula_in}
-use Rattle.isar_rules.specs.Proofs.{ordered, levels_or, effect_of}
+use Rattle.isar_rules.specs.Proofs.{ordered_command, levels_or, effect_of}
 use Rattle.isar_rules.proofs.KnownTried.{IfTried}
 use Rattle.theory_laws.specs.Stated.{goals_behind, are_closed, stated_before}
 
@@ -43,11 +43,12 @@ module _ (later : List Shape) (blob : Option (List ℕ)) where
   abbrev pub Counted : Shape → Levels → Levels → Type 0
   Counted s levels after = (open_goals after ≡ goals_behind (open_goals levels) s) × (stated_before later blob s ≡ [])
 
-  closed_goals : (goal : Formula) (around : List Frame) → open_goals (closed goal around) ≡ height around
+  closed_goals : (goal : Formula) (around : List Frame)
+      → open_goals (closed_levels goal around) ≡ height around
   closed_goals goal [] = refl
   closed_goals goal (frame ∷ around) = refl
 
-  pub counted : (facts : List Fact) (s : Shape) (levels : Levels) → IfTried (λ o. IfTried (Counted s levels) (levels_or (step o.0 levels))) (ordered facts s levels)
+  pub counted : (facts : List Fact) (s : Shape) (levels : Levels) → IfTried (λ o. IfTried (Counted s levels) (levels_or (step o.0 levels))) (ordered_command facts s levels)
   counted facts (shape.Proof dash) (Prove goal around) = (refl, refl)
   counted facts shape.By (Prove goal around) = (closed_goals goal around, refl)
   counted facts (shape.Fix x) (State block around) = fixed (is_taken facts x.text block around)
@@ -59,13 +60,13 @@ module _ (later : List Shape) (blob : Option (List ℕ)) where
   counted facts (shape.Have name quoted) (State block around) = after_formula _ (formula_in quoted.text) _ (λ f. (refl, refl))
   counted facts (shape.Show quoted) (State block around) = after_formula _ (formula_in quoted.text) _ (λ f. go f (fitting block f))
     where
-      go : (f : Formula) (o : Option ℕ) → IfTried (Counted (shape.Show quoted) (State block around)) (levels_or (shown f block around o))
+      go : (f : Formula) (o : Option ℕ) → IfTried (Counted (shape.Show quoted) (State block around)) (levels_or (shown_levels f block around o))
       go f (Some k) = (refl, refl)
       go f None = tt
   counted facts shape.Next (State block around) = (refl, refl)
   counted facts shape.Qed (State block around) = go (length block.pending == 0)
     where
-      go : (b : Bool) → IfTried (Counted shape.Qed (State block around)) (levels_or (if b then Ok (closed block.goal around) else Err SubgoalsRemain))
+      go : (b : Bool) → IfTried (Counted shape.Qed (State block around)) (levels_or (if b then Ok (closed_levels block.goal around) else Err SubgoalsRemain))
       go true = (closed_goals block.goal around, refl)
       go false = tt
   counted facts _ _ = tt

@@ -12,7 +12,7 @@ use Rattle.shared_map.proofs.KnownFound.{found_put}
 use Rattle.shared_map.proofs.KnownSorted.{IsSorted-put}
 use Rattle.theory_ctx.specs.declared.fact_name.FactName.{FactName}
 use Rattle.theory_ctx.specs.Facts.{Fact, is_called, fact_of}
-use Rattle.theory_ctx.specs.Merged.{added}
+use Rattle.theory_ctx.specs.Merged.{extended_facts}
 use Rattle.theory_ctx.specs.Order.{by_bytes, by_name, by_name_total}
 use Rattle.theory_ctx.proofs.KnownOrder.{both_equal}
 use Rattle.doc_nodes.proofs.KnownNames.{name_is}
@@ -76,14 +76,14 @@ single x y = (λ c. go c.0 c.1 c.2, λ e. (0, omega arith, e))
 
 module _ (node name : List ℕ) (f : Formula) (facts : List Fact) (none : is_some (fact_of node name facts) ≡ false) where
   -- one fact more, of a new name
-  pub one_more : Grows node facts ((name, f) ∷ []) (added (key node name, f) facts)
+  pub one_more : Grows node facts ((name, f) ∷ []) (extended_facts (key node name, f) facts)
   one_more fact g = go (is_eq (by_name (key node name) fact)) refl
     where
-      is : (b : Bool) → is_eq (by_name (key node name) fact) ≡ b → found by_name fact (added (key node name, f) facts) ≡ cond b (Some f) (found by_name fact facts)
+      is : (b : Bool) → is_eq (by_name (key node name) fact) ≡ b → found by_name fact (extended_facts (key node name, f) facts) ≡ cond b (Some f) (found by_name fact facts)
       is b e = found_put by_name_total (key node name, f) facts fact ∙ ap (λ c. cond c (Some f) (found by_name fact facts)) e
 
       go : (b : Bool) → is_eq (by_name (key node name) fact) ≡ b
-          → Has (added (key node name, f) facts) fact g ↔ (Has facts fact g ⊎ ((fact.theory ≡ node) × Contains {X = Listed} ((name, f) ∷ []) (fact.name, g)))
+          → Has (extended_facts (key node name, f) facts) fact g ↔ (Has facts fact g ⊎ ((fact.theory ≡ node) × Contains {X = Listed} ((name, f) ∷ []) (fact.name, g)))
       go true e =
           let same : key node name ≡ fact = same_key node name fact e in (
             λ h. inr (ap (λ k. k.theory) (sym same), (single (name, f) (fact.name, g)).1 (ap₂ (λ k x. (k.name, x)) same (same_Some f g (sym (is true e) ∙ h)))),

@@ -6,14 +6,14 @@ use Rattle.std.proofs.lemmas.Option.{none-some}
 use Rattle.text_words.specs.Members.{has}
 use Rattle.import_rounds.specs.Rounds.{is_known}
 use Rattle.theory_ctx.specs.Facts.{Fact}
-use Rattle.theory_ctx.specs.Merged.{merged}
+use Rattle.theory_ctx.specs.Merged.{merged_facts}
 use Rattle.doc_nodes.specs.Imports.{NodeList, place_of, is_bad}
 use Rattle.language.specs.declared.made.Imported.{Imported}
 use Rattle.core_rules.specs.Scratch.{Run, Runs, final, final_at, import_run, imports_run}
 use Rattle.isar_rules.specs.declared.state.Given.TheVariants.{Facts}
 use Rattle.isar_rules.specs.declared.state.State.{State}
 use Rattle.isar_rules.specs.Isar.{isar}
-use Rattle.isar_rules.specs.Starts.{facts_at, facts_of, given_by, given_from}
+use Rattle.isar_rules.specs.Starts.{facts_at, imported_facts, imports_given, given_from}
 use Rattle.theory_laws.specs.Imports.{IsListed}
 use Rattle.theory_laws.proofs.Merging.{twice, told_passes}
 use Rattle.theory_laws.proofs.Stating.{same_given}
@@ -21,15 +21,15 @@ use Rattle.theory_laws.proofs.Stating.{same_given}
 module _ (nodes : NodeList) (runs : Runs State) where
   -- the facts of an import
   abbrev pub part_of : List ℕ → Option (List Fact)
-  part_of name = option_and_then facts_of (import_run isar nodes runs name)
+  part_of name = option_and_then imported_facts (import_run isar nodes runs name)
 
   abbrev has_none : Imported State → Bool
-  has_none i = is_none (facts_of i)
+  has_none i = is_none (imported_facts i)
 
   pub record IsGiven (imports : List (List ℕ)) (facts : List Fact) : Type 0 where
     pub none_bad : find (is_bad nodes) imports ≡ None
     pub none_lacks : find has_none (filter_map (import_run isar nodes runs) imports) ≡ None
-    pub facts_are : facts ≡ merged (filter_map part_of imports)
+    pub facts_are : facts ≡ merged_facts (filter_map part_of imports)
 
   pub given_is : (imports : List (List ℕ)) (facts : List Fact) → given_from (imports_run isar nodes runs imports (find (is_bad nodes) imports)) ≡ Facts facts
       → IsGiven imports facts
@@ -39,11 +39,13 @@ module _ (nodes : NodeList) (runs : Runs State) where
       all = filter_map (import_run isar nodes runs) imports
 
       next : find (is_bad nodes) imports ≡ None → (o : Option (Imported State)) → find has_none (filter_map (import_run isar nodes runs) imports) ≡ o
-          → given_by (filter_map (import_run isar nodes runs) imports) o ≡ Facts facts → IsGiven imports facts
+          → imports_given (filter_map (import_run isar nodes runs) imports) o ≡ Facts facts
+          → IsGiven imports facts
       next none None at e = record {
         none_bad = none;
         none_lacks = at;
-        facts_are = sym (same_given _ facts e) ∙ ap merged (twice (import_run isar nodes runs) facts_of imports);
+        facts_are = sym (same_given _ facts e) ∙ ap merged_facts
+            (twice (import_run isar nodes runs) imported_facts imports);
       }
       next none (Some bad) at e = absurd (cc)
 
@@ -82,7 +84,7 @@ module _ (nodes : NodeList) (runs : Runs State) where
           run_is = is;
           part = part;
           part_is = has;
-          told = ap (option_and_then facts_of) run ∙ has;
+          told = ap (option_and_then imported_facts) run ∙ has;
         }
 
         placed : (o : Option ℕ) → place_of nodes name ≡ o → is_known front o ≡ true → IsImported front name
@@ -109,11 +111,11 @@ module _ (nodes : NodeList) (runs : Runs State) where
       as_one state = record { name = name; state = state }
 
       at_run : (q : ℕ) → place_of nodes name ≡ Some q → (o : Option (ℕ × Run State)) → find (λ x. x.0 == q) runs ≡ o
-          → option_and_then facts_of (option_map (λ state. record { name = name; state = state }) (option_map (λ x. final isar x.1) o)) ≡ Some part → WasRun name part
+          → option_and_then imported_facts (option_map (λ state. record { name = name; state = state }) (option_map (λ x. final isar x.1) o)) ≡ Some part → WasRun name part
       at_run q at None is e = absurd (none-some part e)
       at_run q at (Some one) is e = record { at = q; place = at; one = one; run_is = is; part_is = e }
 
       placed : (o : Option ℕ) → place_of nodes name ≡ o
-          → option_and_then facts_of (option_map (λ state. record { name = name; state = state }) (option_and_then (final_at isar runs) o)) ≡ Some part → WasRun name part
+          → option_and_then imported_facts (option_map (λ state. record { name = name; state = state }) (option_and_then (final_at isar runs) o)) ≡ Some part → WasRun name part
       placed None at e = absurd (none-some part e)
       placed (Some q) at e = at_run q at (find (λ x. x.0 == q) runs) refl e

@@ -25,7 +25,7 @@ use Rattle.report_markup.specs.declared.report.Report.{Report}
 use Rattle.isar_rules.specs.declared.state.Theory.{Theory}
 use Rattle.isar_rules.specs.declared.state.Place.TheVariants as place
 use Rattle.isar_rules.specs.Cites.{refs}
-use Rattle.isar_rules.specs.Forks.{scope_at, verdict, judged, forked_at}
+use Rattle.isar_rules.specs.Forks.{scope_at, verdict, judged_reports, forked_at}
 use Rattle.isar_rules.specs.Kept.{errors_in}
 
 -- what proofs and their checks keep
@@ -44,7 +44,7 @@ module _ (laws : Laws) (source : List ℕ) (goal : Formula) (scope : Scoped) whe
   verdict_clean t cites (Ok s) e clean = (s, laws.stands t goal scope s e, laws.derives t goal scope s e)
   verdict_clean t cites (Err fault) e clean = cc
 
-  judged_clean : (r : Result Term TermFault) → errors_in (judged source goal scope r) ≡ [] → Follows (Stands scope) (meaning goal)
+  judged_clean : (r : Result Term TermFault) → errors_in (judged_reports source goal scope r) ≡ [] → Follows (Stands scope) (meaning goal)
   judged_clean (Ok t) clean = verdict_clean t (refs scope t) (checked t goal scope) refl clean
   judged_clean (Err fault) clean = cc
 

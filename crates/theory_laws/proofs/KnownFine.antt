@@ -5,7 +5,7 @@ use Rattle.std.specs.List.{AllByRecursion, cons_option}
 use Rattle.report_markup.specs.declared.report.Report.{Report}
 use Rattle.report_markup.specs.Order.{report_cmp}
 use Rattle.report_markup.specs.Ranges.{moved}
-use Rattle.report_markup.specs.Sorting.{in_order, insert_if, insert_report}
+use Rattle.report_markup.specs.Sorting.{ordered_reports, insert_if, insert_report}
 use Rattle.isar_rules.specs.Kept.{error_at, errors_in}
 
 -- none of the reports is an error
@@ -34,9 +34,10 @@ inserted r (next ∷ rest) f = go (is_gt (report_cmp r next)) (inserted r rest) 
     go true more f = (let both = more f.1 in (both.0, (f.0, both.1)))
     go false more f = f
 
-pub unordered : (rs : List Report) → AreFine (in_order rs) → AreFine rs
+pub unordered : (rs : List Report) → AreFine (ordered_reports rs) → AreFine rs
 unordered [] f = tt
-unordered (r ∷ rs) f = let both = inserted r (in_order rs) f in (both.0, unordered rs both.1)
+unordered (r ∷ rs) f = let both = inserted r (ordered_reports rs) f in
+    (both.0, unordered rs both.1)
 
 pub unmoved : (n : ℕ) (rs : List Report) → AreFine (map (moved n) rs) → AreFine rs
 unmoved n [] f = tt

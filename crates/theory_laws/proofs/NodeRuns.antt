@@ -11,7 +11,7 @@ use Rattle.text_words.proofs.KnownMembers.{has_left}
 use Rattle.nj_formula.specs.declared.formula.Formula.{Formula}
 use Rattle.theory_ctx.specs.declared.fact_name.FactName.{FactName}
 use Rattle.doc_nodes.specs.declared.node.Node.{Node}
-use Rattle.doc_nodes.specs.Imports.{NodeList, place_of, is_ordered, order, placed}
+use Rattle.doc_nodes.specs.Imports.{NodeList, place_of, is_ordered, order, placed_node}
 use Rattle.exec_rules.specs.Kept.{BlobList}
 use Rattle.core_rules.specs.Scratch.{Run, Runs, final, begins_at, run_node, run_one, run_all, scratch, scratch_at}
 use Rattle.core_rules.proofs.KnownPlaces.{place_found}
@@ -35,7 +35,7 @@ pub record Order (nodes : NodeList) : Type 0 where
   pub once : (front rest : List ℕ) (p : ℕ) → order nodes ≡ front ++ p ∷ rest → has front p ≡ false
   pub behind : (front rest : List ℕ) (p : ℕ) (pair : List ℕ × Node) → order nodes ≡ front ++ p ∷ rest → slice_get nodes p ≡ Some pair
       → is_ordered nodes p ≡ true → list_all (λ name. is_known front (place_of nodes name)) pair.1.imports ≡ true
-  pub ordered : (p : ℕ) (pair : List ℕ × Node) → slice_get nodes p ≡ Some pair → (is_ordered nodes p ≡ true) ↔ ((placed nodes pair).bad ≡ None)
+  pub ordered : (p : ℕ) (pair : List ℕ × Node) → slice_get nodes p ≡ Some pair → (is_ordered nodes p ≡ true) ↔ ((placed_node nodes pair).bad ≡ None)
 
 -- what is found at a place is there
 pub found_one : (P : One → Type 0) (q : ℕ) (runs : Runs State) (one : One) → AllByRecursion P runs → find (λ o. o.0 == q) runs ≡ Some one → (one.0 ≡ q) × P one

@@ -7,7 +7,7 @@ use Rattle.shared_map.specs.Changes.{united}
 use Rattle.shared_map.specs.Cuts.{before, behind, at_key}
 use Rattle.theory_ctx.specs.Facts.{Fact}
 use Rattle.theory_ctx.specs.Order.{by_name}
-use Rattle.theory_ctx.specs.Merged.{added, merged}
+use Rattle.theory_ctx.specs.Merged.{extended_facts, merged_facts}
 use Rattle.proof_state.specs.Worth.{IsWorth}
 use Rattle.isar_rules.specs.declared.state.Place.{Place}
 use Rattle.isar_rules.specs.declared.state.Place.TheVariants as place
@@ -53,7 +53,8 @@ module _ {X : Type 0} (P : X → Type 0) where
   each_both (x ∷ xs) ys all each = (all.0, each_both xs ys all.1 each)
 
 module _ (P : Fact → Type 0) where
-  pub each_added : (fact : Fact) (facts : List Fact) → P fact → Each P facts → Each P (added fact facts)
+  pub each_added : (fact : Fact) (facts : List Fact) → P fact → Each P facts
+      → Each P (extended_facts fact facts)
   each_added fact facts this each =
       each_both P (before (at_key by_name fact.0) facts) (fact ∷ behind (at_key by_name fact.0) facts)
       (each_filter P _ facts each) (this, each_filter P _ facts each)
@@ -68,5 +69,5 @@ module _ (P : Fact → Type 0) where
   each_fold [] all each parts = each
   each_fold (part ∷ more) all each parts = each_fold more (united by_name all part) (each_united all part each parts.0) parts.1
 
-  pub each_merged : (parts : List (List Fact)) → Each (Each P) parts → Each P (merged parts)
+  pub each_merged : (parts : List (List Fact)) → Each (Each P) parts → Each P (merged_facts parts)
   each_merged parts each = each_fold parts [] tt each

@@ -24,7 +24,7 @@ use Rattle.isar_rules.specs.Effects.{Effect}
 use Rattle.isar_rules.specs.Errors.{Tried, and_then, formula_in}
 use Rattle.isar_rules.specs.Forks.{forked_at}
 use Rattle.isar_rules.specs.Kept.{errors_in}
-use Rattle.isar_rules.specs.Proofs.{Ordered, ordered, levels_or, effect_of, stands, proof_made}
+use Rattle.isar_rules.specs.Proofs.{Ordered, ordered_command, levels_or, effect_of, stands, proof_made}
 use Rattle.isar_rules.specs.Theories.{with_fact}
 use Rattle.isar_rules.proofs.KnownTried.{IfTried}
 use Rattle.theory_laws.specs.Facts.{AllFollow}
@@ -40,7 +40,7 @@ chained Q (Err text) behind each = tt
 abbrev Justifies : List Fact → Levels → Ordered → Type 0
 Justifies facts levels o = (o.0 ≡ by → GoalFollows facts levels) → IsJustified facts o.0 levels
 
-ordered_just : (facts : List Fact) (s : Shape) (levels : Levels) → IfTried (Justifies facts levels) (ordered facts s levels)
+ordered_just : (facts : List Fact) (s : Shape) (levels : Levels) → IfTried (Justifies facts levels) (ordered_command facts s levels)
 ordered_just facts (shape.Proof dash) (Prove goal around) = λ h. tt
 ordered_just facts shape.By (Prove goal around) = λ h. h refl
 ordered_just facts (shape.Fix x) (State block around) = λ h. refl
@@ -86,7 +86,7 @@ module _ (laws : Laws) (P : Statement → Type 0) where
       → errors_in (forked_at source tokens (place.Proof theory name goal levels)) ≡ [])
       → IfTried Sound (proof_made theory name goal levels s)
   proof_sound source tokens theory name goal levels s all worth clean =
-      go (ordered theory.facts s levels) (ordered_just theory.facts s levels) clean
+      go (ordered_command theory.facts s levels) (ordered_just theory.facts s levels) clean
     where
       then_stands : Ordered → Levels → Effect
       then_stands o after = effect_of o.0 (stands theory name goal after) o.1

@@ -22,7 +22,7 @@ use Rattle.isar_rules.specs.Errors.{Tried}
 use Rattle.isar_rules.specs.Forks.{fork}
 use Rattle.isar_rules.specs.Isar.{isar}
 use Rattle.isar_rules.specs.Kept.{error_at, errors_in}
-use Rattle.isar_rules.specs.Steps.{aliases_at, tried, made_by}
+use Rattle.isar_rules.specs.Steps.{aliases_at, tried, made_effect}
 use Rattle.theory_laws.specs.Axioms.{stated_by, shape_in, axioms_of, IsAxiomOf}
 use Rattle.theory_laws.specs.Clean.{IsClean, AreClean}
 use Rattle.theory_laws.proofs.Places.{IsSound}
@@ -55,7 +55,7 @@ module _ (laws : Laws) (P : Statement → Type 0) where
       made_sound laws P s.source tokens s.blob s.state act sound
       (tried_sound laws P s.source tokens s.blob s.state.place (shape_in s) sound
       (λ shape e g m. says g (subst (λ o. members (map meaning (option_map_or (stated_by s.blob) o [])) g) (sym e) m))
-      (forks act (errors_behind (made_by s.source tokens s.state act).reports _ clean)))
+      (forks act (errors_behind (made_effect s.source tokens s.state act).reports _ clean)))
     where
       aliases : AliasList
       aliases = aliases_at s.state.place s.state.aliases
@@ -66,7 +66,7 @@ module _ (laws : Laws) (P : Statement → Type 0) where
       act : Tried Effect
       act = tried s.blob s.state.place (shape_in s)
 
-      forks : (t : Tried Effect) → errors_in (if (made_by s.source tokens s.state t).forks then fork s.source s.state else []) ≡ []
+      forks : (t : Tried Effect) → errors_in (if (made_effect s.source tokens s.state t).forks then fork s.source s.state else []) ≡ []
           → ForkIsClean laws P s.source tokens s.blob s.state.place t
       forks (Ok e) clean other is on = by_forks e.forks (ap forks_of is ∙ on) clean
         where

@@ -23,7 +23,7 @@ use Rattle.isar_rules.specs.Effects.{Effect}
 use Rattle.isar_rules.specs.Errors.{and_then, name_differs}
 use Rattle.isar_rules.specs.Isar.{isar}
 use Rattle.isar_rules.specs.Steps.{tried}
-use Rattle.isar_rules.specs.Theories.{facts_or, begins, begun}
+use Rattle.isar_rules.specs.Theories.{facts_or_bad_import, begins, beginning_effect}
 use Rattle.isar_rules.proofs.KnownTried.{IfTried}
 use Rattle.theory_laws.specs.Axioms.{shape_in}
 use Rattle.theory_laws.specs.Clean.{AreClean}
@@ -43,18 +43,19 @@ module _ (name : List ℕ) (node : Node) (blobs : BlobList) where
     pub none : (later : List Shape) (blob : Option (List ℕ)) → option_map_or (stated_before later blob) o [] ≡ []
 
   begun_begins : (given : Given) (keyword : Option (List ℕ)) (n : Spot) (imports : List Spot)
-      → IfTried (Begins given (Some (shape.Theory n imports))) (begun name given keyword n imports)
+      → IfTried (Begins given (Some (shape.Theory n imports)))
+      (beginning_effect name given keyword n imports)
   begun_begins given keyword n imports = go (equal n.text name) refl
     where
       began : (facts : List Fact) → n.text ≡ name → (k : Option (List ℕ)) → IfTried (Begins (Facts facts) (Some (shape.Theory n imports))) (begins n imports k facts)
       began facts same (Some k) = tt
       began facts same None = record { facts = facts; given_is = refl; place_is = ap (λ x. place.Theory (record { name = x; facts = facts })) same; none = λ later blob. refl }
 
-      from : (g : Given) → n.text ≡ name → IfTried (Begins g (Some (shape.Theory n imports))) (and_then (facts_or g) (begins n imports keyword))
+      from : (g : Given) → n.text ≡ name → IfTried (Begins g (Some (shape.Theory n imports))) (and_then (facts_or_bad_import g) (begins n imports keyword))
       from (Facts facts) same = began facts same keyword
       from (Bad bad) same = tt
 
-      go : (b : Bool) → equal n.text name ≡ b → IfTried (Begins given (Some (shape.Theory n imports))) (if b then and_then (facts_or given) (begins n imports keyword) else Err name_differs)
+      go : (b : Bool) → equal n.text name ≡ b → IfTried (Begins given (Some (shape.Theory n imports))) (if b then and_then (facts_or_bad_import given) (begins n imports keyword) else Err name_differs)
       go true e = from given (name_is n.text name e)
       go false e = tt
 

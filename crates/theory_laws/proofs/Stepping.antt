@@ -19,15 +19,15 @@ use Rattle.isar_rules.specs.declared.state.Theory.{Theory}
 use Rattle.isar_rules.specs.declared.state.State.{State}
 use Rattle.isar_rules.specs.declared.state.Place.{Place}
 use Rattle.isar_rules.specs.declared.state.Place.TheVariants as place
-use Rattle.isar_rules.specs.BlobLines.{Listed, facts_of}
+use Rattle.isar_rules.specs.BlobLines.{Listed, listed_facts}
 use Rattle.isar_rules.specs.Effects.{Effect, makes}
 use Rattle.isar_rules.specs.Errors.{Tried, and_then, formula_in, name_differs, name_taken}
 use Rattle.isar_rules.specs.Forks.{forked_at}
 use Rattle.isar_rules.specs.Kept.{errors_in}
-use Rattle.isar_rules.specs.Loads.{load_made, with_all, facts_or as listed_or, loaded}
+use Rattle.isar_rules.specs.Loads.{load_made, with_all, facts_or_bad_line as listed_or, loaded}
 use Rattle.isar_rules.specs.Reports.{def_report, formula_report}
-use Rattle.isar_rules.specs.Steps.{acted, tried, made_by, after_error}
-use Rattle.isar_rules.specs.Theories.{facts_or, begins, begun, has_fact, stated, with_fact}
+use Rattle.isar_rules.specs.Steps.{acted, tried, made_effect, after_error}
+use Rattle.isar_rules.specs.Theories.{facts_or_bad_import, begins, beginning_effect, has_fact, stated_effect, with_fact}
 use Rattle.isar_rules.proofs.KnownTried.{IfTried}
 use Rattle.theory_laws.specs.Axioms.{stated_by, if_formula, if_listed}
 use Rattle.theory_laws.specs.Facts.{AllFollow}
@@ -44,24 +44,25 @@ module _ (laws : Laws) (P : Statement → Type 0) where
   Sound e = IsSound P e.place
 
   begun_sound : (node : List ℕ) (given : Given) (keyword : Option (List ℕ)) (name : Spot) (imports : List Spot) → GivenFollow P given
-      → IfTried Sound (begun node given keyword name imports)
+      → IfTried Sound (beginning_effect node given keyword name imports)
   begun_sound node given keyword name imports follow = go (equal name.text node)
     where
       began : (k : Option (List ℕ)) (facts : List Fact) → AllFollow P facts → IfTried Sound (begins name imports k facts)
       began (Some k) facts all = tt
       began None facts all = all
 
-      from : (g : Given) → GivenFollow P g → IfTried Sound (and_then (facts_or g) (begins name imports keyword))
+      from : (g : Given) → GivenFollow P g
+          → IfTried Sound (and_then (facts_or_bad_import g) (begins name imports keyword))
       from (Facts facts) all = began keyword facts all
       from (Bad n) all = tt
 
-      go : (b : Bool) → IfTried Sound (if b then and_then (facts_or given) (begins name imports keyword) else Err name_differs)
+      go : (b : Bool) → IfTried Sound (if b then and_then (facts_or_bad_import given) (begins name imports keyword) else Err name_differs)
       go true = from given follow
       go false = tt
 
   -- a new fact or goal
   stated_sound : (next : Formula → Place) (theory : Theory) (name quoted : Spot)
-      → ((f : Formula) → formula_in quoted.text ≡ Ok f → IsSound P (next f)) → IfTried Sound (stated next theory name quoted)
+      → ((f : Formula) → formula_in quoted.text ≡ Ok f → IsSound P (next f)) → IfTried Sound (stated_effect next theory name quoted)
   stated_sound next theory name quoted each = chained Sound (formula_in quoted.text) _ (λ f e. go f (each f e) (has_fact name.text theory))
     where
       go : (f : Formula) → IsSound P (next f) → (b : Bool) → IfTried Sound (if b then Err (name_taken name.text)
@@ -89,7 +90,7 @@ module _ (laws : Laws) (P : Statement → Type 0) where
   load_sound : (blob : Option (List ℕ)) (theory : Theory) (name : Spot) → AllFollow P theory.facts → Says P (stated_by blob (shape.Load name))
       → IfTried Sound (load_made blob theory name)
   load_sound None theory name all says = tt
-  load_sound (Some text) theory name all says = go (facts_of text) says
+  load_sound (Some text) theory name all says = go (listed_facts text) says
     where
       with_these : (facts : List Listed) (t : Tried Theory) → IfTried (λ m. AllFollow P m.facts) t
           → IfTried Sound (and_then t (λ more. Ok (loaded name facts more)))
@@ -126,7 +127,7 @@ module _ (laws : Laws) (P : Statement → Type 0) where
     error_sound (place.Proof theory name goal levels) sound = sound
     error_sound (place.End theory) sound = sound
 
-    pub made_sound : (before : State) (t : Tried Effect) → IsSound P before.place → IfTried Sound t → IsSound P (made_by source tokens before t).state.place
+    pub made_sound : (before : State) (t : Tried Effect) → IsSound P before.place → IfTried Sound t → IsSound P (made_effect source tokens before t).state.place
     made_sound before (Ok e) sound next = next
     made_sound before (Err text) sound next = error_sound before.place sound
 

@@ -10,7 +10,7 @@ use Rattle.core_rules.specs.Settings.{Setting}
 use Rattle.isar_rules.specs.declared.shape.Shape.{Shape}
 use Rattle.isar_rules.specs.declared.shape.Shape.TheVariants as shape
 use Rattle.isar_rules.specs.declared.state.State.{State}
-use Rattle.isar_rules.specs.BlobLines.{Listed, facts_of}
+use Rattle.isar_rules.specs.BlobLines.{Listed, listed_facts}
 use Rattle.isar_rules.specs.Errors.{Tried, formula_in}
 use Rattle.isar_rules.specs.Shapes.{shape_of}
 use Rattle.isar_rules.specs.Steps.{aliases_at}
@@ -29,7 +29,7 @@ if_listed (Err line) = []
 -- blob that `load` loads
 abbrev pub stated_by : Option (List ℕ) → Shape → List Formula
 stated_by blob (shape.Axiom name quoted) = if_formula (formula_in quoted.text)
-stated_by blob (shape.Load name) = option_map_or (λ text. if_listed (facts_of text)) blob []
+stated_by blob (shape.Load name) = option_map_or (λ text. if_listed (listed_facts text)) blob []
 stated_by blob _ = []
 
 -- the shape of a command, which is read under the aliases in force

@@ -8,12 +8,12 @@ use Rattle.isar_rules.specs.Isar.{isar}
 use Rattle.isar_rules.specs.Kept.{errors_in}
 
 -- what a command reports by its evaluation, and by its fork where it forks
-abbrev pub told : Setting State → List Report
-told s = (made_of isar s).reports ++ (if (made_of isar s).forks then forked isar s else [])
+abbrev pub told_reports : Setting State → List Report
+told_reports s = (made_of isar s).reports ++ (if (made_of isar s).forks then forked isar s else [])
 
 -- it reports no error
 abbrev pub IsClean : Setting State → Type 0
-IsClean s = errors_in (told s) ≡ []
+IsClean s = errors_in (told_reports s) ≡ []
 
 -- none of these commands does
 abbrev pub AreClean : List (Setting State) → Type 0

@@ -7,7 +7,7 @@ use Rattle.core_rules.specs.Settings.{Setting}
 use Rattle.isar_rules.specs.declared.shape.Shape.{Shape}
 use Rattle.isar_rules.specs.declared.shape.Shape.TheVariants as shape
 use Rattle.isar_rules.specs.declared.state.State.{State}
-use Rattle.isar_rules.specs.BlobLines.{Listed, facts_of}
+use Rattle.isar_rules.specs.BlobLines.{Listed, listed_facts}
 use Rattle.isar_rules.specs.Errors.{Tried, formula_in}
 use Rattle.theory_laws.specs.Axioms.{shape_in}
 
@@ -44,7 +44,7 @@ stated_before later blob (shape.Axiom name quoted) = stated_fact name.text (form
 stated_before later blob (shape.Lemma name quoted) =
     if are_closed 1 later then stated_fact name.text (formula_in quoted.text) else []
 stated_before later blob (shape.Load name) =
-    option_map_or (λ text. lines_in (facts_of text)) blob []
+    option_map_or (λ text. lines_in (listed_facts text)) blob []
 stated_before later blob other = []
 
 -- the facts that commands state: where they end within the proof of a lemma, that is none yet

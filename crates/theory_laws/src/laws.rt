@@ -9,7 +9,7 @@ ghost use Rattle.exec_rules.specs.Kept.{BlobList};
 ghost use Rattle.language.specs.declared.made.Imports.TheVariants.{Ordered};
 ghost use Rattle.core_rules.specs.Scratch.{final, run_node, scratch};
 ghost use Rattle.isar_rules.specs.Isar.{isar};
-ghost use Rattle.isar_rules.specs.Starts.{start};
+ghost use Rattle.isar_rules.specs.Starts.{start_state};
 ghost use Rattle.theory_laws.specs.Axioms.{IsAxiomOf};
 ghost use Rattle.theory_laws.specs.Clean.{AreClean};
 ghost use Rattle.theory_laws.specs.Facts.{FactsFollow};
@@ -23,7 +23,7 @@ use proof_state::kept_law;
 /// natural deduction from the theory's axioms.
 pub fn node_law()
     ensures { (name : List ℕ) (aliases : NodeAliases) (node : Node) (blobs : BlobList)
-        → let run = run_node isar node blobs (start name (Ordered []) aliases) in
+        → let run = run_node isar node blobs (start_state name (Ordered []) aliases) in
         AreClean run.commands → FactsFollow (IsAxiomOf run.commands) (final isar run) }
 {
     kept_law();

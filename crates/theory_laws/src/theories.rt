@@ -9,7 +9,7 @@ ghost use Rattle.exec_rules.specs.Kept.{BlobList};
 ghost use Rattle.language.specs.declared.made.Imports.TheVariants.{Ordered};
 ghost use Rattle.core_rules.specs.Scratch.{final, run_node, scratch};
 ghost use Rattle.isar_rules.specs.Isar.{isar};
-ghost use Rattle.isar_rules.specs.Starts.{start};
+ghost use Rattle.isar_rules.specs.Starts.{start_state};
 ghost use Rattle.theory_laws.specs.Clean.{AreClean};
 ghost use Rattle.theory_laws.specs.Imports.{AreCleanFrom};
 ghost use Rattle.theory_laws.specs.Theories.{IsStatedFrom, IsStatedIn, IsTheoryOf};
@@ -22,7 +22,7 @@ use doc_nodes::order_law;
 /// imports, direct or not, which report no error either.
 pub fn facts_law()
     ensures node { (name : List ℕ) (aliases : NodeAliases) (node : Node) (blobs : BlobList)
-        → let run = run_node isar node blobs (start name (Ordered []) aliases) in
+        → let run = run_node isar node blobs (start_state name (Ordered []) aliases) in
         AreClean run.commands → 0 < length run.commands
         → IsTheoryOf (IsStatedIn name run.commands) (final isar run) }
     ensures document { (nodes : NodeList) (blobs : BlobList) → AllByRecursion (λ one.

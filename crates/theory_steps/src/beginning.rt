@@ -2,7 +2,7 @@
 ghost use Rattle.std.specs.Prelude.{◌≡◌, ◌∷◌, ◌++◌, [], IfOk, OnOk, map};
 ghost use Rattle.doc_nodes.specs.Names.{equal};
 ghost use Rattle.isar_rules.specs.Reports.{theory_report, import_report};
-ghost use Rattle.isar_rules.specs.Theories.{facts_or, begins, begun};
+ghost use Rattle.isar_rules.specs.Theories.{facts_or_bad_import, begins, beginning_effect};
 ghost use Rattle.command_reports.specs.Tries.{Tries};
 
 use crate::effect::{Effect, makes};
@@ -29,7 +29,7 @@ fn is_same(name: &Name, other: &Name) -> bool
 
 /// The facts to begin with, unless an import is bad.
 fn facts_or(alloc: Global, given: &Given) -> Result<Ctx, Halt>
-    ensures { Tries (facts_or given.now) result }
+    ensures { Tries (facts_or_bad_import given.now) result }
 {
     match given {
         Given::Facts(facts) => Ok(facts.copy()?),
@@ -88,7 +88,7 @@ pub fn begun(
     name: &Spot,
     imports: &[Spot],
 ) -> Result<Effect, Halt>
-    ensures { Tries (begun node.now given.now keyword.now name.now imports.now) result }
+    ensures { Tries (beginning_effect node.now given.now keyword.now name.now imports.now) result }
 {
     let own = name_of(alloc, name.text.as_slice())?;
     let is_node = is_same(&own, node);

@@ -2,9 +2,9 @@
 ghost use Rattle.std.specs.Prelude.{◌≡◌, ◌∷◌, [], IfOk, Ok, length, decimal};
 ghost use Rattle.std.specs.Option.{option_copied};
 ghost use Rattle.report_markup.specs.declared.kind.ReportKind.TheVariants as kinds;
-ghost use Rattle.isar_rules.specs.BlobLines.{facts_of};
+ghost use Rattle.isar_rules.specs.BlobLines.{listed_facts};
 ghost use Rattle.isar_rules.specs.Errors.{and_then};
-ghost use Rattle.isar_rules.specs.Loads.{facts_or, with_all, loaded, load_made};
+ghost use Rattle.isar_rules.specs.Loads.{facts_or_bad_line, with_all, loaded, load_made};
 ghost use Rattle.isar_rules.specs.Reports.{report};
 ghost use Rattle.isar_rules.specs.Theories.{with_fact};
 ghost use Rattle.command_reports.specs.Tries.{Tries};
@@ -21,7 +21,7 @@ use std::alloc::{AllocError, Global};
 
 /// The facts that the text lists, if all of its lines are good.
 fn facts_or(alloc: Global, text: &[char]) -> Result<Items<ListedFact>, Halt>
-    ensures { Tries (facts_or (facts_of text.now)) result }
+    ensures { Tries (facts_or_bad_line (listed_facts text.now)) result }
 {
     match facts_of(alloc, text) {
         Ok(facts) => Ok(facts),

@@ -23,7 +23,7 @@ use Rattle.session_turns.specs.document_session_below.Contents.{SessionState}
 use Rattle.session_turns.specs.view_laws_below.Callers.{service_of, whose}
 use Rattle.session_turns.specs.view_laws_below.Histories.{IsLegalLog}
 use Rattle.session_turns.specs.view_laws_below.Says.{says}
-use Rattle.thread_serve.specs.Closed.{IsClosed, WorkersAreFree, made_by}
+use Rattle.thread_serve.specs.Closed.{IsClosed, WorkersAreFree, made_items}
 
 module _ {S : Type 0} (l : Lang S) where
   -- a legal list is opened by how the session is served
@@ -67,7 +67,7 @@ module _ {S : Type 0} (l : Lang S) where
       their_own r has = ap (λ (xs : List SessionItem). own whose r.caller xs) items
           ∙ All-contains (λ (j : Joined SessionItem). own whose j.caller log ≡ j.mine) r2.joined r theirs has
 
-      reader_own : made_by 0 s ≡ r0.mine
+      reader_own : made_items 0 s ≡ r0.mine
       reader_own = ap (λ (xs : List SessionItem). own whose 0 xs) items
           ∙ (ap (λ n. own whose n log) (sym (caller_stays ∙ reader)) ∙ (mine ∙ mine_stays))
 

@@ -20,7 +20,7 @@ use Rattle.document_serve.specs.Served.{calls_in}
 use Rattle.session_turns.specs.view_laws_below.Callers.{whose, worker_count}
 use Rattle.session_turns.specs.view_laws_below.Histories.{IsLegalLog, session_after}
 use Rattle.session_turns.specs.view_laws_below.Says.{says}
-use Rattle.thread_serve.specs.Closed.{IsClosed, WorkersAreFree, made_by}
+use Rattle.thread_serve.specs.Closed.{IsClosed, WorkersAreFree, made_items}
 use Rattle.thread_serve.specs.Promises.{NobodyHolds}
 use Rattle.thread_serve.specs.Reader.{calls_made}
 use Rattle.thread_serve.proofs.Calls.{calls_own, calls_reversed}
@@ -115,6 +115,6 @@ module _ {S : Type 0} (l : Lang S) (count : ℕ) (reader writer : View SessionIt
         from_log l count s c.service c.legal workers (λ v items. held (session_in l v items).events who ≡ None)
         (law log who (legal_log l count s c.service c.legal legal) (λ w within. each w (subst (λ n. w ≤ n) few within)))
       where
-        each : (w : ℕ) → w ≤ count → held_in says (made_by w s) ≡ None
+        each : (w : ℕ) → w ≤ count → held_in says (made_items w s) ≡ None
         each zero within = ap (λ (mine : List SessionItem). held_in says mine) c.reader_made ∙ free
         each (suc w) within = others (suc w) (omega arith) within

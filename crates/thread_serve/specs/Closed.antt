@@ -13,8 +13,8 @@ use Rattle.session_turns.specs.view_laws_below.Callers.{whose}
 use Rattle.session_turns.specs.view_laws_below.Says.{says}
 
 -- the items that a caller made, the oldest first
-abbrev pub made_by : ℕ → SessionState → List SessionItem
-made_by who s = own whose who (reverse s.items)
+abbrev pub made_items : ℕ → SessionState → List SessionItem
+made_items who s = own whose who (reverse s.items)
 
 -- these views of the reader and of the writer, which comes after so many workers, are views of the
 -- session's list, which has just what they made as theirs
@@ -22,11 +22,11 @@ pub record IsClosed {S : Type 0} (l : Lang S) (count : ℕ) (reader writer : Vie
     (s : SessionState) : Type 0 where
   pub service : s.service ≡ Workers count
   pub legal : AreLegal l s.service s.items
-  pub reader_made : made_by 0 s ≡ reader.mine
-  pub writer_made : made_by (count + 1) s ≡ writer.mine
+  pub reader_made : made_items 0 s ≡ reader.mine
+  pub writer_made : made_items (count + 1) s ≡ writer.mine
   pub reader_saw : IsPrefix reader.seen (reverse s.items)
   pub writer_saw : IsPrefix writer.seen (reverse s.items)
 
 -- no worker holds a part
 abbrev pub WorkersAreFree : ℕ → SessionState → Type 0
-WorkersAreFree count s = (who : ℕ) → 0 < who → who ≤ count → held_in says (made_by who s) ≡ None
+WorkersAreFree count s = (who : ℕ) → 0 < who → who ≤ count → held_in says (made_items who s) ≡ None

@@ -4,8 +4,8 @@ ghost use Rattle.isar_rules.specs.declared.state.Place.TheVariants as place;
 ghost use Rattle.isar_rules.specs.Errors.{Tried};
 ghost use Rattle.isar_rules.specs.Effects.{Effect as Effects};
 ghost use Rattle.isar_rules.specs.Reports.{announced, error_report};
-ghost use Rattle.isar_rules.specs.Steps.{after_error, made_by};
-ghost use Rattle.report_markup.specs.Sorting.{in_order};
+ghost use Rattle.isar_rules.specs.Steps.{after_error, made_effect};
+ghost use Rattle.report_markup.specs.Sorting.{ordered_reports};
 ghost use Rattle.command_reports.specs.Tries.{Tries};
 
 use command_reports::{Halt, announced, error_report};
@@ -66,7 +66,8 @@ fn reported(
     tokens: &[Token],
     reports: Items<Report>,
 ) -> Result<Items<Report>, AllocError>
-    ensures { IfOk result (λ all. all ≡ in_order (announced source.now tokens.now ++ reports)) }
+    ensures { IfOk result (λ all. all ≡ ordered_reports (announced source.now tokens.now ++
+        reports)) }
 {
     let word = announced(alloc, source, tokens)?;
     in_order(alloc, word, reports)
@@ -117,7 +118,8 @@ fn accepted(
     before: &State,
     effect: Effect,
 ) -> Result<Made<State>, AllocError>
-    ensures { IfOk result (λ made. made ≡ made_by source.now tokens.now before.now (Ok effect)) }
+    ensures { IfOk result (λ made. made ≡ made_effect source.now tokens.now before.now (Ok
+        effect)) }
 {
     let Effect {
         place,
@@ -142,7 +144,7 @@ fn refused(
     text: String,
 ) -> Result<Made<State>, AllocError>
     ensures { IfOk result (λ made. made
-        ≡ made_by source.now tokens.now before.now (Err (string_bytes text))) }
+        ≡ made_effect source.now tokens.now before.now (Err (string_bytes text))) }
 {
     let error = error_reports(alloc, source, text)?;
     let all = reported(alloc, source, tokens, error);
@@ -159,7 +161,7 @@ pub(crate) fn made_by(
     tried: Result<Effect, Halt>,
 ) -> Result<Made<State>, AllocError>
     ensures { (told : Tried Effects) → Tries told tried
-        → IfOk result (λ made. made ≡ made_by source.now tokens.now before.now told) }
+        → IfOk result (λ made. made ≡ made_effect source.now tokens.now before.now told) }
 {
     match tried {
         Ok(effect) => accepted(alloc, source, tokens, before, effect),

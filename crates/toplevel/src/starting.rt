@@ -3,7 +3,7 @@ ghost use Rattle.std.specs.Prelude.{◌≡◌, ◌++◌, IfOk, find, is_none, is
 ghost use Rattle.std.specs.List.{filter_map};
 ghost use Rattle.std.specs.Option.{option_copied};
 ghost use Rattle.isar_rules.specs.declared.state.Place.TheVariants as place;
-ghost use Rattle.isar_rules.specs.Starts.{facts_at, facts_of, given_from, start};
+ghost use Rattle.isar_rules.specs.Starts.{facts_at, imported_facts, given_from, start_state};
 
 use doc_nodes::NodeAliases;
 use isar_rules::{Given, Place, State};
@@ -29,14 +29,14 @@ fn facts_at(place: &Place) -> Option<&Ctx>
 
 /// The facts that an import has.
 fn facts_of(import: &Imported<State>) -> Option<&Ctx>
-    ensures { option_copied result ≡ facts_of import.now }
+    ensures { option_copied result ≡ imported_facts import.now }
 {
     facts_at(&import.state.get().place)
 }
 
 /// The first import that has no facts to give.
 fn first_bad(imports: &[Imported<State>]) -> Option<&Imported<State>>
-    ensures { option_copied result ≡ find (λ i. is_none (facts_of i)) imports.now }
+    ensures { option_copied result ≡ find (λ i. is_none (imported_facts i)) imports.now }
 {
     imports.iter().find(|import| facts_of(import).is_none())
 }
@@ -44,7 +44,7 @@ fn first_bad(imports: &[Imported<State>]) -> Option<&Imported<State>>
 /// The facts of each import that has some.
 fn parts_of<'a>(alloc: Global, imports: &'a [Imported<State>]) -> Result<Vec<&'a Ctx>, AllocError>
     ensures { IfOk result (λ parts. map (λ part. part.now) parts.items
-        ≡ filter_map facts_of imports.now) }
+        ≡ filter_map imported_facts imports.now) }
 {
     let mut parts = Vec::new(alloc);
     let mut rest = imports;
@@ -115,7 +115,7 @@ pub(crate) fn start(
     imports: &Imports<State>,
     aliases: &NodeAliases,
 ) -> Result<State, AllocError>
-    ensures { IfOk result (λ state. state ≡ start node.now imports.now aliases.now) }
+    ensures { IfOk result (λ state. state ≡ start_state node.now imports.now aliases.now) }
 {
     let place = before_all(alloc, node, imports, aliases);
     let (place, aliases) = both(place, aliases.pairs.copy())?;

@@ -2,7 +2,7 @@
 ghost use Rattle.std.specs.Prelude.{◌≡◌, IfOk};
 ghost use Rattle.std.specs.Option.{option_copied};
 ghost use Rattle.doc_blobs.specs.Needs.{source_tokens};
-ghost use Rattle.isar_rules.specs.Steps.{made_by, step, step_on, tried};
+ghost use Rattle.isar_rules.specs.Steps.{made_effect, step, step_on, tried};
 
 use crate::acting::tried;
 use crate::made::made_by;
@@ -23,7 +23,7 @@ fn step_of(
     tokens: &[Token],
     shape: Option<Shape>,
 ) -> Result<Made<State>, AllocError>
-    ensures { IfOk result (λ made. made ≡ made_by source.now tokens.now before.now
+    ensures { IfOk result (λ made. made ≡ made_effect source.now tokens.now before.now
         (tried (option_copied blob.entry) before.now.place shape)) }
 {
     let ended = tried(alloc, blob, &before.place, shape);

@@ -9,17 +9,18 @@ use Rattle.core_tables.specs.Rows.{Row}
 use Rattle.text_words.specs.Members.{has}
 use Rattle.exec_rules.specs.declared.key.Last.{Last}
 use Rattle.exec_rules.specs.declared.home.Home.{Home}
-use Rattle.core_rules.specs.Parts.{made_by}
+use Rattle.core_rules.specs.Parts.{last_evaluation}
 use Rattle.update_plans.specs.declared.beginning.Fresh.{Fresh}
 use Rattle.update_plans.specs.Begun.{is_evaluated, AddsUnfinished, IsBegun, AreBegun}
 use Rattle.text_words.proofs.KnownMembers.{has_both}
 
-made_both : (xs ys : List Last) → filter_map made_by (xs ++ ys) ≡ filter_map made_by xs ++ filter_map made_by ys
+made_both : (xs ys : List Last) → filter_map last_evaluation (xs ++ ys) ≡ filter_map last_evaluation xs ++ filter_map last_evaluation ys
 made_both [] ys = refl
-made_both (x ∷ xs) ys = go (made_by x) (made_both xs ys)
+made_both (x ∷ xs) ys = go (last_evaluation x) (made_both xs ys)
   where
-    go : (o : Option ℕ) → filter_map made_by (xs ++ ys) ≡ filter_map made_by xs ++ filter_map made_by ys
-        → cons_option o (filter_map made_by (xs ++ ys)) ≡ cons_option o (filter_map made_by xs) ++ filter_map made_by ys
+    go : (o : Option ℕ)
+        → filter_map last_evaluation (xs ++ ys) ≡ filter_map last_evaluation xs ++ filter_map last_evaluation ys
+        → cons_option o (filter_map last_evaluation (xs ++ ys)) ≡ cons_option o (filter_map last_evaluation xs) ++ filter_map last_evaluation ys
     go None rest = rest
     go (Some e) rest = ap (λ (zs : List ℕ). e ∷ zs) rest
 
@@ -48,14 +49,15 @@ module _ {R : Type 0} (rows : List (Row R)) where
 
   -- one import more
   pub adds_more : (lasts : List Last) (i : ℕ) (last : Last) (old mid new : List ℕ) → i < length lasts → last ≡ get_or lasts i last
-      → AddsUnfinished rows (filter_map made_by (take i lasts)) old mid → AddsUnfinished rows (filter_map made_by (last ∷ [])) mid new
-      → AddsUnfinished rows (filter_map made_by (take (i + 1) lasts)) old new
+      → AddsUnfinished rows (filter_map last_evaluation (take i lasts)) old mid → AddsUnfinished rows (filter_map last_evaluation (last ∷ [])) mid new
+      → AddsUnfinished rows (filter_map last_evaluation (take (i + 1) lasts)) old new
   adds_more lasts i last old mid new lt is first then =
       subst (λ (xs : List ℕ). AddsUnfinished rows xs old new)
       (sym (made_both (take i lasts) (last ∷ []))
-      ∙ ap (λ (l : Last). filter_map made_by (take i lasts ++ l ∷ [])) is
-      ∙ ap (filter_map made_by) (sym (take_more lasts i last lt)))
-      (adds_both (filter_map made_by (take i lasts)) (filter_map made_by (last ∷ [])) old mid new first then)
+      ∙ ap (λ (l : Last). filter_map last_evaluation (take i lasts ++ l ∷ [])) is
+      ∙ ap (filter_map last_evaluation) (sym (take_more lasts i last lt)))
+      (adds_both (filter_map last_evaluation (take i lasts))
+      (filter_map last_evaluation (last ∷ [])) old mid new first then)
 
   -- what is left to be begun
   pub record IsLeft (next : ℕ) (all rest : List Home) (begun : List Fresh) : Type 0 where

@@ -6,7 +6,7 @@ use Rattle.doc_nodes.specs.Imports.{NodeList}
 use Rattle.exec_rules.specs.declared.version.Version.{Version}
 use Rattle.exec_rules.specs.Kept.{BlobList}
 use Rattle.exec_rules.specs.Assigning.{Update, assignment}
-use Rattle.exec_assign.specs.Telling.{made_by}
+use Rattle.exec_assign.specs.Telling.{update_version}
 use Rattle.update_plans.specs.Cancelled.{cancelled_in}
 use Rattle.update_plans.specs.Beside.{HavePlaces, StandOnce, KeepsPlaces}
 
@@ -17,7 +17,7 @@ update_by rows before nodes blobs =
 
 -- the version that an update makes, when the next number is this
 abbrev pub made_by_update : Update → ℕ → Version
-made_by_update u next = made_by u (assignment u next).assigned
+made_by_update u next = update_version u (assignment u next).assigned
 
 -- an execution stands in one row of one node in both versions, and keeps its place
 pub record IsSuccessor (before now : Version) : Type 0 where

@@ -1,7 +1,7 @@
 //! What a new execution waits for.
 ghost use Rattle.std.specs.Prelude.{◌≡◌, ◌&&◌, ◌∷◌, [], ℕ, not, IfOk, OnOk, filter_map};
 ghost use Rattle.text_words.specs.Members.{has};
-ghost use Rattle.core_rules.specs.Parts.{made_by, lasts_of, sources_of};
+ghost use Rattle.core_rules.specs.Parts.{last_evaluation, lasts_of, sources_of};
 ghost use Rattle.update_plans.specs.Begun.{is_evaluated, AddsUnfinished};
 
 use core_tables::Execs;
@@ -47,7 +47,8 @@ fn add_lasts<R>(inputs: &mut Inputs, execs: &Execs<R>, key: &Key) -> Result<(), 
 
 fn add_all<R>(inputs: &mut Inputs, execs: &Execs<R>, lasts: &[Last]) -> Result<(), AllocError>
     ensures { OnOk result
-        (AddsUnfinished execs.now.rows (filter_map made_by lasts.now) inputs.old inputs.new) }
+        (AddsUnfinished execs.now.rows (filter_map last_evaluation lasts.now) inputs.old
+        inputs.new) }
 {
     'imports: for last in lasts {
         add_last(inputs, execs, last)?;
@@ -57,7 +58,8 @@ fn add_all<R>(inputs: &mut Inputs, execs: &Execs<R>, lasts: &[Last]) -> Result<(
 
 fn add_last<R>(inputs: &mut Inputs, execs: &Execs<R>, last: &Last) -> Result<(), AllocError>
     ensures { OnOk result
-        (AddsUnfinished execs.now.rows (filter_map made_by (last.now ∷ [])) inputs.old inputs.new) }
+        (AddsUnfinished execs.now.rows (filter_map last_evaluation (last.now ∷ [])) inputs.old
+        inputs.new) }
 {
     match last {
         Last::Made(source) => add_source(inputs, execs, *source),

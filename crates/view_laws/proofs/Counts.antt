@@ -8,8 +8,8 @@ use Rattle.reply_outbox.specs.Items.{lengths_sent}
 use Rattle.session_rules.specs.declared.service.Service.{Service}
 use Rattle.session_rules.specs.declared.service.Service.TheVariants.{Workers}
 use Rattle.session_rules.specs.Heard.{heard}
-use Rattle.session_rules.specs.Replies.{told}
-use Rattle.keeping_rules.specs.session_replies_below.Spelling.{spelling}
+use Rattle.session_rules.specs.Replies.{entry_replies}
+use Rattle.keeping_rules.specs.session_replies_below.Spelling.{reply_spelling}
 use Rattle.keeping_rules.specs.Items.{SessionItem, heard_in}
 use Rattle.keeping_rules.specs.Legal.{AreLegal, MayStand}
 use Rattle.keeping_rules.specs.Pieces.{pieces}
@@ -59,7 +59,8 @@ module _ {S : Type 0} (l : Lang S) where
       omega (
         arith,
         within_replies service (before ∷ items) are.0,
-        length-append (pieces l service h) (map spelling (told l service h (heard service entry))),
+        length-append (pieces l service h)
+            (map reply_spelling (entry_replies l service h (heard service entry))),
       )
   within_replies service (item.Sent w len ∷ before ∷ items) are =
       let first = are.1.first in

@@ -12,8 +12,8 @@ use Rattle.reply_outbox.specs.declared.item.Item.TheVariants as item
 use Rattle.session_rules.specs.declared.service.Service.{Service}
 use Rattle.session_rules.specs.declared.service.Service.TheVariants.{Workers}
 use Rattle.session_rules.specs.Heard.{Heard, heard}
-use Rattle.session_rules.specs.Replies.{replies, told}
-use Rattle.keeping_rules.specs.session_replies_below.Spelling.{spelling}
+use Rattle.session_rules.specs.Replies.{replies, entry_replies}
+use Rattle.keeping_rules.specs.session_replies_below.Spelling.{reply_spelling}
 use Rattle.keeping_rules.specs.Items.{SessionItem, heard_in}
 use Rattle.keeping_rules.specs.Pieces.{pieces}
 use Rattle.view_laws.specs.Callers.{service_of, whose, worker_count}
@@ -39,7 +39,8 @@ module _ {S : Type 0} (l : Lang S) where
   grow service (item.Lost writer ∷ new) items = grow service new items
   grow service (item.Made entry ∷ new) items =
       let g = grow service new items in
-      let last = map spelling (told l service (heard_in service (new ++ items)) (heard service entry)) in
+      let last = map reply_spelling (entry_replies l service (heard_in service (new ++ items))
+      (heard service entry)) in
       record {
         more = g.more ++ last;
         is = ap (λ (all : Replies). all ++ last) g.is ∙ append_assoc (pieces l service (heard_in service items)) g.more last;

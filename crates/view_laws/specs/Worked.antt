@@ -8,7 +8,7 @@ use Rattle.reply_writing.specs.declared.told.Told.TheVariants as tells
 use Rattle.core_rules.specs.Small.{small, eval}
 use Rattle.session_rules.specs.declared.entry.Entry.TheVariants.{Call, Claimed, Finished, Ended}
 use Rattle.session_rules.specs.declared.service.Service.TheVariants.{Workers}
-use Rattle.keeping_rules.specs.session_replies_below.Spelling.{spelling}
+use Rattle.keeping_rules.specs.session_replies_below.Spelling.{reply_spelling}
 use Rattle.keeping_rules.specs.Items.{SessionItem}
 use Rattle.view_laws.specs.Callers.{whose}
 use Rattle.view_laws.specs.Histories.{IsLegalLog}
@@ -18,7 +18,7 @@ use Rattle.view_laws.specs.Sent.{bytes_sent}
 
 -- a message without chunks is refused
 abbrev pub refusal : List ℕ
-refusal = spelling (tells.Refused UnknownFunction)
+refusal = reply_spelling (tells.Refused UnknownFunction)
 
 -- one worker: the message is refused
 abbrev pub one_message : List SessionItem

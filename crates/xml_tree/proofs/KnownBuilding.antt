@@ -2,7 +2,7 @@
 use Rattle.std.proofs.Common.{◌≡◌, ℕ, ◌+◌, ◌-◌, ◌<◌, List, [], ◌∷◌, ◌++◌, length, refl, sym, ap, ◌∙◌, append_assoc, append-nil, arith}
 use Rattle.xml_tree.specs.declared.tree.Tree.{Tree}
 use Rattle.xml_tree.specs.declared.tree.Tree.TheVariants.{Elem, Text}
-use Rattle.xml_tree.specs.Bodies.{OpenElement, built, body_of, ClosesOpen, AreBalanced}
+use Rattle.xml_tree.specs.Bodies.{OpenElement, built_body, body_of, ClosesOpen, AreBalanced}
 use Rattle.xml_tree.specs.Marks.{Mark, opening, closing, words, marks, tree_marks, open_after}
 use Rattle.xml_tree.proofs.KnownMarks.{marks-append, tree_marks-Elem, tree_marks-Text}
 
@@ -26,7 +26,8 @@ marks-last : (body : List Tree) (t : Tree) → marks (body ++ t ∷ []) ≡ mark
 marks-last body t = marks-append body (t ∷ []) ∙ ap (λ xs. marks body ++ xs) (append-nil (tree_marks t))
 
 built-marks : (ms : List Mark) (body : List Tree) (es : List OpenElement) (d : ℕ) → d ≡ length es
-    → ClosesOpen d ms → open_after d ms ≡ 0 → marks (built ms body es) ≡ (outside es ++ marks body) ++ ms
+    → ClosesOpen d ms → open_after d ms ≡ 0
+    → marks (built_body ms body es) ≡ (outside es ++ marks body) ++ ms
 built-marks [] body [] d same closes none = sym (append-nil (marks body))
 built-marks [] body (e ∷ es) d same closes none = absurd (omega (arith, same, none))
 built-marks (opening name attributes ∷ ms) body es d same closes none =

@@ -12,9 +12,9 @@ pub record OpenElement : Type 0 where
   pub attributes : List Attribute
 
 -- the innermost open element is closed over the body
-abbrev pub closed : List Tree → List OpenElement → List Tree
-closed body [] = body
-closed body (f ∷ fs) = f.before ++ Elem f.name f.attributes body ∷ []
+abbrev pub closed_body : List Tree → List OpenElement → List Tree
+closed_body body [] = body
+closed_body body (f ∷ fs) = f.before ++ Elem f.name f.attributes body ∷ []
 
 -- the elements that are open outside of it
 abbrev pub outer : List OpenElement → List OpenElement
@@ -22,16 +22,19 @@ outer [] = []
 outer (f ∷ fs) = fs
 
 -- the body after the marks, from what the innermost open element has so far
-abbrev pub built : List Mark → List Tree → List OpenElement → List Tree
-built [] body open_elements = body
-built (opening name attributes ∷ ms) body open_elements =
-    built ms [] (record { before = body; name = name; attributes = attributes } ∷ open_elements)
-built (closing ∷ ms) body open_elements = built ms (closed body open_elements) (outer open_elements)
-built (words text ∷ ms) body open_elements = built ms (body ++ Text text ∷ []) open_elements
+abbrev pub built_body : List Mark → List Tree → List OpenElement → List Tree
+built_body [] body open_elements = body
+built_body (opening name attributes ∷ ms) body open_elements =
+    built_body ms [] (record { before = body; name = name; attributes = attributes } ∷
+    open_elements)
+built_body (closing ∷ ms) body open_elements = built_body ms (closed_body body open_elements)
+    (outer open_elements)
+built_body (words text ∷ ms) body open_elements = built_body ms (body ++ Text text ∷ [])
+    open_elements
 
 -- the body that the marks make (this project's own)
 abbrev pub body_of : List Mark → List Tree
-body_of ms = built ms [] []
+body_of ms = built_body ms [] []
 
 -- no end tag stands where no element is open, where d were open before the marks
 abbrev pub ClosesOpen : ℕ → List Mark → Type 0

@@ -12,7 +12,7 @@ use Rattle.yxml.specs.declared.fault.YxmlFault.{YxmlFault}
 use Rattle.yxml.specs.declared.fault.YxmlFault.TheVariants.{Unbalanced}
 use Rattle.yxml.specs.Answer.{answer_by, body_in}
 use Rattle.yxml.specs.Reading.{said, is_x, is_y, nesting_fault, marks_said, marks_from, marks_in, first_fault, fault_in}
-use Rattle.yxml.specs.Spelling.{merged, Spells}
+use Rattle.yxml.specs.Spelling.{merged_texts, Spells}
 use Rattle.yxml.proofs.Depths.{chunks-within, or_later-None}
 use Rattle.yxml.proofs.Joining.{merged-within}
 use Rattle.yxml.proofs.Spelled.{one_body}
@@ -40,20 +40,27 @@ chunks-balanced d at (chunk ∷ chunks) end e =
     ∙ chunks-balanced (open_after d here) (at + length chunk + 1) chunks end both.1
 
 -- where no fault is, there is a body
-pub spelled : (text : List ℕ) → fault_in text ≡ None → Spells text (body_of (merged (marks_in text)))
+pub spelled : (text : List ℕ) → fault_in text ≡ None
+    → Spells text (body_of (merged_texts (marks_in text)))
 spelled text e =
     let within = merged-within 0 (marks_in text) (chunks-within 0 0 (slice_split is_x text) (length text) e) in
-    let closes = within-closes 0 (merged (marks_in text)) within in
+    let closes = within-closes 0 (merged_texts (marks_in text)) within in
     let none = merged_open 0 (marks_in text) ∙ chunks-balanced 0 0 (slice_split is_x text) (length text) e in
-    record { faultless = e; same = sym (balanced-marks (merged (marks_in text)) (closes, none)) }
+    record {
+      faultless = e;
+      same = sym (balanced-marks (merged_texts (marks_in text)) (
+        closes,
+        none,
+      ));
+    }
 
 ok_same : (ms : List Mark) (body : List Tree) → answer_by None ms ≡ Ok body → body_of ms ≡ body
 ok_same ms body e = cc
 
 body-by : (text : List ℕ) (body : List Tree) (o : Option YxmlFault) → fault_in text ≡ o
-    → (answer_by o (merged (marks_in text)) ≡ Ok body) ↔ (Spells text body)
+    → (answer_by o (merged_texts (marks_in text)) ≡ Ok body) ↔ (Spells text body)
 body-by text body None e =
-    (λ is. subst (Spells text) (ok_same (merged (marks_in text)) body is) (spelled text e), λ s. ap Ok (one_body text _ body (spelled text e) s))
+    (λ is. subst (Spells text) (ok_same (merged_texts (marks_in text)) body is) (spelled text e), λ s. ap Ok (one_body text _ body (spelled text e) s))
 body-by text body (Some f) e = (λ is. absurd (cc), λ s. absurd (let no : None ≡ Some f = sym s.faultless ∙ e in cc))
 
 -- the function gives just the body that is spelled
@@ -66,4 +73,4 @@ fault-by (Some g) ms f = (λ is. cc, λ is. cc)
 
 -- or just the first fault
 pub answer-fault : (text : List ℕ) (f : YxmlFault) → (body_in text ≡ Err f) ↔ (fault_in text ≡ Some f)
-answer-fault text f = fault-by (fault_in text) (merged (marks_in text)) f
+answer-fault text f = fault-by (fault_in text) (merged_texts (marks_in text)) f

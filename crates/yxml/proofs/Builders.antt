@@ -9,7 +9,7 @@ use Rattle.xml_tree.specs.Marks.{Mark, opening, closing, words, marks, open_afte
 use Rattle.xml_tree.proofs.KnownMarks.{marks-append, tree_marks-Text, tree_marks-Elem}
 use Rattle.yxml.specs.declared.builder.Frame.{Frame}
 use Rattle.yxml.specs.declared.builder.Builder.{Builder}
-use Rattle.yxml.specs.Spelling.{merged}
+use Rattle.yxml.specs.Spelling.{merged_texts}
 use Rattle.yxml.specs.Builder.{frame_marks, text_marks, with_text, base, flat, IsSettled, HasRead}
 use Rattle.yxml.proofs.Settled.{merged-words, settled-append, settled-opening, settled-closing}
 
@@ -23,7 +23,8 @@ takes-mark : (old new : Builder) (m : Mark) → base new ≡ flat old ++ m ∷ [
 takes-mark old new m is none settled depth =
     let whole : flat new ≡ flat old ++ m ∷ [] = ap (λ t. base new ++ text_marks t) none ∙ append-nil (base new) ∙ is in
     record {
-      reads = λ rest. ap (λ ms. merged (ms ++ rest)) whole ∙ ap merged (append_assoc (flat old) (m ∷ []) rest);
+      reads = λ rest. ap (λ ms. merged_texts (ms ++ rest)) whole ∙ ap merged_texts
+          (append_assoc (flat old) (m ∷ []) rest);
       settled = λ p. subst IsSettled (sym (is ∙ append_assoc (base old) (text_marks old.text) (m ∷ []))) (settled-append _ _ p settled);
       depth = depth;
     }
@@ -36,11 +37,12 @@ frames-opened (g ∷ stack) f = ap (λ ms. frame_marks g ++ ms) (frames-opened s
 pub takes-text : (old : Builder) (text : List ℕ) → text ≢ [] → HasRead old (record old { text = old.text ++ text }) (words text ∷ [])
 takes-text old text some = record { reads = λ rest. reads old.text text some rest; settled = λ p. p; depth = refl } where
   reads : (before after : List ℕ) → after ≢ [] → (rest : List Mark)
-      → merged ((base old ++ text_marks (before ++ after)) ++ rest) ≡ merged ((base old ++ text_marks before) ++ (words after ∷ rest))
+      → merged_texts ((base old ++ text_marks (before ++ after)) ++ rest) ≡ merged_texts ((base old ++ text_marks before) ++ (words after ∷ rest))
   reads before [] some rest = absurd (some refl)
-  reads [] (b ∷ bs) some rest = ap merged (append_assoc (base old) (words (b ∷ bs) ∷ []) rest ∙ ap (λ ms. ms ++ words (b ∷ bs) ∷ rest) (sym (append-nil (base old))))
-  reads (a ∷ before) (b ∷ bs) some rest = ap merged (append_assoc (base old) (words (a ∷ before ++ b ∷ bs) ∷ []) rest)
-      ∙ merged-words (base old) (a ∷ before) (b ∷ bs) rest ∙ ap merged (sym (append_assoc (base old) (words (a ∷ before) ∷ []) (words (b ∷ bs) ∷ rest)))
+  reads [] (b ∷ bs) some rest = ap merged_texts (append_assoc (base old) (words (b ∷ bs) ∷ []) rest ∙ ap (λ ms. ms ++ words (b ∷ bs) ∷ rest) (sym (append-nil (base old))))
+  reads (a ∷ before) (b ∷ bs) some rest = ap merged_texts
+      (append_assoc (base old) (words (a ∷ before ++ b ∷ bs) ∷ []) rest)
+      ∙ merged-words (base old) (a ∷ before) (b ∷ bs) rest ∙ ap merged_texts (sym (append_assoc (base old) (words (a ∷ before) ∷ []) (words (b ∷ bs) ∷ rest)))
 
 -- the text has ended
 abbrev pub ended : Builder → Builder

@@ -4,7 +4,7 @@ use Rattle.std.specs.List.{AllByRecursion}
 use Rattle.xml_tree.specs.Marks.{Mark, opening, closing, words}
 use Rattle.xml_tree.specs.Normal.{IsFit, IsApart, AreApart}
 use Rattle.xml_tree.proofs.KnownNesting.{IsWithin}
-use Rattle.yxml.specs.Spelling.{onto, merged}
+use Rattle.yxml.specs.Spelling.{onto, merged_texts}
 use Rattle.text_words.proofs.KnownLists.{each-both}
 
 some-append : (s t : List ℕ) → s ≢ [] → s ++ t ≢ []
@@ -19,9 +19,10 @@ onto-fit (words s) (closing ∷ ms) h k = (h, k)
 onto-fit (opening name attributes) ms h k = (h, k)
 onto-fit closing ms h k = (h, k)
 
-pub merged-fit : (ms : List Mark) → AllByRecursion IsFit ms → AllByRecursion IsFit (merged ms)
+pub merged-fit : (ms : List Mark) → AllByRecursion IsFit ms
+    → AllByRecursion IsFit (merged_texts ms)
 merged-fit [] h = tt
-merged-fit (m ∷ ms) h = onto-fit m (merged ms) h.0 (merged-fit ms h.1)
+merged-fit (m ∷ ms) h = onto-fit m (merged_texts ms) h.0 (merged-fit ms h.1)
 
 longer-apart : (s t : List ℕ) (ms : List Mark) → IsApart (words t) ms → IsApart (words (s ++ t)) ms
 longer-apart s t [] h = tt
@@ -37,9 +38,9 @@ onto-apart (words s) (closing ∷ ms) h = (tt, h)
 onto-apart (opening name attributes) ms h = (tt, h)
 onto-apart closing ms h = (tt, h)
 
-pub merged-apart : (ms : List Mark) → AreApart (merged ms)
+pub merged-apart : (ms : List Mark) → AreApart (merged_texts ms)
 merged-apart [] = tt
-merged-apart (m ∷ ms) = onto-apart m (merged ms) (merged-apart ms)
+merged-apart (m ∷ ms) = onto-apart m (merged_texts ms) (merged-apart ms)
 
 words-within : (d : ℕ) (s : List ℕ) (ms : List Mark) → IsWithin d ms → IsWithin d (onto (words s) ms)
 words-within d s [] h = tt
@@ -47,8 +48,8 @@ words-within d s (words t ∷ ms) h = h
 words-within d s (opening name attributes ∷ ms) h = h
 words-within d s (closing ∷ ms) h = h
 
-pub merged-within : (d : ℕ) (ms : List Mark) → IsWithin d ms → IsWithin d (merged ms)
+pub merged-within : (d : ℕ) (ms : List Mark) → IsWithin d ms → IsWithin d (merged_texts ms)
 merged-within d [] h = tt
 merged-within d (opening name attributes ∷ ms) h = (h.0, merged-within (d + 1) ms h.1)
 merged-within d (closing ∷ ms) h = (h.0, merged-within (d - 1) ms h.1)
-merged-within d (words s ∷ ms) h = words-within d s (merged ms) (merged-within d ms h)
+merged-within d (words s ∷ ms) h = words-within d s (merged_texts ms) (merged-within d ms h)

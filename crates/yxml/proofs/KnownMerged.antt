@@ -1,6 +1,6 @@
 -- Marks whose texts are merged.
 use Rattle.std.proofs.Common.{◌≡◌, ℕ, List, [], ◌∷◌, ◌++◌, refl, sym, ap, append_assoc, ◌+◌, ◌-◌, ◌∙◌}
-use Rattle.yxml.specs.Spelling.{onto, merged}
+use Rattle.yxml.specs.Spelling.{onto, merged_texts}
 use Rattle.xml_tree.specs.Marks.{Mark, opening, closing, words, open_after}
 
 -- two texts are put before marks as their join is
@@ -18,8 +18,8 @@ words_open d s (opening name attributes ∷ ms) = refl
 words_open d s (closing ∷ ms) = refl
 
 -- merging texts opens and closes nothing
-pub merged_open : (d : ℕ) (ms : List Mark) → open_after d (merged ms) ≡ open_after d ms
+pub merged_open : (d : ℕ) (ms : List Mark) → open_after d (merged_texts ms) ≡ open_after d ms
 merged_open d [] = refl
 merged_open d (opening name attributes ∷ ms) = merged_open (d + 1) ms
 merged_open d (closing ∷ ms) = merged_open (d - 1) ms
-merged_open d (words s ∷ ms) = words_open d s (merged ms) ∙ merged_open d ms
+merged_open d (words s ∷ ms) = words_open d s (merged_texts ms) ∙ merged_open d ms

@@ -11,19 +11,19 @@ use Rattle.yxml.specs.declared.fault.YxmlFault.{YxmlFault}
 use Rattle.yxml.specs.declared.fault.YxmlFault.TheVariants.{Unbalanced}
 use Rattle.yxml.specs.Builder.{base, flat, IsSettled, HasRead}
 use Rattle.yxml.specs.Reading.{said, is_x, is_y, nesting_fault, or_later, marks_said, first_fault, fault_in, marks_in, marks_from}
-use Rattle.yxml.specs.Spelling.{merged, Spells}
+use Rattle.yxml.specs.Spelling.{merged_texts, Spells}
 use Rattle.yxml.proofs.Settled.{merged-last}
 
 pub record Progress (text : List ℕ) (b : Builder) (at : ℕ) (chunks : List (List ℕ)) : Type 0 where
   pub fault : fault_in text ≡ first_fault (length b.stack) at chunks (length text)
-  pub marks : merged (marks_in text) ≡ merged (flat b ++ marks_from at chunks)
+  pub marks : merged_texts (marks_in text) ≡ merged_texts (flat b ++ marks_from at chunks)
   pub settled : IsSettled (base b)
 
 -- nothing is read yet
 pub started : (text : List ℕ) (b : Builder) → flat b ≡ [] → IsSettled (base b) → length b.stack ≡ 0 → Progress text b 0 (slice_split is_x text)
 started text b none settled depth = record {
   fault = ap (λ d. first_fault d 0 (slice_split is_x text) (length text)) (sym depth);
-  marks = ap (λ ms. merged (ms ++ marks_in text)) (sym none);
+  marks = ap (λ ms. merged_texts (ms ++ marks_in text)) (sym none);
   settled = settled;
 }
 
@@ -51,5 +51,6 @@ left_open text b at p some = p.fault ∙ ap (λ t. if t then None else Some (Unb
 pub finished : (text : List ℕ) (b : Builder) (at : ℕ) (body : List Tree) → Progress text b at [] → length b.stack ≡ 0 → marks body ≡ flat b → Spells text body
 finished text b at body p none same = record {
   faultless = p.fault ∙ ap (λ d. first_fault d at [] (length text)) none;
-  same = p.marks ∙ ap merged (append-nil (flat b)) ∙ merged-last (base b) b.text p.settled ∙ sym same;
+  same = p.marks ∙ ap merged_texts (append-nil (flat b)) ∙ merged-last (base b) b.text p.settled ∙
+      sym same;
 }

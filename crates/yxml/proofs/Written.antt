@@ -11,7 +11,7 @@ use Rattle.xml_tree.proofs.KnownNesting.{IsWithin, Nests-trees}
 use Rattle.yxml.specs.declared.fault.YxmlFault.{YxmlFault}
 use Rattle.yxml.specs.declared.fault.YxmlFault.TheVariants.{Unbalanced, TooDeep}
 use Rattle.yxml.specs.Reading.{said, is_x, is_y, nesting_fault, or_later, marks_said, marks_from, first_fault}
-use Rattle.yxml.specs.Spelling.{onto, merged, spellings, yxml, Spells}
+use Rattle.yxml.specs.Spelling.{onto, merged_texts, spellings, yxml, Spells}
 use Rattle.yxml.proofs.Spelt.{text-split, tag_chunk, tag_chunk-lacks, opening-said, text-said}
 
 -- the chunks say just these marks, and have no fault where the marks nest
@@ -125,7 +125,7 @@ onto-apart (words text) (words next ∷ ms) h = absurd h
 onto-apart (words text) (opening name attributes ∷ ms) h = refl
 onto-apart (words text) (closing ∷ ms) h = refl
 
-merged-is : (ms : List Mark) → AreApart ms → merged ms ≡ ms
+merged-is : (ms : List Mark) → AreApart ms → merged_texts ms ≡ ms
 merged-is [] h = refl
 merged-is (m ∷ ms) h = ap (onto m) (merged-is ms h.1) ∙ onto-apart m ms h.0
 
@@ -139,5 +139,6 @@ written body n =
     let balanced : open_after 0 ms ≡ 0 = ap (open_after 0) (sym (append-nil ms)) ∙ (Nests-trees body).balanced 0 [] in
     record {
       faultless = ap (λ ps. first_fault 0 0 ps (length (yxml body))) c.split ∙ says.fine 0 0 (length (yxml body)) within balanced;
-      same = ap (λ ps. merged (marks_from 0 ps)) c.split ∙ ap merged (says.marks 0) ∙ merged-is ms n.apart;
+      same = ap (λ ps. merged_texts (marks_from 0 ps)) c.split ∙ ap merged_texts (says.marks 0) ∙
+          merged-is ms n.apart;
     }

@@ -6,7 +6,7 @@ use Rattle.xml_tree.specs.declared.tree.Tree.TheVariants.{Text}
 use Rattle.xml_tree.specs.Marks.{Mark, opening, words, marks, open_after}
 use Rattle.yxml.specs.declared.builder.Frame.{Frame}
 use Rattle.yxml.specs.declared.builder.Builder.{Builder}
-use Rattle.yxml.specs.Spelling.{merged}
+use Rattle.yxml.specs.Spelling.{merged_texts}
 
 -- what stands before an element that is open, and its start tag
 abbrev pub frame_marks : Frame → List Mark
@@ -32,10 +32,11 @@ flat b = base b ++ text_marks b.text
 
 -- no text of these marks joins what follows them
 pub record IsSettled (ms : List Mark) : Type 0 where
-  pub settled : (rest : List Mark) → merged (ms ++ rest) ≡ ms ++ merged rest
+  pub settled : (rest : List Mark) → merged_texts (ms ++ rest) ≡ ms ++ merged_texts rest
 
 -- the builder has read these marks too
 pub record HasRead (old new : Builder) (ms : List Mark) : Type 0 where
-  pub reads : (rest : List Mark) → merged (flat new ++ rest) ≡ merged (flat old ++ (ms ++ rest))
+  pub reads : (rest : List Mark)
+      → merged_texts (flat new ++ rest) ≡ merged_texts (flat old ++ (ms ++ rest))
   pub settled : IsSettled (base old) → IsSettled (base new)
   pub depth : length new.stack ≡ open_after (length old.stack) ms

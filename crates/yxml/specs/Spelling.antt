@@ -15,15 +15,15 @@ attribute_spelling a = y_byte ∷ (a.key ++ equals_sign ∷ a.value)
 
 -- X Y name, Y key=value for each attribute, X; the body; X Y X; texts verbatim (The Isabelle System
 -- Manual, "YXML")
-abbrev pub spelling : Mark → List ℕ
-spelling (opening name attributes) =
+abbrev pub mark_spelling : Mark → List ℕ
+mark_spelling (opening name attributes) =
     x_byte ∷ y_byte ∷ (name ++ flat_map attribute_spelling attributes ++ x_byte ∷ [])
-spelling closing = x_byte ∷ y_byte ∷ x_byte ∷ []
-spelling (words text) = text
+mark_spelling closing = x_byte ∷ y_byte ∷ x_byte ∷ []
+mark_spelling (words text) = text
 
 -- the spellings of marks, one after the other
 abbrev pub spellings : List Mark → List ℕ
-spellings ms = flat_map spelling ms
+spellings ms = flat_map mark_spelling ms
 
 -- the one text that is written for a body
 abbrev pub yxml : List Tree → List ℕ
@@ -35,14 +35,14 @@ onto (words text) (words next ∷ ms) = words (text ++ next) ∷ ms
 onto m ms = m ∷ ms
 
 -- texts side by side are one text
-abbrev pub merged : List Mark → List Mark
-merged [] = []
-merged (m ∷ ms) = onto m (merged ms)
+abbrev pub merged_texts : List Mark → List Mark
+merged_texts [] = []
+merged_texts (m ∷ ms) = onto m (merged_texts ms)
 
 -- the text has no fault, and its marks are the body's, once texts side by side are merged
 pub record Spells (text : List ℕ) (body : List Tree) : Type 0 where
   pub faultless : fault_in text ≡ None
-  pub same : merged (marks_in text) ≡ marks body
+  pub same : merged_texts (marks_in text) ≡ marks body
 
 -- the answer is the body, or want of memory
 abbrev pub ReadsAs : List Tree → Result (List Tree) YxmlFault → Type 0

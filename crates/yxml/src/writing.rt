@@ -2,7 +2,7 @@ ghost use Rattle.std.specs.Prelude.{◌≡◌, ◌++◌, IfOk, OnOk, string_byte
 ghost use Rattle.std.specs.List.{flat_map};
 ghost use Rattle.xml_tree.specs.Marks.{marks, tree_marks, opening};
 ghost use Rattle.xml_tree.specs.Normal.{IsNormal};
-ghost use Rattle.yxml.specs.Spelling.{yxml, spelling, spellings, attribute_spelling, Spells};
+ghost use Rattle.yxml.specs.Spelling.{yxml, mark_spelling, spellings, attribute_spelling, Spells};
 
 use std::alloc::{AllocError, Global};
 use xml_tree::{Attribute, Body, Tree};
@@ -100,7 +100,7 @@ fn write_tree(out: &mut String, tree: &Tree) -> Result<(), AllocError>
 
 fn write_tag(out: &mut String, name: &str, attributes: &[Attribute]) -> Result<(), AllocError>
     ensures { OnOk result (string_bytes out.new
-        ≡ string_bytes out.old ++ spelling (opening name.now attributes.now)) }
+        ≡ string_bytes out.old ++ mark_spelling (opening name.now attributes.now)) }
 {
     out.push_str(OPEN)?;
     out.push_str(name)?;

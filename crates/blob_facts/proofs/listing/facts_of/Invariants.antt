@@ -1,12 +1,12 @@
 use Rattle.std.proofs.Common.{◌≡◌, ◌≤◌, ◌+◌, length}
-use Rattle.isar_rules.specs.BlobLines.{lines_of, facts_from, facts_of}
+use Rattle.isar_rules.specs.BlobLines.{lines_of, facts_from, listed_facts}
 use Rattle.blob_facts.specs.Listing.{joined}
 use Rattle.blob_facts.proofs.listing.facts_of.Given as goal
 
 abbrev pub invariant-lines : goal.invariant-lines
 invariant-lines l = record {
   within : l.number + length l.rest ≤ length l.text + 1;
-  told : joined l.facts (facts_from l.number (lines_of l.rest)) ≡ facts_of l.text;
+  told : joined l.facts (facts_from l.number (lines_of l.rest)) ≡ listed_facts l.text;
 }
 
 abbrev pub decreases-lines : goal.decreases-lines

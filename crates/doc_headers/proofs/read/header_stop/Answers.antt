@@ -2,14 +2,14 @@ use Rattle.std.proofs.Common.{◌≡◌, ◌≤◌, ◌∙◌, length, false, re
 use Rattle.outer_tokens.specs.Stages.{after_token, is_ended}
 use Rattle.outer_tokens.specs.declared.stage.Stage.{Stage}
 use Rattle.outer_tokens.specs.declared.stage.Stage.TheVariants.{Absent}
-use Rattle.doc_headers.specs.Reading.{nothing, advanced}
+use Rattle.doc_headers.specs.Reading.{empty_reading, advanced}
 use Rattle.doc_headers.proofs.ReadLemmas.{read-start, read-on, stage-next, not-ended}
 use Rattle.doc_headers.proofs.StopLemmas.{read-stop, absent-stop, end-stop}
 use Rattle.doc_headers.proofs.read.header_stop.Goals as goal
 use Rattle.doc_headers.proofs.read.header_stop.Goals.{After-after_token-stage}
 
 pub loop-token-init : goal.loop-token-init
-loop-token-init c = (omega arith, nothing, refl, read-start c.args.text.now)
+loop-token-init c = (omega arith, empty_reading, refl, read-start c.args.text.now)
 
 -- the token ends within the text
 within : (c : After-after_token-stage) → c.in-Some.token.range.stop ≤ length c.args.text.now

@@ -4,7 +4,7 @@ use Rattle.pide_base.specs.Ids.{id_end}
 use Rattle.pide_base.specs.declared.range.Range.{Range}
 use Rattle.command_spans.specs.CutTexts.{Cuts}
 use Rattle.buffer_rules.specs.Cuts.{source}
-use Rattle.buffer_rules.specs.Numbers.{kept, ids_of}
+use Rattle.buffer_rules.specs.Numbers.{kept_runs, ids_of}
 use Rattle.buffer_rules.specs.Nodes.{entry, ranges_in}
 use Rattle.node_commands.specs.Commands.{ranges_of, sources_in, commands_in}
 use Rattle.editor_buffer.specs.CutNodes.{next_after}
@@ -24,10 +24,11 @@ next_is c =
     let rs = c.in_ok-ranges.ranges.items in
     let k = c.kept_runs-kept.result in
     let text : c.as_slice.result.now ≡ sheet.text = c.as_slice.ensures ∙ c.get.ensures in
-    let is_kept : k ≡ kept olds (map (source sheet.text) rs) =
+    let is_kept : k ≡ kept_runs olds (map (source sheet.text) rs) =
     c.kept_runs-kept.ensures.value
-    ∙ ap (λ (xs : List (List ℕ)). kept xs c.deref-3.result.now) (c.deref-2.ensures.value ∙ c.in_ok-before.ensures)
-    ∙ ap (λ (ys : List (List ℕ)). kept olds ys) (c.deref-3.ensures.value ∙ c.in_ok-now.ensures
+    ∙ ap (λ (xs : List (List ℕ)). kept_runs xs c.deref-3.result.now)
+    (c.deref-2.ensures.value ∙ c.in_ok-before.ensures)
+    ∙ ap (λ (ys : List (List ℕ)). kept_runs olds ys) (c.deref-3.ensures.value ∙ c.in_ok-now.ensures
     ∙ ap (λ (t : List ℕ). map (source t) c.deref.result.now) text ∙ ap (λ (qs : List Range). map (source sheet.text) qs) c.deref.ensures.value) in
     let fresh : c.len.result - c.front.result - c.back.result ≡ length rs - k.front - k.back =
     omega (arith, c.len.ensures, c.front.ensures, c.back.ensures, c.in_ok-ranges.ranges.ok.0) in

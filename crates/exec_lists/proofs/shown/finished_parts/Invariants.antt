@@ -1,10 +1,10 @@
 use Rattle.std.proofs.Common.{◌≡◌, ◌++◌, ◌-◌, map, drop}
 use Rattle.core_tables.specs.Rows.{execution_of}
-use Rattle.exec_lists.specs.Parts.{told, rows_known}
+use Rattle.exec_lists.specs.Parts.{told_part, rows_known}
 use Rattle.exec_lists.proofs.shown.finished_parts.Given as goal
 
 abbrev pub invariant-commands : goal.invariant-commands
-invariant-commands g l = map told l.parts.items
+invariant-commands g l = map told_part l.parts.items
     ++ rows_known (λ e. execution_of l.execs.rows e) (drop l.place l.entries) (drop l.place l.rows)
     ≡ rows_known (λ e. execution_of l.execs.rows e) l.entries l.rows
 

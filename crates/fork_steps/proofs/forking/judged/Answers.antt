@@ -4,13 +4,13 @@ use Rattle.language.specs.Answers.{IsAnswer}
 use Rattle.language.specs.Questions.{AsksSo}
 use Rattle.proof_terms.specs.Answers.{Told}
 use Rattle.proof_terms.specs.Marks.{marks}
-use Rattle.isar_rules.specs.Forks.{judged}
+use Rattle.isar_rules.specs.Forks.{judged_reports}
 use Rattle.fork_steps.specs.Questions.{questions_of}
 use Rattle.fork_steps.proofs.forking.judged.Goals as goal
 
 pub returns-in-Ok-clause-answer : goal.returns-in-Ok-clause-answer
 returns-in-Ok-clause-answer g c =
-    subst (λ a. IsAnswer c.checked-answer.result (judged c.args.source.now c.args.goal.now c.args.scope.now a) (g.P.Stop.yeses c.args.stop.now) (g.P.Stop.yeses c.checked-answer.new.stop))
+    subst (λ a. IsAnswer c.checked-answer.result (judged_reports c.args.source.now c.args.goal.now c.args.scope.now a) (g.P.Stop.yeses c.args.stop.now) (g.P.Stop.yeses c.checked-answer.new.stop))
     (c.one_answer.ensures.one (marks c.args.source.now c.args.tokens.now) (Ok c.in-Ok.term) c.in-Ok.ensures)
     c.checked-answer.ensures.answer
 
@@ -18,9 +18,10 @@ pub returns-in-Err-Fault-clause-answer : goal.returns-in-Err-Fault-clause-answer
 returns-in-Err-Fault-clause-answer g c =
     let read = marks c.args.source.now c.args.tokens.now in
     let yeses = g.P.Stop.yeses c.args.stop.now in
-    subst (λ a. IsAnswer c.given.result (judged c.args.source.now c.args.goal.now c.args.scope.now a) yeses yeses)
+    subst (λ a. IsAnswer c.given.result (judged_reports c.args.source.now c.args.goal.now
+    c.args.scope.now a) yeses yeses)
     (c.one_answer.ensures.one read (Err c.in-Err-Fault.fault) (subst (λ e. Told read (Err e)) c.in-Err-Fault.field-0-is c.in-Err-Fault.ensures))
-    (c.given.ensures.answer (judged c.args.source.now c.args.goal.now c.args.scope.now (Err c.in-Err-Fault.fault)) yeses yeses c.faulty.ensures)
+    (c.given.ensures.answer (judged_reports c.args.source.now c.args.goal.now c.args.scope.now (Err c.in-Err-Fault.fault)) yeses yeses c.faulty.ensures)
 
 pub returns-in-Ok-clause-asks : goal.returns-in-Ok-clause-asks
 returns-in-Ok-clause-asks g c =

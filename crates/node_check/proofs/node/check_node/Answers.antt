@@ -2,7 +2,7 @@
 use Rattle.std.proofs.Common.{rules, ◌≡◌, [], map, sym, ap, ap₂, ◌∙◌}
 use Rattle.std.specs.List.{AllByRecursion}
 use Rattle.std.proofs.lemmas.Result.{IfOk-weaker}
-use Rattle.report_markup.specs.Sorting.{in_order}
+use Rattle.report_markup.specs.Sorting.{ordered_reports}
 use Rattle.buffer_rules.specs.Nodes.{ranges_in}
 use Rattle.core_rules.specs.Scratch.{final, run_node}
 use Rattle.node_check.specs.Walking.{reports_from, state_from}
@@ -28,8 +28,9 @@ returns-clause-reports g c = λ next.
     let places = ranges ∙ sym (ranges_are counted c.args.node.now c.args.aliases.now next) in
     let same = ap₂ (λ t rs. reports_from l t rs begins) text places ∙ sym (reported_so l node node.entries begins) in
     IfOk-weaker c.run_commands.result _
-    (λ run. run.reports.items ≡ in_order (reports_of l node.entries (run_node l node [] begins).commands))
-    (λ run is. is ∙ ap in_order same) c.run_commands.ensures.reports
+    (λ run. run.reports.items ≡ ordered_reports
+    (reports_of l node.entries (run_node l node [] begins).commands))
+    (λ run is. is ∙ ap ordered_reports same) c.run_commands.ensures.reports
 
 pub returns-clause-behind : goal.returns-clause-behind
 returns-clause-behind g c = λ next.

@@ -1,6 +1,6 @@
 use Rattle.std.proofs.Common.{rules, ◌≡◌, List, map, sym, ap, subst, ◌∙◌}
 use Rattle.report_markup.specs.declared.report.Report.{Report}
-use Rattle.report_markup.specs.Sorting.{in_order}
+use Rattle.report_markup.specs.Sorting.{ordered_reports}
 use Rattle.snapshots.specs.declared.part.AssignedPart.{AssignedPart}
 use Rattle.snapshots.specs.Converted.{left_by}
 use Rattle.snapshots.specs.Gathered.{AllMovable}
@@ -18,5 +18,6 @@ pub returns : goal.returns
 returns c =
     let same : c.as_slice.result.now ≡ map assigned_part c.args.parts.now = search rules in
     c.in_ok-reports.ensures.reports
-    ∙ ap (λ (ps : List AssignedPart). gathering.shown c.args.edits.now ps) same
-    ∙ ap (λ (rs : List Report). in_order (left_by c.args.edits.now rs)) (gathered_same c.args.parts.now)
+    ∙ ap (λ (ps : List AssignedPart). gathering.snapshot_reports c.args.edits.now ps) same
+    ∙ ap (λ (rs : List Report). ordered_reports (left_by c.args.edits.now rs))
+    (gathered_same c.args.parts.now)

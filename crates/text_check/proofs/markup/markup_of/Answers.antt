@@ -1,6 +1,6 @@
 -- The commands are run in the text.
 use Rattle.std.proofs.Common.{[], sym, ap₂, ◌∙◌}
-use Rattle.report_markup.specs.Sorting.{in_order}
+use Rattle.report_markup.specs.Sorting.{ordered_reports}
 use Rattle.text_check.specs.OneText.{one_sheet}
 use Rattle.node_check.specs.Walking.{reports_from}
 use Rattle.text_check.proofs.OneMarkup.{Numbered, lie_so, markup_so}
@@ -17,5 +17,6 @@ returns g c =
     let text = c.args.text.now in
     let numbered : Numbered = λ now. (c.ids_law.ensures [] now 1).counted in
     let ranges = c.deref.ensures.value ∙ c.in_ok-ranges.ensures.places in
-    c.in_ok-run.ensures.reports ∙ ap₂ (λ rs s. in_order (reports_from l text rs s)) ranges c.in_ok-ranges.ensures.begins
+    c.in_ok-run.ensures.reports ∙ ap₂ (λ rs s. ordered_reports (reports_from l text rs s)) ranges
+    c.in_ok-ranges.ensures.begins
     ∙ sym (markup_so l numbered text)

@@ -1,6 +1,6 @@
 use Rattle.std.proofs.Common.{[]}
 use Rattle.language.specs.declared.made.Imports.TheVariants.{Ordered}
-use Rattle.isar_rules.specs.Starts.{start}
+use Rattle.isar_rules.specs.Starts.{start_state}
 use Rattle.theory_laws.specs.Axioms.{IsAxiomOf}
 use Rattle.core_rules.specs.Scratch.{final, run_node}
 use Rattle.isar_rules.specs.Isar.{isar}
@@ -18,6 +18,6 @@ returns c name aliases node blobs clean =
       derives = c.checks_law.ensures.derives;
       stands = c.checks_law.ensures.stands;
     } in
-    let begins = start name (Ordered []) aliases in
+    let begins = start_state name (Ordered []) aliases in
     let P = IsAxiomOf (run_node isar node blobs begins).commands in
     facts_follow P (final isar (run_node isar node blobs begins)) (run_sound laws P node blobs node.entries begins tt clean (λ g m. m))

@@ -2,13 +2,13 @@
 use Rattle.std.proofs.Common.{◌≡◌, Err, IfOk, sym, subst, string_bytes}
 use Rattle.command_reports.specs.Tries.{Tries}
 use Rattle.command_reports.specs.declared.halt.Halt.{Halt}
-use Rattle.isar_rules.specs.Steps.{made_by}
+use Rattle.isar_rules.specs.Steps.{made_effect}
 use Rattle.toplevel.proofs.made.made_by.Goals as goal
 
 pub returns-in-Ok : goal.returns-in-Ok
 returns-in-Ok c = λ told tries.
     subst (λ t. IfOk c.accepted.result (λ made. made
-    ≡ made_by c.args.source.now c.args.tokens.now c.args.before.now t))
+    ≡ made_effect c.args.source.now c.args.tokens.now c.args.before.now t))
     (sym (subst (Tries told) c.in-Ok.is tries)) c.accepted.ensures
 
 pub returns-in-Err-Refused : goal.returns-in-Err-Refused
@@ -18,5 +18,5 @@ returns-in-Err-Refused c = λ told tries.
     (subst (Tries told) c.in-Err-Refused.is tries)
     in
     subst (λ t. IfOk c.refused.result (λ made. made
-    ≡ made_by c.args.source.now c.args.tokens.now c.args.before.now t))
+    ≡ made_effect c.args.source.now c.args.tokens.now c.args.before.now t))
     (sym same) c.refused.ensures

@@ -3,14 +3,15 @@ use Rattle.std.proofs.Common.{◌≡◌, length}
 use denote.Text.{Utf8}
 use denote.Shadow.{shadow}
 use Rattle.yxml.specs.Reading.{marks_in}
-use Rattle.yxml.specs.Spelling.{merged}
+use Rattle.yxml.specs.Spelling.{merged_texts}
 use Rattle.data_shapes.specs.Inside.{inside}
 use Rattle.data_shapes.proofs.Merged.{joined}
 use Rattle.data_shapes.proofs.body.LentBody.text.Given as goal
 
 abbrev pub invariant-loop-first : goal.invariant-loop-first
 invariant-loop-first l = shadow (Utf8 l.rest)
-    × (merged (inside 0 (marks_in l.initial.rest)) ≡ joined l.text (inside 0 (marks_in l.rest)))
+    × (merged_texts (inside 0 (marks_in l.initial.rest)) ≡ joined l.text
+    (inside 0 (marks_in l.rest)))
 
 abbrev pub decreases-loop-first : goal.decreases-loop-first
 decreases-loop-first l = length l.rest

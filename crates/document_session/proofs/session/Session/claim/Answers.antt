@@ -5,7 +5,7 @@ use Rattle.reply_outbox.specs.declared.item.Item.TheVariants.{Made}
 use Rattle.reply_writing.specs.declared.told.Told.TheVariants as tells
 use Rattle.session_rules.specs.declared.entry.Entry.TheVariants as entry
 use Rattle.session_rules.specs.Services.{free_workers}
-use Rattle.keeping_rules.specs.session_replies_below.Spelling.{spelling}
+use Rattle.keeping_rules.specs.session_replies_below.Spelling.{reply_spelling}
 use Rattle.keeping_rules.specs.Items.{SessionItem}
 use Rattle.document_session.specs.Answers.{IsIdle}
 use Rattle.document_session.specs.Contents.{SessionState}
@@ -30,7 +30,7 @@ pub new-job-requires : goal.new-job-requires
 new-job-requires g c =
     let found = the_part g.L.Language.lang c.args.who c.self.inside.core.past _ _ c.in-Job.job (sym c.first.ensures ∙ c.in-Some.is)
     c.in-Job.ensures.claimed in
-    c.in-Ok.ensures ∙ ap (λ (p : Part). spelling (tells.Dropped p)) (sym found)
+    c.in-Ok.ensures ∙ ap (λ (p : Part). reply_spelling (tells.Dropped p)) (sym found)
 
 pub invariant_of-self-in-Nothing : goal.invariant_of-self-in-Nothing
 invariant_of-self-in-Nothing g c =

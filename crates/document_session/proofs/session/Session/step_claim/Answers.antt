@@ -7,7 +7,7 @@ use Rattle.reply_writing.specs.declared.told.Told.TheVariants as tells
 use Rattle.session_rules.specs.declared.entry.Entry.TheVariants as entry
 use Rattle.session_rules.specs.Services.{mode_of}
 use Rattle.session_rules.proofs.KnownScript.{script_claims}
-use Rattle.keeping_rules.specs.session_replies_below.Spelling.{spelling}
+use Rattle.keeping_rules.specs.session_replies_below.Spelling.{reply_spelling}
 use Rattle.document_session.proofs.Claims.{the_part}
 use Rattle.document_session.proofs.Idle.{nothing_claimed}
 use Rattle.document_session.proofs.Inside.{going_on}
@@ -27,9 +27,9 @@ claims g c =
 
 -- the entries of the message and of its claim are added
 added : (g : Over) (c : After-add-in-Job g) → IsStepAdded c.self.inside.outbox c.add-in-Job.new.self c.args.message (entry.Claimed c.number_of-who.result c.in-Some.part)
-    (spelling (tells.Claimed c.number_of-who.result c.in-Some.part)) (c.self.inside.held + 2)
+    (reply_spelling (tells.Claimed c.number_of-who.result c.in-Some.part)) (c.self.inside.held + 2)
 added g c =
-    let told = c.in_ok-claimed.ensures.claimed ∙ ap (λ (n : ℕ). spelling (tells.Claimed n c.in-Some.part)) (sym c.number_of-who.ensures.value) in
+    let told = c.in_ok-claimed.ensures.claimed ∙ ap (λ (n : ℕ). reply_spelling (tells.Claimed n c.in-Some.part)) (sym c.number_of-who.ensures.value) in
     step_added c.self.inside.outbox c.make_step_room.new.outbox c.add.new.self c.add-in-Job.new.self c.args.message
     (entry.Claimed c.number_of-who.result c.in-Some.part) c.in_ok-claimed.claimed.items _ c.self.inside.held 3 (c.self.inside.held + 2) c.make_step_room.ensures.items
     c.make_step_room.ensures.waiting c.in_ok-make_step_room.ensures.ok (omega arith) c.add.ensures.items c.add.ensures.waiting c.add.ensures.free
@@ -96,7 +96,8 @@ put-requires-clause-new g c =
 pub new-requires : goal.new-requires
 new-requires g c =
     let found = the_part g.L.Language.lang c.number_of-who.result c.self.inside.core.past _ _ c.in-Job.job (sym c.first.ensures ∙ c.in-Some.is) c.in-Job.ensures.claimed in
-    c.in_ok-claimed.ensures.dropped ∙ ap (λ (p : Part). spelling (tells.Dropped p)) (sym found)
+    c.in_ok-claimed.ensures.dropped ∙ ap (λ (p : Part). reply_spelling (tells.Dropped p))
+    (sym found)
 
 pub overflow_add-self : goal.overflow_add-self
 overflow_add-self g c = omega (arith, c.in_ok-make_step_room.ensures.fits)

@@ -5,8 +5,8 @@ use Rattle.prover_core.specs.Looked.{looked}
 use Rattle.session_rules.specs.Services.{mode_of}
 use Rattle.session_rules.proofs.KnownScript.{script_finishes}
 use Rattle.keeping_rules.specs.session_replies_below.Works.{Work}
-use Rattle.keeping_rules.specs.session_replies_below.Spelling.{spelling}
-use Rattle.keeping_rules.specs.Turns.{entry_of, told_of}
+use Rattle.keeping_rules.specs.session_replies_below.Spelling.{reply_spelling}
+use Rattle.keeping_rules.specs.Turns.{entry_of, finish_reply}
 use Rattle.keeping_rules.specs.Works.{IsDoneWorkOf}
 use Rattle.document_session.proofs.Holding.{one_held}
 use Rattle.document_session.proofs.Idle.{nothing_finished}
@@ -44,10 +44,10 @@ done_work g c =
 
 -- the entries of the message and of its step are added
 added : (g : Over) (c : After-take_in g) → IsStepAdded c.self.inside.outbox c.take_in.new.outbox c.args.message
-    (entry_of c.take_in.result c.number_of-who.result c.in-Done.done.done.part) (spelling (told_of c.take_in.result c.in-Done.done)) (c.self.inside.held + 1)
+    (entry_of c.take_in.result c.number_of-who.result c.in-Done.done.done.part) (reply_spelling (finish_reply c.take_in.result c.in-Done.done)) (c.self.inside.held + 1)
 added g c =
     step_added c.self.inside.outbox c.make_step_room.new.outbox c.add.new.self c.take_in.new.outbox c.args.message
-    (entry_of c.take_in.result c.number_of-who.result c.in-Done.done.done.part) _ (spelling (told_of c.take_in.result c.in-Done.done)) c.self.inside.held 2 (c.self.inside.held + 1)
+    (entry_of c.take_in.result c.number_of-who.result c.in-Done.done.done.part) _ (reply_spelling (finish_reply c.take_in.result c.in-Done.done)) c.self.inside.held 2 (c.self.inside.held + 1)
     c.make_step_room.ensures.items c.make_step_room.ensures.waiting c.in_ok-make_step_room.ensures.ok (omega arith) c.add.ensures.items c.add.ensures.waiting
     c.add.ensures.free c.take_in.ensures.items c.take_in.ensures.waiting c.take_in.ensures.free refl
 

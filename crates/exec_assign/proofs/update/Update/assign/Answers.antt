@@ -3,10 +3,10 @@ use Rattle.std.specs.List.{range_with_len}
 use Rattle.pide_base.specs.Ids.{id_end}
 use Rattle.doc_nodes.specs.Imports.{order}
 use Rattle.exec_rules.specs.declared.row.Assigned.{Assigned}
-use Rattle.exec_rules.specs.Keys.{nothing, assigned_at}
+use Rattle.exec_rules.specs.Keys.{nothing_assigned, assigned_at}
 use Rattle.exec_rules.specs.Assigning.{Work, assign_one}
 use Rattle.exec_assign.specs.Fitting.{RowsFit}
-use Rattle.exec_assign.specs.Telling.{made_by}
+use Rattle.exec_assign.specs.Telling.{update_version}
 use Rattle.exec_assign.specs.Work.{HasStood}
 use Rattle.exec_assign.proofs.WorkLemmas.{all_rises, turn_next, turn_over}
 use Rattle.exec_assign.proofs.ProgressLemmas.{all_places}
@@ -68,13 +68,14 @@ returns-clause-rows g c =
     let inv = c.places.invariant in
     let whole = turn_over c.args.self.now c.graph.result.now c.order-place-items.result.now c.places.place-index c.args.next inv.0
     c.graph.ensures c.order-place-items.ensures c.places-test.false inv.2 in
-    subst (λ (all : List Assigned). RowsFit (made_by c.args.self.now all)) (sym c.from_vec.ensures)
+    subst (λ (all : List Assigned). RowsFit (update_version c.args.self.now all))
+    (sym c.from_vec.ensures)
     (rows_fit c.args.self.now (λ p pair key next i row. c.rows_law.ensures.prints c.args.self.now p pair key next i row) (order c.args.self.now.nodes) c.args.next
     c.places.progress.all.items inv.0.done inv.1.are (ap (λ (w : Work). w.done) whole))
 
 pub returns-clause-standing : goal.returns-clause-standing
 returns-clause-standing g c = λ p pair mark at.
     let inv = c.places.invariant in
-    let here : get_or c.from_vec.result p nothing ≡ assigned_at inv.0.done p = ap (λ (all : List Assigned). get_or all p nothing) c.from_vec.ensures ∙ inv.1.are p in
+    let here : get_or c.from_vec.result p nothing_assigned ≡ assigned_at inv.0.done p = ap (λ (all : List Assigned). get_or all p nothing_assigned) c.from_vec.ensures ∙ inv.1.are p in
     let marked = subst (λ (marks : List Bool). get_or marks p false ≡ true) c.from_vec-3.ensures mark in
     subst (HasStood c.args.self.now pair) (sym here) (inv.1.stood p pair marked at)

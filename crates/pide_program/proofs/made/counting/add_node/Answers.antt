@@ -2,7 +2,7 @@
 use Rattle.std.proofs.Common.{◌++◌, ◌∙◌, ap, subst}
 use Rattle.prover_core.specs.Results.{AreResults}
 use Rattle.made_document.specs.Tallies.{IsTally, results_reports}
-use Rattle.pide_program.specs.Told.{after}
+use Rattle.pide_program.specs.Told.{listed_session}
 use Rattle.std.proofs.lemmas.Result.{on_ok_weaker}
 use Rattle.pide_program.proofs.Shown.{found_reports}
 use Rattle.pide_program.proofs.made.counting.add_node.Goals as goal
@@ -13,5 +13,5 @@ returns-in-Some g c =
     on_ok_weaker c.add_parts.result (λ counts all version live is.
     subst (λ xs. IsTally c.add_parts.new.self (all ++ xs)) (ap results_reports c.as_slice.ensures.value
     ∙ found_reports l c.args.session.now version c.args.name.now c.args.id c.in-Some.results
-    (subst (AreResults l (after l c.args.session.now).events c.args.id c.args.name.now) c.in-Some.is c.in_ok-results.ensures) live)
+    (subst (AreResults l (listed_session l c.args.session.now).events c.args.id c.args.name.now) c.in-Some.is c.in_ok-results.ensures) live)
     (counts all is)) c.add_parts.ensures

@@ -7,7 +7,7 @@ use Rattle.exec_rules.specs.declared.version.Version.{Version}
 use Rattle.session_rules.specs.Session.{document}
 use Rattle.made_document.specs.Messages.{last_version}
 use Rattle.made_document.specs.Summary.{greatest_execution}
-use Rattle.pide_program.specs.Told.{IsLive, after}
+use Rattle.pide_program.specs.Told.{IsLive, listed_session}
 use Rattle.pide_program.proofs.Summing.{SettledLaws, none_is, some_is}
 use Rattle.pide_program.proofs.made.counting.summary_of.Goals as goal
 
@@ -15,9 +15,11 @@ pub returns-in_default : goal.returns-in_default
 returns-in_default g c = λ count workers is.
     let l = g.L.Language.lang in
     let laws : SettledLaws l = record { live = c.settled_law.ensures.live; shown = c.settled_law.ensures.shown } in
-    let at : option_copied c.version_in.result ≡ version_of (document l (after l c.args.session.now)).live last_version =
+    let at : option_copied c.version_in.result ≡ version_of
+    (document l (listed_session l c.args.session.now)).live last_version =
     c.version_in.ensures ∙ ap (λ (xs : List (Live Version)). version_of xs c.numbered-id.result) c.live-live.ensures
-    ∙ ap (version_of (document l (after l c.args.session.now)).live) c.numbered-id.ensures in
+    ∙ ap (version_of (document l (listed_session l c.args.session.now)).live)
+    c.numbered-id.ensures in
     none_is l laws count workers c.args.session.now is (sym at ∙ ap option_copied c.in_default.is)
 
 pub returns : goal.returns
@@ -25,11 +27,12 @@ returns g c = λ count workers is.
     let l = g.L.Language.lang in
     let laws : SettledLaws l = record { live = c.settled_law.ensures.live; shown = c.settled_law.ensures.shown } in
     let number_is = c.numbered-id.ensures in
-    let at : option_copied c.version_in.result ≡ version_of (document l (after l c.args.session.now)).live c.numbered-id.result =
+    let at : option_copied c.version_in.result ≡ version_of (document l (listed_session l c.args.session.now)).live c.numbered-id.result =
     c.version_in.ensures ∙ ap (λ (xs : List (Live Version)). version_of xs c.numbered-id.result) c.live-live.ensures in
     let live : IsLive l c.args.session.now c.numbered-id.result c.in-Some.version.now = sym at ∙ ap option_copied c.in-Some.is in
     some_is l laws count workers c.args.session.now is c.in-Some.version.now
-    (sym (ap (version_of (document l (after l c.args.session.now)).live) number_is) ∙ live)
+    (sym (ap (version_of (document l (listed_session l c.args.session.now)).live) number_is) ∙
+    live)
     c.in_ok-tally.tally c.len.result c.in_ok-commands.commands c.greatest_execution.result
     (c.in_ok-tally.ensures c.in-Some.version.now live) c.len.ensures c.in_ok-commands.ensures
     (c.greatest_execution.ensures ∙ ap greatest_execution c.live-live.ensures)

@@ -2,7 +2,7 @@ use Rattle.std.proofs.Common.{arith, ◌≡◌, ℕ, ap, length, refl, subst, sy
 use Rattle.pide_base.specs.declared.part.Part.{Part}
 use Rattle.task_queue.specs.Tasks.{Queue, standing}
 use Rattle.task_queue.specs.Ready.{AreReady, IsNext, IsReadyPart, with_standing}
-use Rattle.task_queue.specs.Changes.{taken}
+use Rattle.task_queue.specs.Changes.{taken_task}
 use Rattle.task_queue.specs.Kept.{seen, looked}
 use Rattle.task_queue.proofs.ReadyLemmas.{last_taken}
 use Rattle.task_queue.proofs.LastReady.{last_is_next}
@@ -15,10 +15,11 @@ invariant_of-self-in-Some c =
     let all = standing (seen c.self.inside) in
     let P : List Part → Type 0 = λ ps. AreReady all ps in
     let Q : ℕ → Type 0 = λ x. (e : ℕ) → looked c.hold.new.tasks e
-    ≡ with_standing all x (option_map taken (all x)) e in
-    altered_kept c.self.inside _ c.in-Some.part.exec taken (λ t e h. h) c.self.invariant
+    ≡ with_standing all x (option_map taken_task (all x)) e in
+    altered_kept c.self.inside _ c.in-Some.part.exec taken_task (λ t e h. h) c.self.invariant
     (subst Q c.number.ensures.value c.hold.ensures.tasks)
-    (last_taken all c.pop.new.self.parts c.in-Some.part (option_map taken (all c.in-Some.part.exec))
+    (last_taken all c.pop.new.self.parts c.in-Some.part
+    (option_map taken_task (all c.in-Some.part.exec))
     (taken_unready (all c.in-Some.part.exec)) (subst P c.in-Some.ensures.some c.self.invariant.ready))
     (omega (arith, c.hold.ensures.len, c.pop.ensures.capacity, c.self.invariant.room)) refl
 
