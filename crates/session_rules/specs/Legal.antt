@@ -10,7 +10,7 @@ use Rattle.buffer_laws.specs.core_rules_below.declared.event.Event.{Event}
 use Rattle.buffer_laws.specs.core_rules_below.declared.event.Event.TheVariants as event
 use Rattle.buffer_laws.specs.core_rules_below.Standing.{has_ended}
 use Rattle.buffer_laws.specs.core_rules_below.Stuck.{is_settled}
-use Rattle.buffer_laws.specs.core_rules_below.Legal as core
+use Rattle.buffer_laws.specs.core_rules_below.Legal.{MayWork}
 use Rattle.session_rules.specs.declared.service.Service.{Service}
 use Rattle.session_rules.specs.Services.{free_workers}
 use Rattle.session_rules.specs.Heard.{Heard, Message, Claimed, Finished, Dropped, Ended}
@@ -46,26 +46,22 @@ abbrev pub IsTurn : Service → Due → ℕ → Due → Type 0
 IsTurn service called who step =
     (called ≡ step) ⊎ ((called ≡ Nothing) × (who ≤ free_workers service))
 
--- the event may follow those of a history
-abbrev pub MayHappen : {S : Type 0} → Lang S → Service → List Heard → Event → Type 0
-MayHappen l service h e = core.MayFollow l (session l service h).events e
-
 -- the entry may stand after this history
 abbrev pub MayFollow : {S : Type 0} → Lang S → Service → List Heard → Heard → Type 0
 MayFollow l service h (Message read) =
     (has_ended (session l service h).events ≡ false) × (due l service h ≡ Nothing)
     × IsSettledIn l (session l service h) (awaited l service h read)
 MayFollow l service h (Claimed who part) =
-    MayHappen l service h (event.Claimed who part)
+    MayWork l (session l service h).events (event.Claimed who part)
     × IsTurn service (due l service h) who (Claims who)
 MayFollow l service h (Finished who part) =
-    MayHappen l service h (event.Finished who part)
+    MayWork l (session l service h).events (event.Finished who part)
     × IsTurn service (due l service h) who (Finishes who)
 MayFollow l service h (Dropped who part) =
-    MayHappen l service h (event.Dropped who part)
+    MayWork l (session l service h).events (event.Dropped who part)
     × IsTurn service (due l service h) who (Finishes who)
 MayFollow l service h Ended =
-    MayHappen l service h event.Ended × (due l service h ≡ Nothing)
+    MayWork l (session l service h).events event.Ended × (due l service h ≡ Nothing)
 
 -- each entry may stand after those before it
 abbrev pub IsLegal : {S : Type 0} → Lang S → Service → List Heard → Type 0
