@@ -1,6 +1,6 @@
 -- What is kept by places is what the imports hand on.
-use Rattle.std.proofs.Common.{◌≡◌, ℕ, zero, suc, Bool, true, false, not, cond, List, [], ◌∷◌, Option, Some, None, find, filter_map, map, zip, refl, sym, ap, ap₂, ◌∙◌}
-use Rattle.std.specs.Prelude.{slice_get, slice_index_or, option_and_then}
+use Rattle.std.proofs.Common.{◌≡◌, ℕ, Bool, true, false, not, cond, List, [], ◌∷◌, Option, Some, None, find, filter_map, map, zip, refl, sym, ap, ap₂, ◌∙◌}
+use Rattle.std.specs.Prelude.{slice_get, option_and_then}
 use Rattle.std.specs.Option.{option_map}
 use Rattle.std.specs.List.{cons_option}
 use Rattle.import_rounds.specs.Rounds.{is_known}
@@ -10,26 +10,20 @@ use Rattle.doc_nodes.specs.Graph.{Graph}
 use Rattle.doc_nodes.specs.Graphs.{IsGraphOf}
 use Rattle.doc_nodes.specs.declared.inherited.NodeAliases.{NodeAliases}
 use Rattle.doc_nodes.specs.Aliases.{aliases_at}
-use Rattle.doc_nodes.specs.Imports.{NodeList, aims_of, is_bad, ordered_places, place_of}
+use Rattle.doc_nodes.specs.Imports.{NodeList, is_bad, ordered_places, place_of}
 use Rattle.language.specs.declared.made.Imports.{Imports}
 use Rattle.language.specs.declared.made.Imports.TheVariants.{Ordered}
 use Rattle.language.specs.Lang.{Lang}
 use Rattle.core_rules.specs.Scratch.{Runs, begins_at, final_at, import_run, imports_run}
+use Rattle.core_rules.proofs.KnownPlaces.{aims_found}
 use Rattle.batch_check.specs.Handed.{AreBehind, bad_by, handed_by, imported_by, imports_by, imports_with, one_imported}
 
 pub only_one : {X : Type 0} {x y : X} → Some x ≡ Some y → x ≡ y
 only_one e = cc
 
--- the imports of the node at a place
-aims_there : (nodes all : NodeList) (p : ℕ) (pair : List ℕ × Node) → slice_get nodes p ≡ Some pair
-    → slice_index_or (map (λ one. aims_of all one.1) nodes) p [] ≡ aims_of all pair.1
-aims_there [] all p pair e = absurd (cc)
-aims_there (one ∷ nodes) all zero pair e = let same : one ≡ pair = cc in ap (λ (x : List ℕ × Node). aims_of all x.1) same
-aims_there (one ∷ nodes) all (suc p) pair e = aims_there nodes all p pair e
-
 pub aims_are : (nodes : NodeList) (graph : Graph) (p : ℕ) (pair : List ℕ × Node) → IsGraphOf nodes graph → slice_get nodes p ≡ Some pair
     → aims_at graph.aims p ≡ map (place_of nodes) pair.1.imports
-aims_are nodes graph p pair is e = ap (λ rows. aims_at rows p) is.aims_are ∙ aims_there nodes nodes p pair e
+aims_are nodes graph p pair is e = ap (λ rows. aims_at rows p) is.aims_are ∙ aims_found nodes nodes p pair e
 
 module _ (nodes : NodeList) (marks : List Bool) (are : AreMarks marks (ordered_places nodes)) where
   met_is : (aim : Option ℕ) → met_by marks aim ≡ is_known (ordered_places nodes) aim

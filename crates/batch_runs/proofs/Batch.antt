@@ -1,7 +1,7 @@
 -- Batch by batch the nodes come to what they come to one after the other.
-use Rattle.std.proofs.Common.{◌≡◌, ℕ, zero, suc, ◌==◌, Bool, true, false, List, [], ◌∷◌, ◌++◌, Option, Some, None, find, map, refl, sym, ap, subst, ◌∙◌, append_assoc}
+use Rattle.std.proofs.Common.{◌≡◌, ℕ, ◌==◌, Bool, true, false, List, [], ◌∷◌, ◌++◌, Option, Some, None, find, map, refl, sym, ap, subst, ◌∙◌, append_assoc}
 use mathlib.Core.Bool.{false≢true}
-use Rattle.std.specs.Prelude.{slice_get, slice_index_or}
+use Rattle.std.specs.Prelude.{slice_get}
 use Rattle.std.specs.Option.{option_map_or}
 use Rattle.std.specs.List.{concat, list_all}
 use Rattle.std.proofs.lemmas.Bool.{and_parts, eqb-true, or_parts}
@@ -11,20 +11,14 @@ use Rattle.import_rounds.specs.Rounds.{is_known}
 use Rattle.import_rounds.specs.Looks.{aims_at}
 use Rattle.text_words.proofs.KnownMembers.{cut_at, has_both, has_itself, has_tail}
 use Rattle.doc_nodes.specs.declared.node.Node.{Node}
-use Rattle.doc_nodes.specs.Imports.{NodeList, aims, aims_of, is_bad, is_ordered, order, place_of, placed_node}
+use Rattle.doc_nodes.specs.Imports.{NodeList, aims, is_bad, is_ordered, order, place_of, placed_node}
 use Rattle.exec_rules.specs.Kept.{BlobList}
 use Rattle.language.specs.Lang.{Lang}
 use Rattle.core_rules.specs.Scratch.{Runs, begins_at, run_all, run_node, run_one, scratch}
+use Rattle.core_rules.proofs.KnownPlaces.{aims_found}
 use Rattle.batch_runs.specs.Batches.{AreBatches}
 use Rattle.batch_runs.specs.Running.{run_batch, run_batches, run_beside}
 use Rattle.batch_runs.proofs.Beside.{AreAlike, begins_alike, done_at, done_beside}
-
--- the imports of the node at a place
-aims_there : (nodes all : NodeList) (p : ℕ) (pair : List ℕ × Node) → slice_get nodes p ≡ Some pair
-    → slice_index_or (map (λ one. aims_of all one.1) nodes) p [] ≡ aims_of all pair.1
-aims_there [] all p pair e = absurd (cc)
-aims_there (one ∷ nodes) all zero pair e = let same : one ≡ pair = cc in ap (λ (x : List ℕ × Node). aims_of all x.1) same
-aims_there (one ∷ nodes) all (suc p) pair e = aims_there nodes all p pair e
 
 module _ {S : Type 0} (l : Lang S) (nodes : NodeList) (blobs : BlobList)
     (join : (batches : List (List ℕ)) → AreBatches nodes batches → concat batches ≡ order nodes)
@@ -67,7 +61,7 @@ module _ {S : Type 0} (l : Lang S) (nodes : NodeList) (blobs : BlobList)
         → find (is_bad nodes) pair.1.imports ≡ None → AreAlike l nodes before runs pair.1.imports
     imports_alike runs agrees p here pair e good =
         alike runs agrees pair.1.imports
-        (ap (list_all (is_known (concat front))) (sym (aims_there nodes nodes p pair e)) ∙ behind front rest batch p are here (ordered p pair e good))
+        (ap (list_all (is_known (concat front))) (sym (aims_found nodes nodes p pair e)) ∙ behind front rest batch p are here (ordered p pair e good))
 
     one_beside : (runs : Runs S) → Agrees runs → (p : ℕ) → has batch p ≡ true → run_beside l nodes blobs before p runs ≡ run_one l nodes blobs runs p
     one_beside runs agrees p here = go (slice_get nodes p) refl

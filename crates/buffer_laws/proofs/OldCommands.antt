@@ -1,9 +1,8 @@
 -- Each command of a node is new, or one that the node had.
-use Rattle.std.proofs.Common.{◌≡◌, inl, inr, ℕ, zero, suc, ◌+◌, ◌-◌, ◌≤◌, List, [], ◌∷◌, ◌++◌, length, map, take, drop, Some, refl, sym, subst, ◌∙◌, arith}
+use Rattle.std.proofs.Common.{inl, inr, ℕ, zero, suc, ◌+◌, ◌-◌, ◌≤◌, List, [], ◌∷◌, ◌++◌, length, map, take, drop, sym, subst, ◌∙◌, arith}
 use Rattle.std.proofs.lemmas.List.{take-append-drop}
-use Rattle.std.specs.Prelude.{slice_get}
 use Rattle.std.specs.List.{zip, range_with_len, AllByRecursion}
-use Rattle.text_words.proofs.KnownLists.{each-both, each-part}
+use Rattle.text_words.proofs.KnownLists.{each-both, each-part, each-placed}
 use Rattle.doc_nodes.specs.Imports.{NodeList}
 use Rattle.doc_nodes.specs.Aliases.{aliases_at}
 use Rattle.doc_blobs.specs.Needs.{AliasList}
@@ -15,11 +14,6 @@ use Rattle.buffer_rules.specs.Nodes.{ranges_in, sources, before_in, cut, nodes_f
 use Rattle.buffer_laws.specs.Known.{IsNewOr, AreKnown}
 use Rattle.buffer_laws.proofs.CommandLists.{k, fresh, new, made}
 use Rattle.buffer_laws.proofs.AllNodes.{commands_made}
-
--- each of a list stands in it
-each_at : {A : Type 0} (P : A → Type 0) (xs : List A) → ((i : ℕ) (x : A) → slice_get xs i ≡ Some x → P x) → AllByRecursion P xs
-each_at P [] at = tt
-each_at P (x ∷ xs) at = (at zero x refl, each_at P xs (λ i y there. at (suc i) y there))
 
 -- numbers from one on are no smaller
 new_each : (first n m : ℕ) (before : List Command) (now : List (List ℕ)) → first ≤ n
@@ -34,7 +28,7 @@ module _ (kept_so : (before now : List (List ℕ)) → IsLongestKept before now 
   known_node sheet aliases before next le =
       let now = sources sheet aliases in
       let so = kept_so (map (λ c. c.1) before) now in
-      let old : AllByRecursion (IsNewOr first before) before = each_at (IsNewOr first before) before (λ i c at. inr (i, at)) in
+      let old : AllByRecursion (IsNewOr first before) before = each-placed (IsNewOr first before) before (λ i c at. inr (i, at)) in
       let front = k before now next so in
       let fronts : AllByRecursion (IsNewOr first before) (take front.front before) =
       (each-part (IsNewOr first before) (take front.front before) (drop front.front before)

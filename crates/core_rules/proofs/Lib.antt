@@ -1,4 +1,6 @@
 pub mod KnownNumbers
+pub mod KnownEnds
+pub mod KnownGreatest
 pub mod KnownParts
 pub mod KnownStays
 mod Tables

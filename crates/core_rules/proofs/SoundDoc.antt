@@ -1,6 +1,5 @@
 -- After each legal list of events all live versions are sound.
-use Rattle.std.proofs.Common.{◌≡◌, ℕ, zero, suc, ◌≤◌, ◌⊎◌, inl, inr, Bool, true, false, cond, List, [], ◌∷◌, ◌++◌, filter, Some, refl, sym, subst, arith}
-use Rattle.std.proofs.lemmas.Bool.{ltb-true, ltb-false}
+use Rattle.std.proofs.Common.{◌≡◌, ℕ, zero, suc, ◌⊎◌, inl, inr, Bool, true, false, cond, List, [], ◌∷◌, ◌++◌, filter, Some, refl, sym, subst, arith}
 use Rattle.std.specs.Prelude.{slice_get, nat_lt}
 use Rattle.doc_nodes.specs.Imports.{NodeList}
 use Rattle.core_tables.specs.declared.versions.Live.{Live}
@@ -21,6 +20,7 @@ use Rattle.core_rules.proofs.Tables.{AtMost, AreOlder}
 use Rattle.core_rules.proofs.Facts.{Facts}
 use Rattle.core_rules.proofs.Sound.{IsSound, IsSoundTip, sound_on, extends_grown}
 use Rattle.core_rules.proofs.NewVersion.{all_done, new_sound}
+use Rattle.core_rules.proofs.KnownGreatest.{at_least, greater_both}
 
 -- all live versions are sound, and so is the tip
 pub record IsSoundDoc (d : Doc) : Type 0 where
@@ -38,20 +38,10 @@ empty_sound = record {
   live = λ k one at. absurd (cc);
 }
 
-greater_first : (b : Bool) (m n : ℕ) → nat_lt m n ≡ b → (m ≤ cond b n m) × (n ≤ cond b n m)
-greater_first true m n e = (omega (arith, ltb-true m n e), omega arith)
-greater_first false m n e = (omega arith, ltb-false m n e)
-
-at_least : (n : ℕ) (xs : List ℕ) → n ≤ greatest n xs
-at_least n [] = omega arith
-at_least n (x ∷ xs) =
-    let le = (greater_first (nat_lt n x) n x refl).0 in
-    let more = at_least (greater n x) xs in omega (arith, le, more)
-
 all_least : (n : ℕ) (xs : List ℕ) → AtMost (greatest n xs) xs
 all_least n [] = tt
 all_least n (x ∷ xs) =
-    let le = (greater_first (nat_lt n x) n x refl).1 in
+    let le = (greater_both (nat_lt n x) n x refl).1 in
     let more = at_least (greater n x) xs in
     (omega (arith, le, more), all_least (greater n x) xs)
 

@@ -6,6 +6,7 @@ use Rattle.std.specs.List.{flat_map, range_with_len, position_or_len}
 use Rattle.std.proofs.lemmas.List.{length-map}
 use Rattle.std.proofs.lemmas.Option.{slice_get-map}
 use Rattle.text_words.specs.Members.{has}
+use Rattle.text_words.proofs.KnownLists.{map_alike}
 use Rattle.import_rounds.specs.Rounds.{in_rounds, is_known}
 use Rattle.import_rounds.specs.Looks.{aims_at}
 use Rattle.doc_nodes.specs.declared.node.Node.{Node}
@@ -14,10 +15,6 @@ use Rattle.doc_nodes.specs.Names.{equal}
 use Rattle.doc_nodes.specs.Imports.{NodeList, aims, aims_of, is_bad, order, other_places, place_of}
 use Rattle.doc_nodes.specs.Aliases.{aliases_at, aliases_by, folded, in_turn, inherited, known, no_aliases, own_at, own_pairs, pairs_from}
 use Rattle.doc_nodes.specs.Heads.{head, heads}
-
-map_alike : {X Y : Type 0} (f g : X → Y) → ((x : X) → f x ≡ g x) → (xs : List X) → map f xs ≡ map g xs
-map_alike f g same [] = refl
-map_alike f g same (x ∷ xs) = ap₂ (λ y ys. y ∷ ys) (same x) (map_alike f g same xs)
 
 len_head : (name : List ℕ) (nodes : NodeList) → position_or_len (λ (pair : List ℕ × Node). equal pair.0 name) (heads nodes)
     ≡ position_or_len (λ (pair : List ℕ × Node). equal pair.0 name) nodes

@@ -1,5 +1,5 @@
 -- What comes of a round of nodes.
-use Rattle.std.proofs.Common.{◌≡◌, ℕ, ◌+◌, ◌<◌, List, [], ◌∷◌, ◌++◌, length, get_or, map, All, Option, Result, Ok, Err, OnOk, IsPermutation, get_or-append-add, append_assoc, length-append, refl, sym, ap, subst, ◌∙◌, arith}
+use Rattle.std.proofs.Common.{◌≡◌, ℕ, ◌+◌, ◌<◌, List, [], ◌∷◌, ◌++◌, length, get_or, map, All, Option, IsPermutation, get_or-append-add, append_assoc, length-append, refl, sym, ap, subst, ◌∙◌, arith}
 use Rattle.std.specs.Prelude.{slice_index}
 use Rattle.std.specs.List.{range_with_len}
 use Rattle.std.proofs.lemmas.List.FromFn.{fill_by_all, get_or-range_with_len, length-range_with_len}
@@ -11,11 +11,6 @@ use Rattle.batch_check.specs.declared.telling.Checked.{Checked}
 use Rattle.batch_check.specs.Tasks.{MakesSo}
 use Rattle.task_round.specs.Rounds.{AreMade}
 use Rattle.document_build.specs.Standing.{MakeSo}
-
--- what holds needs no answer
-pub on_ok : {A E P : Type 0} (r : Result A E) → P → OnOk r P
-on_ok (Ok value) p = p
-on_ok (Err error) p = tt
 
 -- numbers of tasks lie below their count
 pub numbers_within : (n : ℕ) (numbers : List ℕ) → IsPermutation (range_with_len 0 n) numbers → All (λ number. number < n) numbers

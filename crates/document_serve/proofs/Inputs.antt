@@ -12,9 +12,10 @@ use Rattle.message_input.specs.Answers.{HaltsAmong}
 use Rattle.message_input.specs.Causes.{HasCause}
 use Rattle.message_input.specs.Inputs.{AnswersSo, AnswersToEnd, IsAnswered}
 use Rattle.message_input.specs.declared.answering.Halt.{Halt}
+use Rattle.message_input.specs.Counts.{CountsSo}
 use Rattle.document_serve.specs.Laws.{ListLaws}
 use Rattle.document_serve.specs.Headline.{IsRun}
-use Rattle.document_serve.specs.Runs.{CountsSo, GoesOn, IsEnded, StopsSo}
+use Rattle.document_serve.specs.Runs.{GoesOn, IsEnded, StopsSo}
 use Rattle.document_serve.proofs.Came.{Came, came_fails, came_short, came_whole}
 use Rattle.document_serve.proofs.Stops.{StopsAmong}
 

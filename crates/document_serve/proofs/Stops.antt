@@ -6,8 +6,9 @@ use Rattle.document_session.specs.Contents.{SessionState}
 use Rattle.message_input.specs.Answers.{HaltsAmong}
 use Rattle.message_input.specs.declared.answering.Halt.{Halt}
 use Rattle.message_input.specs.declared.answering.Halt.TheVariants as halt
-use Rattle.document_serve.specs.Joins.{counts_later}
-use Rattle.document_serve.specs.Runs.{CountsSo, Fails, RunsShort, StopsSo}
+use Rattle.message_input.specs.Counts.{CountsSo}
+use Rattle.message_input.proofs.KnownHalting.{counts_later}
+use Rattle.document_serve.specs.Runs.{Fails, RunsShort, StopsSo}
 
 -- these messages, as serving one of them tells it
 abbrev pub StopsAmong : {S : Type 0} → Lang S → Option (List ℕ) → Option (List ℕ) → SessionState → List (List (List ℕ)) → Halt → SessionState → Type 0

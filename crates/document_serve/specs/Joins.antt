@@ -8,7 +8,7 @@ use Rattle.message_input.specs.declared.answering.Halt.{Halt}
 use Rattle.message_input.specs.declared.answering.Halt.TheVariants as halt
 use Rattle.document_serve.specs.Served.{calls_in}
 use Rattle.document_serve.specs.Going.{IsAtRest}
-use Rattle.document_serve.specs.Runs.{CountsSo, GoesOn, StopsSo}
+use Rattle.document_serve.specs.Runs.{GoesOn, StopsSo}
 use Rattle.document_serve.specs.Waits.{more_left, more_waits}
 
 module _ {S : Type 0} (l : Lang S) where
@@ -97,12 +97,6 @@ module _ {S : Type 0} (l : Lang S) where
     kept = b.kept;
     all = b.all;
   }
-
--- a count that rose later rose
-pub counts_later : (h : Halt) (before mid now : ℕ) → before ≤ mid → CountsSo h mid now
-    → CountsSo h before now
-counts_later halt.WriteFault before mid now first then = omega arith
-counts_later halt.NoMemory before mid now first then = omega arith
 
 -- a count that doesn't fall doesn't fall later
 pub steady_first : (n : ℕ) → n ≤ n

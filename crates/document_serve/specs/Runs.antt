@@ -1,8 +1,7 @@
 -- How messages are answered on one thread, and how that stops (this project's own).
-use Rattle.std.specs.Prelude.{◌≡◌, ℕ, ◌≤◌, false, List, ◌∷◌, ◌++◌, Option, Result, Ok, Err}
+use Rattle.std.specs.Prelude.{◌≡◌, ℕ, false, List, ◌∷◌, ◌++◌, Option, Result, Ok, Err}
 use Rattle.reply_outbox.specs.declared.item.Item.TheVariants.{Made}
 use Rattle.reply_outbox.specs.Items.{entries, is_lost}
-use Rattle.pide_base.specs.Faults.{Rose}
 use Rattle.language.specs.Lang.{Lang}
 use Rattle.session_rules.specs.declared.entry.Entry.TheVariants as entry
 use Rattle.document_session.specs.keeping_rules_below.Items.{heard_in}
@@ -65,11 +64,6 @@ abbrev pub StopsSo : {S : Type 0} → Lang S → Halt → Option (List ℕ) → 
     → SessionState → SessionState → List (List (List ℕ)) → List (List (List ℕ)) → Type 0
 StopsSo l halt.WriteFault held held' old new first rest = Fails l held held' old new first rest
 StopsSo l halt.NoMemory held held' old new first rest = RunsShort l held held' old new first rest
-
--- a sink's count of faults never falls, and rises where writing fails
-abbrev pub CountsSo : Halt → ℕ → ℕ → Type 0
-CountsSo halt.WriteFault before now = Rose before now
-CountsSo halt.NoMemory before now = before ≤ now
 
 -- the session has ended, and nothing else happened
 pub record IsEnded {S : Type 0} (l : Lang S) (old new : SessionState) : Type 0 where

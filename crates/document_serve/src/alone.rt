@@ -21,8 +21,10 @@ pub(crate) struct Alone<'l, L: Language, P: Past<Service, Entry> + Drop, K: Sink
 impl<'l, L: Language, P: Past<Service, Entry> + Drop, K: Sink> Answering for Alone<'l, L, P, K> {
     ghost use Rattle.std.specs.Prelude.{◌≡◌, ◌≤◌};
     ghost use Rattle.document_serve.specs.Going.{IsAtRest};
-    ghost use Rattle.document_serve.specs.Runs.{CountsSo, GoesOn, IsEnded, StopsSo};
-    ghost use Rattle.document_serve.specs.Joins.{counts_later, goes_later, more_stops, short_of, stays, steady_first, steady_later, stops_later};
+    ghost use Rattle.message_input.specs.Counts.{CountsSo};
+    ghost use Rattle.message_input.proofs.KnownHalting.{counts_later};
+    ghost use Rattle.document_serve.specs.Runs.{GoesOn, IsEnded, StopsSo};
+    ghost use Rattle.document_serve.specs.Joins.{goes_later, more_stops, short_of, stays, steady_first, steady_later, stops_later};
 
     ghost rests = { λ a. IsAtRest L.lang a.session };
 

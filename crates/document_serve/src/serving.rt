@@ -2,7 +2,8 @@
 ghost use Rattle.std.specs.Prelude.{◌≡◌, ◌∷◌, ◌≤◌, [], OnOk, IfErr};
 ghost use Rattle.message_input.specs.Answers.{HaltsAmong};
 ghost use Rattle.document_serve.specs.Going.{IsAtRest};
-ghost use Rattle.document_serve.specs.Runs.{CountsSo, GoesOn, StopsSo};
+ghost use Rattle.message_input.specs.Counts.{CountsSo};
+ghost use Rattle.document_serve.specs.Runs.{GoesOn, StopsSo};
 
 use crate::laws::work_laws;
 use crate::working::work;

@@ -2,7 +2,8 @@
 ghost use Rattle.std.specs.Prelude.{◌≡◌, ◌≤◌, false, IfErr};
 ghost use Rattle.reply_outbox.specs.Items.{is_lost};
 ghost use Rattle.document_session.specs.keeping_rules_below.Legal.{AreLegal};
-ghost use Rattle.document_serve.specs.Runs.{CountsSo, WrittenSo};
+ghost use Rattle.message_input.specs.Counts.{CountsSo};
+ghost use Rattle.document_serve.specs.Runs.{WrittenSo};
 
 use crate::laws::list_laws;
 use document_session::Session;

@@ -3,7 +3,7 @@ use Rattle.std.proofs.Common.{◌≡◌, ℕ, ◌<◌, ◌≤◌, Bool, true, fa
 use Rattle.std.specs.Prelude.{slice_get}
 use Rattle.std.specs.Option.{option_map_or}
 use Rattle.std.specs.List.{AllByRecursion}
-use Rattle.text_words.proofs.KnownLists.{each-part}
+use Rattle.text_words.proofs.KnownLists.{each-part, each-placed}
 use Rattle.text_words.specs.Members.{has}
 use Rattle.text_words.proofs.KnownMembers.{has_itself, has_tail}
 use Rattle.pide_base.specs.Ids.{IsId, id_end}
@@ -22,7 +22,6 @@ use Rattle.reply_writing.specs.declared.told.CommandRow.{CommandRow}
 use Rattle.reply_writing.specs.declared.told.NodeRows.{NodeRows}
 use Rattle.session_rules.specs.Replies.{rows_told}
 use Rattle.editor_laws.proofs.CommandNumbers.{ArePositive}
-use Rattle.editor_laws.proofs.AtPlaces.{all_from}
 use Rattle.editor_laws.proofs.NamedSheets.{AllNamed}
 
 -- what holds of the commands of all nodes holds of those of a name
@@ -100,7 +99,7 @@ module _ (tip new : Version) (named : AllNamed new.nodes)
   named_fit : (name : List ℕ) → AllByRecursion FitsRow (map row (told_commands_in new name))
   named_fit name = told_fit (entries_in new name) (rows_in new name)
       (entries_all (λ (e : Entry). IsId e.command) new name ids)
-      (all_from (λ r. AllByRecursion IsId (executions r)) (rows_in new name)
+      (each-placed (λ r. AllByRecursion IsId (executions r)) (rows_in new name)
       (λ i r at. execs_fit r (λ e is. execs name i e r at is)))
 
   listed_fit : (nodes : NodeList) → AllNamed nodes → AllByRecursion FitsNode

@@ -2,13 +2,7 @@
 use Rattle.std.proofs.Common.{◌≡◌, ◌⊎◌, inl, inr, ℕ, zero, suc, Bool, true, List, [], ◌∷◌, Some, refl}
 use Rattle.std.proofs.lemmas.Bool.{or_cases}
 use Rattle.std.specs.Prelude.{slice_get}
-use Rattle.std.specs.List.{AllByRecursion, list_any}
-
--- of all, what holds at each place
-pub all_from : {X : Type 0} (Q : X → Type 0) (xs : List X)
-    → ((i : ℕ) (x : X) → slice_get xs i ≡ Some x → Q x) → AllByRecursion Q xs
-all_from Q [] each = tt
-all_from Q (x ∷ xs) each = (each zero x refl, all_from Q xs (λ i y at. each (suc i) y at))
+use Rattle.std.specs.List.{list_any}
 
 -- one that passes, where one does
 pub any_from : {X : Type 0} (p : X → Bool) (xs : List X) → list_any p xs ≡ true

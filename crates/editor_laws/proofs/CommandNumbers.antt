@@ -10,6 +10,7 @@ use Rattle.doc_nodes.specs.Imports.{NodeList, place_of}
 use Rattle.exec_rules.proofs.KnownThere.{all_at}
 use Rattle.core_rules.specs.Doc.{Doc}
 use Rattle.core_rules.specs.Updates.{AreRising, FitsNode, IsKnown, IsOld, node_in}
+use Rattle.core_rules.proofs.KnownEnds.{ends_within}
 use Rattle.editor_laws.proofs.ShownParts.{BeginBy}
 
 -- the commands of nodes have numbers from 1 on
@@ -17,17 +18,12 @@ abbrev pub ArePositive : NodeList → Type 0
 ArePositive nodes = AllByRecursion (λ pair. AllByRecursion
     (λ e. 1 ≤ e.command) pair.1.entries) nodes
 
-rising_ends : (from len : ℕ) (es : List Entry) → AreRising from len es → from ≤ len
-rising_ends from len [] is = is
-rising_ends from len (e ∷ es) is = let rest = rising_ends e.range.stop len es is.2 in
-    omega (arith, is.0, is.1, rest)
-
 -- commands that stand in a text begin in it
 pub rising_begin : (from len k : ℕ) (es : List Entry) → len ≤ k → AreRising from len es
     → BeginBy k es
 rising_begin from len k [] le is = tt
 rising_begin from len k (e ∷ es) le is =
-    let rest = rising_ends e.range.stop len es is.2 in (
+    let rest = ends_within e.range.stop len es is.2 in (
       omega (arith, is.1, rest, le),
       rising_begin e.range.stop len k es le is.2,
     )

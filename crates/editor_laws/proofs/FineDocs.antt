@@ -2,7 +2,7 @@
 use Rattle.std.proofs.Common.{◌≡◌, ℕ, ◌+◌, ◌<◌, ◌≤◌, List, [], ◌∷◌, length, Some, refl, arith}
 use Rattle.std.proofs.lemmas.List.FromFn.{length-map-range_with_len}
 use Rattle.std.specs.List.{AllByRecursion}
-use Rattle.text_words.proofs.KnownLists.{each-both, each-so}
+use Rattle.text_words.proofs.KnownLists.{each-both, each-so, each-passing}
 use Rattle.shared_map.specs.Pairs.{IsSorted}
 use Rattle.pide_base.specs.Ids.{IsId, id_end}
 use Rattle.pide_base.specs.Limits.{most_scalars}
@@ -24,7 +24,6 @@ use Rattle.core_rules.proofs.KnownNumbers.{length_grown, numbered_positive, numb
 use Rattle.report_laws.specs.Headed.{AreHeaded}
 use Rattle.editor_laws.proofs.CommandNumbers.{ArePositive, nodes_positive, rising_begin}
 use Rattle.editor_laws.proofs.FineEvents.{IsFine}
-use Rattle.editor_laws.proofs.FittingReports.{filter_all}
 use Rattle.editor_laws.proofs.NamedSheets.{AllNamed}
 use Rattle.editor_laws.proofs.RisingLists.{Rises, rises_filter, rises_last}
 use Rattle.editor_laws.proofs.ScratchSizes.{AreShort}
@@ -127,10 +126,10 @@ module _ {S : Type 0} (l : Lang S) (law : NumbersLaw) where
         positive = fine.positive;
       }
   doc_fine (event.Remove ids ∷ h) legal all = let fine = doc_fine h legal.0 all.1 in record {
-    live = filter_all FineLive _ (doc l h).live fine.live;
+    live = each-passing FineLive _ (doc l h).live fine.live;
     tip = fine.tip;
     few = fine.few;
-    below = filter_all (λ (one : Live Version). one.id ≤ (doc l h).last) _
+    below = each-passing (λ (one : Live Version). one.id ≤ (doc l h).last) _
         (doc l h).live fine.below;
     rising = rises_filter (λ (one : Live Version). one.id) _ 0 (doc l h).live fine.rising;
     positive = fine.positive;

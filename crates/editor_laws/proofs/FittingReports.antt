@@ -2,7 +2,7 @@
 use Rattle.std.proofs.Common.{ℕ, ◌+◌, ◌<◌, ◌≤◌, ◌^◌, Bool, true, false, cond, List, [], ◌∷◌, length, map, filter, Some, None, nat_lt, arith}
 use Rattle.std.specs.List.{AllByRecursion}
 use Rattle.std.specs.Ordering.{is_gt}
-use Rattle.text_words.proofs.KnownLists.{each-both, each-so}
+use Rattle.text_words.proofs.KnownLists.{each-both, each-so, each-passing}
 use Rattle.pide_base.specs.declared.range.Range.{Range}
 use Rattle.text_edits.specs.declared.edit.Edit.{Edit}
 use Rattle.report_markup.specs.declared.report.Report.{Report}
@@ -78,16 +78,6 @@ module _ (Q : Report → Type 0) where
   order_all [] all = tt
   order_all (r ∷ rs) all = insert_all r (ordered_reports rs) all.0 (order_all rs all.1)
 
-pub filter_all : {X : Type 0} (Q : X → Type 0) (p : X → Bool) (xs : List X) → AllByRecursion Q xs
-    → AllByRecursion Q (filter p xs)
-filter_all Q p [] all = tt
-filter_all Q p (x ∷ xs) all = go (p x) (filter_all Q p xs all.1)
-  where
-    go : (b : Bool) → AllByRecursion Q (filter p xs) → AllByRecursion Q
-        (cond b (x ∷ filter p xs) (filter p xs))
-    go true rest = (all.0, rest)
-    go false rest = rest
-
 module _ (within : (text : List ℕ) (place : ℕ) → symbol_place text place ≤ length text + 1) where
   symbols_fit : (text : List ℕ) (m : ℕ) (rs : List Report) → AllFit m rs
       → AllFit (length text + 1) (map (at_symbols text) rs)
@@ -105,7 +95,7 @@ module _ (within : (text : List ℕ) (place : ℕ) → symbol_place text place �
       fit_more (length text + 1) n long (protocol_reports Symbols text rs)
       (order_all (Fitting (length text + 1)) (filter (λ r. is_filled r.range)
       (map (at_symbols text) rs))
-      (filter_all (Fitting (length text + 1)) (λ r. is_filled r.range) (map (at_symbols text) rs)
+      (each-passing (Fitting (length text + 1)) (λ r. is_filled r.range) (map (at_symbols text) rs)
       (symbols_fit text m rs all)))
 
 -- a reply can tell them

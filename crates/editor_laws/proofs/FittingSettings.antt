@@ -4,6 +4,7 @@ use Rattle.std.proofs.lemmas.Bool.{eqb-true, or_cases}
 use Rattle.std.specs.Prelude.{slice_get, ◌==◌}
 use Rattle.std.specs.List.{AllByRecursion}
 use Rattle.text_words.specs.Members.{has}
+use Rattle.text_words.proofs.KnownLists.{each-placed}
 use Rattle.pide_base.specs.declared.part.Part.{Part}
 use Rattle.pide_base.specs.Limits.{most_scalars}
 use Rattle.report_markup.specs.declared.report.Report.{Report}
@@ -35,7 +36,6 @@ use Rattle.core_rules.proofs.KnownPlaces.{place_found}
 use Rattle.reply_reading.specs.Fits.{FitsReport, IsWide}
 use Rattle.report_laws.specs.Headed.{AreHeaded}
 use Rattle.mirror_laws.proofs.KnownReported.{row_reports}
-use Rattle.editor_laws.proofs.AtPlaces.{all_from}
 use Rattle.editor_laws.proofs.FineDocs.{FineVersion}
 use Rattle.editor_laws.proofs.FittingReports.{AllFit, Fitting}
 use Rattle.editor_laws.proofs.ScratchSizes.{scratch_short, source_most}
@@ -66,7 +66,7 @@ lie_fit source m (r ∷ rs) le lie fit = (
 module _ {S : Type 0} (l : Lang S) (told : ReportLaws l) where
   pub settings_fit : (v : Version) (p : ℕ) → FineVersion v
       → AllByRecursion (SettingFits l most_scalars) (scratch_at l v.nodes v.blobs p)
-  settings_fit v p fine = all_from (SettingFits l most_scalars) (scratch_at l v.nodes v.blobs p) one
+  settings_fit v p fine = each-placed (SettingFits l most_scalars) (scratch_at l v.nodes v.blobs p) one
     where
       one : (i : ℕ) (s : Setting S) → slice_get (scratch_at l v.nodes v.blobs p) i ≡ Some s
           → SettingFits l most_scalars s

@@ -3,7 +3,7 @@ use Rattle.std.proofs.Common.{◌≡◌, ℕ, ◌+◌, ◌<◌, ◌≤◌, Bool,
 use Rattle.std.specs.Prelude.{find, ◌==◌}
 use Rattle.std.specs.Option.{option_map, option_map_or}
 use Rattle.std.specs.List.{AllByRecursion, range_with_len}
-use Rattle.text_words.proofs.KnownLists.{each-so}
+use Rattle.text_words.proofs.KnownLists.{each-so, each-passing}
 use Rattle.byte_message.specs.Limits.{longest_chunk}
 use Rattle.pide_base.specs.Ids.{IsId}
 use Rattle.pide_base.specs.Limits.{most_scalars}
@@ -26,7 +26,7 @@ use Rattle.session_rules.specs.Shown.{finished_reports, protocol_reports}
 use Rattle.editor_laws.proofs.AssignReplies.{entries_all}
 use Rattle.editor_laws.proofs.EditSizes.{edited_all, sizes}
 use Rattle.editor_laws.proofs.FineDocs.{FineDoc, FineLive, FineVersion}
-use Rattle.editor_laws.proofs.FittingReports.{AllFit, Fitting, filter_all, left_fit, order_all, told_fit, told_fits}
+use Rattle.editor_laws.proofs.FittingReports.{AllFit, Fitting, left_fit, order_all, told_fit, told_fits}
 use Rattle.editor_laws.proofs.FittingSettings.{ReportLaws, settings_fit}
 use Rattle.editor_laws.proofs.LookedAt.{looks_at, node_short}
 use Rattle.editor_laws.proofs.RisingLists.{range_within, rises_range, rising_filter}
@@ -38,7 +38,7 @@ pub numbers_fit : (d : Doc) → FineDoc d → (p : ℕ → Bool)
     → AllByRecursion IsId (filter p (range_with_len 1 (length d.homes)))
 numbers_fit d fine p =
     let few = fine.few in
-    filter_all IsId p (range_with_len 1 (length d.homes))
+    each-passing IsId p (range_with_len 1 (length d.homes))
     (each-so (λ x. (1 ≤ x) × (x < 1 + length d.homes)) IsId
     (λ x within. (within.0, omega (arith, within.1, few)))
     (range_with_len 1 (length d.homes)) (range_within 1 (length d.homes)))

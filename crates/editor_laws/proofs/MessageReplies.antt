@@ -3,6 +3,7 @@ use Rattle.std.proofs.Common.{◌≡◌, ℕ, Bool, true, false, List, [], ◌�
 use Rattle.std.specs.Prelude.{if◌then◌else◌, ◌&&◌, not}
 use Rattle.std.specs.List.{AllByRecursion}
 use Rattle.text_words.specs.Members.{has}
+use Rattle.text_words.proofs.KnownLists.{each-passing}
 use Rattle.pide_base.specs.Ids.{IsId}
 use Rattle.core_tables.specs.declared.versions.Live.{Live}
 use Rattle.exec_rules.specs.declared.version.Version.{Version}
@@ -24,7 +25,6 @@ use Rattle.session_rules.specs.Legal.{IsLegal}
 use Rattle.session_rules.specs.Looking.{Looked, looked_at, settles}
 use Rattle.session_rules.specs.Replies.{cancelling, markup, or_refusal, message_replies}
 use Rattle.editor_laws.proofs.FineDocs.{FineDoc, FineLive}
-use Rattle.editor_laws.proofs.FittingReports.{filter_all}
 use Rattle.editor_laws.proofs.LookReplies.{numbers_fit, numbers_rise, shown_told}
 use Rattle.editor_laws.proofs.ReadCalls.{IsSound}
 use Rattle.editor_laws.proofs.RisingLists.{rises_map, rising_filter}
@@ -81,7 +81,7 @@ module _ {S : Type 0} (l : Lang S) (laws : HistoryLaws l) (service : Service) wh
       (cancel_readable (session l service h) exec sound.0.0, tt)
   message_readable h (asks.RemoveVersions versions) after sound legal e = (
     record {
-      fits = filter_all IsId (has versions) _ (live_ids (document l (session l service h)).live
+      fits = each-passing IsId (has versions) _ (live_ids (document l (session l service h)).live
           (fine_after l laws service h legal.0 sound.1).live);
       form = rising_filter (has versions) 0 _ (rises_map (λ (one : Live Version). one.id) 0
           (document l (session l service h)).live (fine_after l laws service h legal.0

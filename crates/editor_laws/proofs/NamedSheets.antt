@@ -4,7 +4,7 @@ use Rattle.std.specs.Prelude.{if◌then◌else◌}
 use Rattle.std.specs.Option.{option_map_or}
 use Rattle.std.specs.Ordering.{is_gt, is_lt}
 use Rattle.std.specs.List.{AllByRecursion}
-use Rattle.text_words.proofs.KnownLists.{each-both}
+use Rattle.text_words.proofs.KnownLists.{each-both, each-passing}
 use Rattle.shared_map.specs.Pairs.{found}
 use Rattle.shared_map.specs.Changes.{put, without}
 use Rattle.shared_map.specs.Cuts.{at_key, before, behind}
@@ -21,7 +21,6 @@ use Rattle.buffer_rules.specs.Sheets.{SheetList, change_one, item_once, sheet_af
 use Rattle.buffer_rules.specs.Trying.{◌>>=◌, steps}
 use Rattle.buffer_rules.specs.Updates.{Asked, BlobList, blobs_after, document_after, names_twice, sheets_after}
 use Rattle.reply_reading.specs.Fits.{IsName}
-use Rattle.editor_laws.proofs.FittingReports.{filter_all}
 
 -- the pair's key is a node's name
 abbrev pub HasName : {A : Type 0} → List ℕ × A → Type 0
@@ -47,15 +46,15 @@ put_named : (name : List ℕ) (sheet : Sheet) (sheets : SheetList) → IsName na
 put_named name sheet sheets is all =
     each-both HasName (before (at_key in_order name) sheets)
     ((name, sheet) ∷ behind (at_key in_order name) sheets)
-    (filter_all HasName (λ pair. is_lt (at_key in_order name pair.0)) sheets all)
-    (is, filter_all HasName (λ pair. is_gt (at_key in_order name pair.0)) sheets all)
+    (each-passing HasName (λ pair. is_lt (at_key in_order name pair.0)) sheets all)
+    (is, each-passing HasName (λ pair. is_gt (at_key in_order name pair.0)) sheets all)
 
 without_named : (name : List ℕ) (sheets : SheetList) → AllNamed sheets
     → AllNamed (without in_order name sheets)
 without_named name sheets all =
     each-both HasName (before (at_key in_order name) sheets) (behind (at_key in_order name) sheets)
-    (filter_all HasName (λ pair. is_lt (at_key in_order name pair.0)) sheets all)
-    (filter_all HasName (λ pair. is_gt (at_key in_order name pair.0)) sheets all)
+    (each-passing HasName (λ pair. is_lt (at_key in_order name pair.0)) sheets all)
+    (each-passing HasName (λ pair. is_gt (at_key in_order name pair.0)) sheets all)
 
 change_named : (name : List ℕ) (c : Change) (sheets after : SheetList) → IsName name
     → AllNamed sheets → change_one name c sheets ≡ Ok after → AllNamed after

@@ -9,3 +9,4 @@ mod Splits
 mod Joins
 mod Bounds
 pub mod KnownJoinings
+pub mod KnownOwn

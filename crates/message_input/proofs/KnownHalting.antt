@@ -1,5 +1,5 @@
 -- Messages that are answered one after the other, until it halts.
-use Rattle.std.proofs.Common.{◌≡◌, [], ◌++◌, List, ℕ, None, Some, Result, Ok, Err, IfErr, refl, sym, ap, ◌∙◌, subst, append-nil, append_assoc}
+use Rattle.std.proofs.Common.{◌≡◌, ◌≤◌, [], ◌++◌, List, ℕ, None, Some, Result, Ok, Err, IfErr, refl, sym, ap, ◌∙◌, subst, append-nil, append_assoc, arith}
 use Rattle.std.specs.Result.{IsErrAnd}
 use Rattle.byte_message.proofs.KnownEndings.{reads}
 use Rattle.byte_message.proofs.KnownLonger.{longer-reading}
@@ -9,8 +9,10 @@ use Rattle.byte_message.specs.Stream.{Ending, IsReadAs}
 use Rattle.byte_message.specs.Stream.Ending.{Whole, Bad}
 use Rattle.byte_message.specs.declared.frame_fault.FrameFault.{FrameFault}
 use Rattle.message_input.specs.declared.answering.Halt.{Halt}
+use Rattle.message_input.specs.declared.answering.Halt.TheVariants as halt
 use Rattle.message_input.specs.Answers.{AnswersAll, AnswersSome, HaltsAmong, KeepsUp}
 use Rattle.message_input.proofs.Decoding.{all_out, all_read, ends_bad}
+use Rattle.message_input.specs.Counts.{CountsSo}
 
 module _ {A : Type 0} (Goes : A → List (List (List ℕ)) → A → Type 0)
     (on : (a b c : A) (first then : List (List (List ℕ))) → Goes a first b → Goes b then c → Goes a (first ++ then) c)
@@ -94,3 +96,9 @@ nothing_read Halts a halt h = record {
 pub passed : {T : Type 0} (r : Result T Halt) (halt : Halt) (P : Halt → Type 0) → IsErrAnd r (λ shown. shown ≡ halt) → P halt → IfErr r P
 passed (Ok x) halt P is p = tt
 passed (Err shown) halt P is p = subst P (sym is) p
+
+-- a count that rose later rose
+pub counts_later : (how : Halt) (before mid now : ℕ) → before ≤ mid
+    → CountsSo how mid now → CountsSo how before now
+counts_later halt.WriteFault before mid now first then = omega arith
+counts_later halt.NoMemory before mid now first then = omega arith

@@ -5,6 +5,7 @@ use Rattle.std.specs.Prelude.{slice_get, not, ◌==◌, ◌&&◌, if◌then◌el
 use Rattle.std.specs.Option.{option_map_or}
 use Rattle.text_words.specs.Members.{has}
 use Rattle.text_words.proofs.KnownMembers.{has_itself}
+use Rattle.text_words.proofs.KnownOptions.{one_of}
 use Rattle.doc_nodes.specs.declared.node.Entry.{Entry}
 use Rattle.doc_nodes.specs.declared.node.Node.{Node}
 use Rattle.exec_rules.specs.declared.key.Key.{Key}
@@ -32,12 +33,6 @@ pub record OldCommand (u : Update) (pair : List ℕ × Node) (i : ℕ) : Type 0 
   pub stood : slice_get (entries_in u.tip pair.0) i ≡ Some old
   pub command : (e : Entry) → slice_get pair.1.entries i ≡ Some e → e.command ≡ old.command
 
-one_entry : (o : Option Entry) (a b : Entry) → o ≡ Some a → o ≡ Some b → a ≡ b
-one_entry o a b p q = cc
-
-one_row : (o : Option Row) (a b : Row) → o ≡ Some a → o ≡ Some b → a ≡ b
-one_row o a b p q = cc
-
 pub old_command : KeptLaw → (u : Update) (pair : List ℕ × Node) (key : Key) (i : ℕ) → i < kept_of u pair key → OldCommand u pair i
 old_command law u pair key i lt = go (assigned_in u.tip pair.0) lt
   where
@@ -50,7 +45,7 @@ old_command law u pair key i lt = go (assigned_in u.tip pair.0) lt
         record {
           old = k.old;
           stood = k.stood;
-          command = λ e at. ap (λ (x : Entry). x.command) (one_entry (slice_get pair.1.entries i) e k.command at k.stands)
+          command = λ e at. ap (λ (x : Entry). x.command) (one_of (slice_get pair.1.entries i) e k.command at k.stands)
               ∙ eqb-true k.command.command k.old.command same;
         }
 
@@ -100,7 +95,7 @@ module _ (law : KeptLaw) (d : Doc) (new : Version) (keeps : (p : ℕ) (pair : Li
       inside lt =
           let r : KeepsRow d s.pair.0 (assigned_to new s.p).rows i = k.inside i lt in
           let o : OldCommand (update_of d new.nodes new.blobs) s.pair i = old_command law (update_of d new.nodes new.blobs) s.pair (assigned_to new s.p).key i lt in
-          let same : r.row ≡ row = one_row (slice_get (assigned_to new s.p).rows i) r.row row r.stands s.at in
+          let same : r.row ≡ row = one_of (slice_get (assigned_to new s.p).rows i) r.row row r.stands s.at in
           record {
             before = r.before;
             old = o.old;

@@ -4,6 +4,7 @@ use Rattle.std.specs.Prelude.{slice_get, not, ◌||◌}
 use Rattle.std.specs.Option.{option_map_or}
 use Rattle.std.specs.List.{list_any}
 use Rattle.text_words.specs.Members.{has}
+use Rattle.text_words.proofs.KnownOptions.{one_of}
 use Rattle.shared_map.specs.Pairs.{IsSorted, found}
 use Rattle.doc_nodes.specs.declared.node.Entry.{Entry}
 use Rattle.doc_nodes.specs.declared.node.Node.{Node}
@@ -33,15 +34,12 @@ pub node_found : (nodes : NodeList) (p : ℕ) (pair : List ℕ × Node) → IsSo
 node_found nodes p pair sorted at =
     ap (found in_order pair.0) (sym (themselves nodes)) ∙ found_at (λ (x : List ℕ × Node). x.1) nodes p pair one at
   where
-    place : (o : Option ℕ) (a b : ℕ) → o ≡ Some a → o ≡ Some b → a ≡ b
-    place o a b x y = cc
-
     node : (o : Option (List ℕ × Node)) (a b : List ℕ × Node) → o ≡ Some a → o ≡ Some b → a.1 ≡ b.1
     node o a b x y = let same : a ≡ b = cc in ap (λ (z : List ℕ × Node). z.1) same
 
     one : (q : ℕ) (other : List ℕ × Node) → slice_get nodes q ≡ Some other → other.0 ≡ pair.0 → other.1 ≡ pair.1
     one q other there same =
-        let e : q ≡ p = place (place_of nodes pair.0) q p (ap (place_of nodes) (sym same) ∙ place_named nodes q other sorted there) (place_named nodes p pair sorted at) in
+        let e : q ≡ p = one_of (place_of nodes pair.0) q p (ap (place_of nodes) (sym same) ∙ place_named nodes q other sorted there) (place_named nodes p pair sorted at) in
         node (slice_get nodes p) other pair (ap (slice_get nodes) (sym e) ∙ there) at
 
 rows_known : (name xs : List ℕ) (es : List Entry) (rows : List Row) → ((i : ℕ) (e : Entry) → slice_get es i ≡ Some e → has xs e.command ≡ true)

@@ -1,11 +1,12 @@
 -- What is pending: the executions that a test takes, whatever range they are looked for in.
 use Rattle.std.proofs.Common.{◌≡◌, ◌⊎◌, inl, inr, ℕ, zero, suc, ◌+◌, ◌-◌, ◌<◌, ◌≤◌, Bool, true, false, cond, List, [], ◌∷◌, filter, refl, ap, sym, ◌∙◌, arith}
-use Rattle.std.proofs.lemmas.Bool.{cases_lt, eqb-true, ltb-true, ltb-false, or_cases}
+use Rattle.std.proofs.lemmas.Bool.{cases_lt, eqb-true, or_cases}
 use Rattle.std.specs.Prelude.{◌==◌, nat_lt}
 use Rattle.std.specs.List.{range_with_len}
 use Rattle.text_words.specs.Members.{has}
 use Rattle.exec_rules.specs.Assigning.{greater}
 use Rattle.core_rules.specs.Doc.{greatest}
+use Rattle.core_rules.proofs.KnownGreatest.{at_least, greater_both}
 
 pub filter_same : {A : Type 0} (f g : A → Bool) (xs : List A) → ((x : A) → f x ≡ g x) → filter f xs ≡ filter g xs
 filter_same f g [] same = refl
@@ -41,16 +42,6 @@ module _ (test : ℕ → Bool) where
           let e : n + (m - n) ≡ m = omega (arith, le) in
           ap (λ k. filter test (range_with_len 1 k)) (sym e) ∙ range_more 1 n (m - n) (λ x more. behind x (omega (arith, more)))
 
-greater_both : (b : Bool) (m n : ℕ) → nat_lt m n ≡ b → (m ≤ cond b n m) × (n ≤ cond b n m)
-greater_both true m n e = (omega (arith, ltb-true m n e), omega arith)
-greater_both false m n e = (omega arith, ltb-false m n e)
-
-least : (n : ℕ) (xs : List ℕ) → n ≤ greatest n xs
-least n [] = omega arith
-least n (x ∷ xs) =
-    let first = (greater_both (nat_lt n x) n x refl).0 in
-    let more = least (greater n x) xs in omega (arith, first, more)
-
 most : (n : ℕ) (xs : List ℕ) (x : ℕ) → has xs x ≡ true → x ≤ greatest n xs
 most n [] x is = absurd (cc)
 most n (y ∷ xs) x is = go (or_cases (x == y) (has xs x) is) (most (greater n y) xs x)
@@ -59,7 +50,7 @@ most n (y ∷ xs) x is = go (or_cases (x == y) (has xs x) is) (most (greater n y
     go (inl same) rest =
         let e = eqb-true x y same in
         let second = (greater_both (nat_lt n y) n y refl).1 in
-        let more = least (greater n y) xs in omega (arith, e, second, more)
+        let more = at_least (greater n y) xs in omega (arith, e, second, more)
     go (inr there) rest = rest there
 
 -- what is above all is not there

@@ -30,10 +30,6 @@ own_row c es rows = ap (λ b. option_map_or (λ (row : Told). row.1) (cond b (So
 pub apart : (xs : List ℕ) (c d : ℕ) → has xs c ≡ false → has xs d ≡ true → (c == d) ≡ false
 apart xs c d out in_ = ne_eqb c d (λ e. false≢true (sym out ∙ ap (λ x. has xs x) e ∙ in_))
 
--- it doesn't matter which way
-pub flipped : (c d : ℕ) → (c == d) ≡ false → (d == c) ≡ false
-flipped c d other = ne_eqb d c (λ e. false≢true (sym other ∙ eq-eqb c d (sym e)))
-
 abbrev pub row_list : Option Row → List ℕ
 row_list o = option_map_or executions o []
 

@@ -5,6 +5,7 @@ use Rattle.std.specs.Prelude.{find, slice_get, flat_map, ◌==◌, ◌&&◌, ◌
 use Rattle.std.specs.Option.{option_map}
 use Rattle.text_words.specs.Members.{has}
 use Rattle.text_words.proofs.KnownMembers.{has_both, has_left, has_right}
+use Rattle.text_words.proofs.KnownLists.{differ_turned}
 use Rattle.std.proofs.Math.Bool.{and-false}
 use Rattle.pide_base.specs.declared.part.Part.{Part}
 use Rattle.doc_nodes.specs.declared.node.Entry.{Entry}
@@ -21,7 +22,7 @@ use Rattle.mirror_rules.specs.Parts.{reports_at}
 use Rattle.mirror_rules.specs.Reports.{PartReport, belongs_to, finished_at, finished_by, with_report}
 use Rattle.mirror_rules.specs.Rows.{rows_of}
 use Rattle.mirror_laws.proofs.Lists.{find_behind, find_before}
-use Rattle.mirror_laws.proofs.Rows.{apart, flipped, id_there}
+use Rattle.mirror_laws.proofs.Rows.{apart, id_there}
 
 abbrev pub is_at : ℕ → Part → FinishedPart → Bool
 is_at c p f = f.command == c && same_part f.part p
@@ -31,7 +32,7 @@ pub differ_apart : (xs ys : List ℕ) (c : ℕ) → AllDiffer (xs ++ ys) → has
 differ_apart [] ys c differ is = refl
 differ_apart (x ∷ xs) ys c differ is =
     let out = (or_parts (has xs x) (has ys x) (sym (has_both xs ys x) ∙ differ.0)).1 in
-    ap (λ b. b || has xs c) (flipped x c (apart ys x c out is)) ∙ differ_apart xs ys c differ.1 is
+    ap (λ b. b || has xs c) (differ_turned x c (apart ys x c out is)) ∙ differ_apart xs ys c differ.1 is
 
 module _ (told : PartReport) where
   -- what is finished by a report is found for its own part alone
@@ -52,7 +53,7 @@ module _ (told : PartReport) where
   other_command node rows c p [] out = refl
   other_command node rows c p (e ∷ es) out =
       let parts = or_parts (c == e.command) (has (ids es) c) out in
-      go (belongs_to told node rows e) (flipped c e.command parts.0) (other_command node rows c p es parts.1)
+      go (belongs_to told node rows e) (differ_turned c e.command parts.0) (other_command node rows c p es parts.1)
     where
       go : (b : Bool) → (e.command == c) ≡ false → find (is_at c p) (flat_map (finished_by told node rows) es) ≡ None
           → find (is_at c p) ((if b then finished_at told node e ∷ [] else []) ++ flat_map (finished_by told node rows) es) ≡ None

@@ -1,5 +1,5 @@
 -- Each print of a formula is its text.
-use Rattle.std.proofs.Common.{◌≡◌, ◌≤◌, ◌+◌, ℕ, nat_lt, true, List, [], ◌∷◌, ◌++◌, codes, ap, sym, ◌∙◌, lit≤}
+use Rattle.std.proofs.Common.{◌≡◌, ◌≤◌, ◌+◌, ℕ, nat_lt, true, List, [], ◌∷◌, ◌++◌, codes, ap, sym, subst, ◌∙◌, lit≤}
 use Rattle.std.proofs.lemmas.Bool.{both_ways}
 use Rattle.nj_formula.specs.declared.formula.Formula.{Formula}
 use Rattle.nj_formula.specs.declared.formula.Formula.TheVariants.{And, Or, Implies, All, Exists}
@@ -9,9 +9,10 @@ use Rattle.nj_syntax.specs.declared.operator.Operator.{Operator}
 use Rattle.nj_syntax.specs.declared.operator.Quantifier.{Quantifier}
 use Rattle.nj_syntax.specs.Grammar.{priority, word}
 use Rattle.nj_print.specs.Prints.{operator_text, enclosed_layer, is_enclosed, Prints, falsity, atom, predicate, negation, operator, quantifier, parentheses}
-use Rattle.nj_print.specs.Printed.{primed, enclosed, text_in}
+use Rattle.nj_print.specs.Printed.{primed, enclosed, formula_text, text_in}
 use Rattle.nj_print.proofs.KnownPrimed.{primed_is}
 use Rattle.nj_print.proofs.SpokenLemmas.{says_meaning, text-False, text-Atom, text-Not, text-joined, text-quantified, bare, in_parentheses}
+use Rattle.nj_print.proofs.KnownPrints.{some_print}
 
 -- a text of its own in two places, in parentheses in the first
 twice : (own place : ℕ) (text there here : List ℕ) → there ≡ enclosed own place text → here ≡ enclosed own 10 text → 10 ≤ own
@@ -55,3 +56,7 @@ text_is {p} {names} (quantifier {x = x} {y = y} {a = a} {text = text} q low is h
     ∙ (sym (bare 10 p _ low) ∙ sym (text-quantified p names q x a)))
 text_is {p} {names} (parentheses {a = a} over h) =
     ap (λ t. codes "(" ++ (t ++ codes ")")) (text_is h) ∙ sym (enclosed_text p names a over)
+
+-- so the text of a formula is a print of it
+pub printed : (a : Formula) → Prints 10 [] a (formula_text a)
+printed a = let some = some_print [] a in subst (Prints 10 [] a) (text_is some.1) some.1

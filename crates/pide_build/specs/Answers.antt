@@ -1,12 +1,12 @@
 -- How the messages of a build are answered, and how that stops (this project's own).
 use Rattle.std.specs.Prelude.{◌≡◌, ℕ, ◌≤◌, List, Option, Result, Ok, Err}
 use Rattle.std.specs.Io.KnownBytes.{Appends}
-use Rattle.pide_base.specs.Faults.{Rose}
 use Rattle.pide_base.specs.Moves.{AppendsFront}
 use Rattle.pide_base.specs.declared.status.Status.{Status}
 use Rattle.pide_base.specs.declared.status.Status.TheVariants as status
 use Rattle.message_input.specs.declared.answering.Halt.{Halt}
 use Rattle.message_input.specs.declared.answering.Halt.TheVariants as halt
+use Rattle.message_input.specs.Counts.{CountsSo}
 use Rattle.pide_build.specs.Replies.{refusals}
 use Rattle.pide_build.specs.Theories.{TheoryList, theories_after}
 
@@ -16,11 +16,6 @@ pub record GoesOn (held held' : Option (List ℕ)) (faults faults' : ℕ) (old n
   pub theories : new ≡ theories_after messages old
   pub writes : Appends held held' (refusals messages old)
   pub steady : faults ≤ faults'
-
--- a sink's count of faults never falls, and rises where writing fails
-abbrev pub CountsSo : Halt → ℕ → ℕ → Type 0
-CountsSo halt.WriteFault before now = Rose before now
-CountsSo halt.NoMemory before now = before ≤ now
 
 -- the messages were answered, the last of them not to its end: a front of what they are replied is
 -- written

@@ -1,5 +1,5 @@
 -- Messages that are answered one after the other (this project's own).
-use Rattle.std.specs.Prelude.{◌≡◌, ℕ, ◌≤◌, List, [], ◌∷◌, ◌++◌, Option}
+use Rattle.std.specs.Prelude.{◌≡◌, ℕ, List, [], ◌∷◌, ◌++◌, Option}
 use Rattle.std.proofs.Common.{refl, sym, ap, subst, ◌∙◌, append_assoc, arith}
 use Rattle.std.specs.Io.KnownBytes.{Appends}
 use Rattle.std.proofs.KnownBytes.{Appends-nil, Appends-trans}
@@ -7,7 +7,8 @@ use Rattle.pide_base.specs.Moves.{AppendsFront}
 use Rattle.pide_base.proofs.Known.{AppendsFront-after}
 use Rattle.message_input.specs.declared.answering.Halt.{Halt}
 use Rattle.message_input.specs.declared.answering.Halt.TheVariants as halt
-use Rattle.pide_build.specs.Answers.{CountsSo, GoesOn, Stops}
+use Rattle.message_input.proofs.KnownHalting.{counts_later}
+use Rattle.pide_build.specs.Answers.{GoesOn, Stops}
 use Rattle.pide_build.specs.Replies.{refusal_of, refusals}
 use Rattle.pide_build.specs.Theories.{TheoryList, kept_by, next_theories, theories_after}
 
@@ -43,12 +44,6 @@ pub short_of : (held : Option (List ℕ)) (faults : ℕ) (theories : TheoryList)
     → Stops held held faults faults theories [] halt.NoMemory
 short_of held faults theories =
     record { writes = ([], [], refl, Appends-nil held); counts = omega arith }
-
--- a count that rose later rose
-counts_later : (how : Halt) (before mid now : ℕ) → before ≤ mid → CountsSo how mid now
-    → CountsSo how before now
-counts_later halt.WriteFault before mid now first then = omega arith
-counts_later halt.NoMemory before mid now first then = omega arith
 
 module _ (held mid held' : Option (List ℕ)) (faults between faults' : ℕ) where
   -- some messages are answered after others

@@ -5,7 +5,7 @@ ghost use Rattle.std.specs.Io.KnownBytes.{Appends};
 ghost use Rattle.pide_base.specs.Moves.{AppendsFront};
 ghost use Rattle.reply_writing.specs.Forms.{IsForm};
 ghost use Rattle.reply_writing.specs.Lent.{told_reply};
-ghost use Rattle.pide_build.specs.Answers.{CountsSo};
+ghost use Rattle.message_input.specs.Counts.{CountsSo};
 ghost use Rattle.pide_build.specs.Replies.{errors_of, node_reply, spelled, tells_error};
 ghost use Rattle.pide_build.specs.Telling.{bytes_of};
 

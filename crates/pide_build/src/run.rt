@@ -4,7 +4,8 @@ ghost use Rattle.std.specs.Io.KnownBytes.{Appends};
 ghost use Rattle.pide_base.specs.Faults.{Rose};
 ghost use Rattle.pide_base.specs.Moves.{AppendsFront};
 ghost use Rattle.message_input.specs.Causes.{CompleteSo, HasCause};
-ghost use Rattle.pide_build.specs.Answers.{CountsSo, status_of};
+ghost use Rattle.message_input.specs.Counts.{CountsSo};
+ghost use Rattle.pide_build.specs.Answers.{status_of};
 ghost use Rattle.pide_build.specs.Replies.{build_replies};
 ghost use Rattle.pide_build.specs.Runs.{IsBuild};
 

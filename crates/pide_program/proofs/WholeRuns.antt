@@ -43,23 +43,22 @@ module _ {S : Type 0} (l : Lang S) (service : Service) (none : free_workers serv
   not_both : (h : List Heard) → goes h → has_end h → ⊥
   not_both h going ended = let both : false ≡ true = sym going ∙ ended in absurd (cc)
 
-  abbrev of : List Entry → List Heard
-  of es = all_heard service es
-
   -- the newest entry is the end
-  pub ends : (es : List Entry) → IsLegal l service (of es) → IsAlone l service None (of es) → has_end (of es)
+  pub ends : (es : List Entry) → IsLegal l service (all_heard service es) → IsAlone l service None (all_heard service es)
+      → has_end (all_heard service es)
       → (before : List Entry) × (es ≡ entry.Ended ∷ before)
   ends [] legal alone is = absurd (cc)
   ends (entry.Ended ∷ es) legal alone is = (es, refl)
   ends (entry.Call m ∷ es) legal alone is =
-      absurd (not_both (of es) legal.1.0 (sym (message_goes l service (session l service (of es)) (asked (mode_of service) m)) ∙ is))
-  ends (entry.Claimed who p ∷ es) legal alone is = absurd (not_both (of es) legal.1.0.0 is)
+      absurd (not_both (all_heard service es) legal.1.0
+      (sym (message_goes l service (session l service (all_heard service es)) (asked (mode_of service) m)) ∙ is))
+  ends (entry.Claimed who p ∷ es) legal alone is = absurd (not_both (all_heard service es) legal.1.0.0 is)
   ends (entry.Finished zero p ∷ es) legal alone is = absurd (alone)
   ends (entry.Finished (suc w) p ∷ es) legal alone is =
-      absurd (not_both (of es) (goes_on (of es) (suc w) legal.0 (called_step _ _ w legal.1.1)) is)
+      absurd (not_both (all_heard service es) (goes_on (all_heard service es) (suc w) legal.0 (called_step _ _ w legal.1.1)) is)
   ends (entry.Dropped zero p ∷ es) legal alone is = absurd (alone)
   ends (entry.Dropped (suc w) p ∷ es) legal alone is =
-      absurd (not_both (of es) (goes_on (of es) (suc w) legal.0 (called_step _ _ w legal.1.1)) is)
+      absurd (not_both (all_heard service es) (goes_on (all_heard service es) (suc w) legal.0 (called_step _ _ w legal.1.1)) is)
 
 -- messages in order are those that the newest begins, read back
 called_back : (h : List Entry) → calls h ≡ reverse (called h)

@@ -18,9 +18,9 @@ use Rattle.proof_checks.specs.Answers.{Gives, Enters}
 use Rattle.proof_checks.specs.Checks.{Found, and_then, by_two, by_three, of_part, of_step, step_within, checked_within}
 use Rattle.proof_checks.specs.Fits.{Fits, IsWithin}
 use Rattle.proof_checks.specs.Rows.{Planned}
-use Rattle.proof_checks.specs.Scopes.{inside, remaining}
+use Rattle.proof_checks.specs.Scopes.{remaining}
 use Rattle.proof_checks.proofs.FitLemmas.{step_fits}
-use Rattle.proof_checks.proofs.KnownFound.{same_step, then_ok, then_err}
+use Rattle.proof_checks.proofs.KnownFound.{same_step, then_ok, then_err, after_one, at, part_ok, second, third}
 
 -- where a step is taken, its parts are checked in one rule less
 pub checked_is : (left : ℕ) (t : Term) (goal : Formula) (scope : Scoped) (step : Step) → step_within left (out-Term t) goal ≡ Ok step → IsWithin step left
@@ -64,43 +64,28 @@ entered_halt Stopped planned whole c told next = tt
 entered_halt NoMemory planned whole c told next = tt
 
 module _ (sub : Term → Formula → Scoped → Found) (scope : Scoped) where
-  abbrev pub at : Part → Found
-  at p = sub p.term p.goal (inside p.own scope)
-
-  part_ok : (p : Part) (s : List Statement) → at p ≡ Ok s → of_part sub scope p ≡ Ok (remaining p.own s)
-  part_ok p s e = then_ok (λ s. Ok (remaining p.own s)) e
-
-  part_err : (p : Part) (f : TermFault) → at p ≡ Err f → of_part sub scope p ≡ Err f
+  part_err : (p : Part) (f : TermFault) → at sub scope p ≡ Err f → of_part sub scope p ≡ Err f
   part_err p f e = then_err (λ s. Ok (remaining p.own s)) e
 
   module _ (goal : Formula) where
-    abbrev after_one : Binary → Part → Part → List Statement → Found
-    after_one rule p q s = and_then (of_part sub scope q) (by_two rule (meaning p.goal) (meaning goal) s)
-
-    pub two_first : (rule : Binary) (p q : Part) (f : TermFault) → at p ≡ Err f → of_step sub scope goal (Two rule p q) ≡ Err f
+    pub two_first : (rule : Binary) (p q : Part) (f : TermFault) → at sub scope p ≡ Err f → of_step sub scope goal (Two rule p q) ≡ Err f
     unfolding of_step
-    two_first rule p q f e = then_err (after_one rule p q) (part_err p f e)
+    two_first rule p q f e = then_err (after_one sub scope goal rule p q) (part_err p f e)
 
-    pub two_next : (rule : Binary) (p q : Part) (s : List Statement) → at p ≡ Ok s
+    pub two_next : (rule : Binary) (p q : Part) (s : List Statement) → at sub scope p ≡ Ok s
         → of_step sub scope goal (Two rule p q) ≡ and_then (of_part sub scope q) (by_two rule (meaning p.goal) (meaning goal) (remaining p.own s))
     unfolding of_step
-    two_next rule p q s e = then_ok (after_one rule p q) (part_ok p s e)
+    two_next rule p q s e = then_ok (after_one sub scope goal rule p q) (part_ok sub scope p s e)
 
-    abbrev third : Part → List Statement → List Statement → Found
-    third r s t = and_then (of_part sub scope r) (by_three s t)
-
-    abbrev second : Part → Part → List Statement → Found
-    second q r s = and_then (of_part sub scope q) (third r s)
-
-    pub three_first : (p q r : Part) (f : TermFault) → at p ≡ Err f → of_step sub scope goal (Three p q r) ≡ Err f
+    pub three_first : (p q r : Part) (f : TermFault) → at sub scope p ≡ Err f → of_step sub scope goal (Three p q r) ≡ Err f
     unfolding of_step
-    three_first p q r f e = then_err (second q r) (part_err p f e)
+    three_first p q r f e = then_err (second sub scope q r) (part_err p f e)
 
-    pub three_second : (p q r : Part) (s : List Statement) (f : TermFault) → at p ≡ Ok s → at q ≡ Err f → of_step sub scope goal (Three p q r) ≡ Err f
+    pub three_second : (p q r : Part) (s : List Statement) (f : TermFault) → at sub scope p ≡ Ok s → at sub scope q ≡ Err f → of_step sub scope goal (Three p q r) ≡ Err f
     unfolding of_step
-    three_second p q r s f e h = then_ok (second q r) (part_ok p s e) ∙ then_err (third r (remaining p.own s)) (part_err q f h)
+    three_second p q r s f e h = then_ok (second sub scope q r) (part_ok sub scope p s e) ∙ then_err (third sub scope r (remaining p.own s)) (part_err q f h)
 
-    pub three_next : (p q r : Part) (s t : List Statement) → at p ≡ Ok s → at q ≡ Ok t
+    pub three_next : (p q r : Part) (s t : List Statement) → at sub scope p ≡ Ok s → at sub scope q ≡ Ok t
         → of_step sub scope goal (Three p q r) ≡ and_then (of_part sub scope r) (by_three (remaining p.own s) (remaining q.own t))
     unfolding of_step
-    three_next p q r s t e h = then_ok (second q r) (part_ok p s e) ∙ then_ok (third r (remaining p.own s)) (part_ok q t h)
+    three_next p q r s t e h = then_ok (second sub scope q r) (part_ok sub scope p s e) ∙ then_ok (third sub scope r (remaining p.own s)) (part_ok sub scope q t h)

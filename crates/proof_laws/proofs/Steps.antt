@@ -14,9 +14,9 @@ use Rattle.proof_checks.specs.declared.step.Unary.{Unary}
 use Rattle.proof_checks.specs.declared.step.Binary.{Binary}
 use Rattle.proof_checks.specs.Checks.{Found, and_then, if_fresh, by_one, by_two, by_three}
 use Rattle.proof_checks.specs.Checks.{of_part, of_step}
-use Rattle.proof_checks.specs.Scopes.{inside, remaining}
+use Rattle.proof_checks.specs.Scopes.{remaining}
 use Rattle.proof_checks.specs.Statements.{is_free_among}
-use Rattle.proof_checks.proofs.KnownFound.{parted, same_found, then_ok}
+use Rattle.proof_checks.proofs.KnownFound.{parted, same_found, then_ok, after_one, at, part_ok, second, third}
 
 -- what is listed one after the other, each by another name
 each_same : {a b c r s t : List Statement} → a ≡ r → b ≡ s → c ≡ t → a ++ b ++ c ≡ r ++ s ++ t
@@ -34,57 +34,40 @@ pub found_fresh : (x : List ℕ) (others s : List Statement) → is_free_among x
 found_fresh x others s fresh = ap (λ b. cond b (Err (NotFresh x)) (Ok s)) fresh
 
 module _ (sub : Term → Formula → Scoped → Found) (scope : Scoped) where
-  abbrev pub at : Part → Found
-  at p = sub p.term p.goal (inside p.own scope)
-
-  part_ok : (p : Part) (s : List Statement) → at p ≡ Ok s
-      → of_part sub scope p ≡ Ok (remaining p.own s)
-  part_ok p s e = then_ok (λ s. Ok (remaining p.own s)) e
-
   -- what a part is found to assume, with its own assumption
   part_back : (p : Part) (s : List Statement) → of_part sub scope p ≡ Ok s → (a : List Statement)
-      × (at p ≡ Ok a) × (remaining p.own a ≡ s)
-  part_back p s e = let w = parted (at p) (λ t. Ok (remaining p.own t)) s e in
+      × (at sub scope p ≡ Ok a) × (remaining p.own a ≡ s)
+  part_back p s e = let w = parted (at sub scope p) (λ t. Ok (remaining p.own t)) s e in
       (w.0, w.1, same_found w.2)
 
   module _ (goal : Formula) where
-    abbrev after_one : Binary → Part → Part → List Statement → Found
-    after_one rule p q s = and_then (of_part sub scope q)
-        (by_two rule (meaning p.goal) (meaning goal) s)
-
-    abbrev third : Part → List Statement → List Statement → Found
-    third r s t = and_then (of_part sub scope r) (by_three s t)
-
-    abbrev second : Part → Part → List Statement → Found
-    second q r s = and_then (of_part sub scope q) (third r s)
-
-    pub one_ok : (rule : Unary) (p : Part) (s : List Statement) → at p ≡ Ok s
+    pub one_ok : (rule : Unary) (p : Part) (s : List Statement) → at sub scope p ≡ Ok s
         → of_step sub scope goal (One rule p) ≡ by_one rule (meaning goal) (remaining p.own s)
     unfolding of_step
-    one_ok rule p s e = then_ok (by_one rule (meaning goal)) (part_ok p s e)
+    one_ok rule p s e = then_ok (by_one rule (meaning goal)) (part_ok sub scope p s e)
 
-    pub two_ok : (rule : Binary) (p q : Part) (s t : List Statement) → at p ≡ Ok s → at q ≡ Ok t
-        → of_step sub scope goal (Two rule p q) ≡ by_two rule (meaning p.goal) (meaning goal)
-        (remaining p.own s) (remaining q.own t)
+    pub two_ok : (rule : Binary) (p q : Part) (s t : List Statement) → at sub scope p ≡ Ok s
+        → at sub scope q ≡ Ok t → of_step sub scope goal (Two rule p q)
+        ≡ by_two rule (meaning p.goal) (meaning goal) (remaining p.own s) (remaining q.own t)
     unfolding of_step
     two_ok rule p q s t e h =
-        then_ok (after_one rule p q) (part_ok p s e)
+        then_ok (after_one sub scope goal rule p q) (part_ok sub scope p s e)
         ∙ then_ok (by_two rule (meaning p.goal) (meaning goal) (remaining p.own s))
-        (part_ok q t h)
+        (part_ok sub scope q t h)
 
-    pub three_ok : (p q r : Part) (s t u : List Statement) → at p ≡ Ok s → at q ≡ Ok t
-        → at r ≡ Ok u
+    pub three_ok : (p q r : Part) (s t u : List Statement) → at sub scope p ≡ Ok s
+        → at sub scope q ≡ Ok t → at sub scope r ≡ Ok u
         → of_step sub scope goal (Three p q r)
         ≡ Ok (remaining p.own s ++ remaining q.own t ++ remaining r.own u)
     unfolding of_step
     three_ok p q r s t u e h k =
-        then_ok (second q r) (part_ok p s e)
-        ∙ (then_ok (third r (remaining p.own s)) (part_ok q t h)
-        ∙ then_ok (by_three (remaining p.own s) (remaining q.own t)) (part_ok r u k))
+        then_ok (second sub scope q r) (part_ok sub scope p s e)
+        ∙ (then_ok (third sub scope r (remaining p.own s)) (part_ok sub scope q t h)
+        ∙ then_ok (by_three (remaining p.own s) (remaining q.own t)) (part_ok sub scope r u k))
 
     pub one_back : (rule : Unary) (p : Part) (s : List Statement)
         → of_step sub scope goal (One rule p) ≡ Ok s
-        → (a : List Statement) × (at p ≡ Ok a)
+        → (a : List Statement) × (at sub scope p ≡ Ok a)
         × (by_one rule (meaning goal) (remaining p.own a) ≡ Ok s)
     unfolding of_step
     one_back rule p s e =
@@ -94,12 +77,13 @@ module _ (sub : Term → Formula → Scoped → Found) (scope : Scoped) where
 
     pub two_back : (rule : Binary) (p q : Part) (s : List Statement)
         → of_step sub scope goal (Two rule p q) ≡ Ok s
-        → (a : List Statement) × (b : List Statement) × (at p ≡ Ok a) × (at q ≡ Ok b)
+        → (a : List Statement) × (b : List Statement)
+        × (at sub scope p ≡ Ok a) × (at sub scope q ≡ Ok b)
         × (by_two rule (meaning p.goal) (meaning goal) (remaining p.own a)
         (remaining q.own b) ≡ Ok s)
     unfolding of_step
     two_back rule p q s e =
-        let w = parted (of_part sub scope p) (after_one rule p q) s e in
+        let w = parted (of_part sub scope p) (after_one sub scope goal rule p q) s e in
         let v = parted (of_part sub scope q)
         (by_two rule (meaning p.goal) (meaning goal) w.0) s w.2 in
         let i = part_back p w.0 w.1 in
@@ -114,13 +98,13 @@ module _ (sub : Term → Formula → Scoped → Found) (scope : Scoped) where
 
     pub three_back : (p q r : Part) (s : List Statement)
         → of_step sub scope goal (Three p q r) ≡ Ok s
-        → (a : List Statement) × (b : List Statement) × (c : List Statement) × (at p ≡ Ok a)
-        × (at q ≡ Ok b) × (at r ≡ Ok c)
+        → (a : List Statement) × (b : List Statement) × (c : List Statement)
+        × (at sub scope p ≡ Ok a) × (at sub scope q ≡ Ok b) × (at sub scope r ≡ Ok c)
         × (remaining p.own a ++ remaining q.own b ++ remaining r.own c ≡ s)
     unfolding of_step
     three_back p q r s e =
-        let w = parted (of_part sub scope p) (second q r) s e in
-        let v = parted (of_part sub scope q) (third r w.0) s w.2 in
+        let w = parted (of_part sub scope p) (second sub scope q r) s e in
+        let v = parted (of_part sub scope q) (third sub scope r w.0) s w.2 in
         let u = parted (of_part sub scope r) (by_three w.0 v.0) s v.2 in
         let i = part_back p w.0 w.1 in
         let j = part_back q v.0 v.1 in

@@ -1,7 +1,5 @@
 -- What is told of an execution that is to be cancelled.
 use Rattle.std.proofs.Common.{◌≡◌, ℕ, Bool, true, false, cond, not, ◌&&◌, ◌||◌, List, ◌∷◌, Some, None, refl, ap, sym, ◌∙◌}
-use Rattle.std.proofs.lemmas.Bool.{eqb-true, eq-eqb, false≢true}
-use Rattle.std.specs.Prelude.{◌==◌}
 use Rattle.text_words.specs.Members.{has}
 use Rattle.core_tables.specs.declared.execution.Execution.{Execution}
 use Rattle.core_tables.specs.declared.execs.Cancelling.TheVariants as answer
@@ -20,14 +18,6 @@ use Rattle.core_jobs.specs.declared.done.Done.{Done}
 use Rattle.prover_core.specs.Progress.{completed_in, execution_by, row_by}
 use Rattle.prover_core.specs.Kept.{Tables, IsKept, IsKnown}
 use Rattle.prover_core.proofs.OpenRows.{row_known, done_closed}
-
-turned_by : (e f : ℕ) (b : Bool) → (f == e) ≡ b → (e == f) ≡ false → b ≡ false
-turned_by e f false x is = refl
-turned_by e f true x is = absurd (false≢true (sym is ∙ eq-eqb e f (sym (eqb-true f e x))))
-
--- whichever comes first
-pub turned : (e f : ℕ) → (e == f) ≡ false → (f == e) ≡ false
-turned e f is = turned_by e f (f == e) refl is
 
 module _ {S : Type 0} (l : Lang S) (h : List Event) (t : Tables S) (k : IsKept l h t) (e : ℕ) where
   abbrev d : Doc

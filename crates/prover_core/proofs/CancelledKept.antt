@@ -4,6 +4,7 @@ use Rattle.std.proofs.lemmas.Bool.{eqb-true, eq-eqb, false≢true}
 use Rattle.std.specs.Prelude.{◌==◌, ◌+◌}
 use Rattle.std.proofs.Math.Bool.{and-false, or-false, or-true}
 use Rattle.text_words.specs.Members.{has}
+use Rattle.text_words.proofs.KnownLists.{differ_turned}
 use Rattle.pide_base.specs.declared.part.PartKind.{PartKind}
 use Rattle.core_tables.specs.declared.execution.Execution.{Execution}
 use Rattle.core_tables.specs.Finish.{after_cancelling}
@@ -23,7 +24,7 @@ use Rattle.prover_core.specs.Tasks.{AreTasks, HasTask}
 use Rattle.prover_core.specs.Kept.{Tables, IsKept, IsKnown}
 use Rattle.prover_core.proofs.OpenRows.{row_known, row_with_mark}
 use Rattle.prover_core.proofs.Noted.{noted_too}
-use Rattle.prover_core.proofs.CancelTold.{turned, row as told_row, after_told as told_after}
+use Rattle.prover_core.proofs.CancelTold.{row as told_row, after_told as told_after}
 
 module _ {S : Type 0} (l : Lang S) (h : List Event) (t : Tables S) (k : IsKept l h t) (e : ℕ) where
   abbrev d : Doc
@@ -137,7 +138,7 @@ module _ {S : Type 0} (l : Lang S) (h : List Event) (t : Tables S) (k : IsKept l
       itself = marked e cancels ∙ ap (λ b. b || has d.cancelled e) (eq-eqb e e refl)
 
       others : (f : ℕ) → (e == f) ≡ false → has (doc l more).cancelled f ≡ has d.cancelled f
-      others f is = marked f cancels ∙ ap (λ b. b || has d.cancelled f) (turned e f is)
+      others f is = marked f cancels ∙ ap (λ b. b || has d.cancelled f) (differ_turned e f is)
 
       row_so : (f : ℕ) (b : Bool) → (e == f) ≡ b → cond b (after_cancelling (t.rows e)) (t.rows f) ≡ row_with f (has (doc l more).cancelled f)
       row_so f true is = mine ∙ ap (row_with e) (sym itself) ∙ ap (λ x. row_with x (has (doc l more).cancelled x)) (eqb-true e f is)

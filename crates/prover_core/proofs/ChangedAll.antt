@@ -7,8 +7,8 @@ use Rattle.text_words.specs.Members.{has}
 use Rattle.core_tables.specs.declared.execution.Execution.{Execution}
 use Rattle.core_tables.specs.Progress.{is_idle}
 use Rattle.core_tables.specs.Finish.{after_cancelling}
-use Rattle.prover_core.proofs.CancelTold.{turned}
 use Rattle.text_words.proofs.KnownMembers.{has_both}
+use Rattle.text_words.proofs.KnownLists.{differ_turned}
 
 -- what is there at a number, once it is changed at these
 abbrev pub changed_in : {A : Type 0} → (ℕ → A → A) → List ℕ → (ℕ → A) → ℕ → A
@@ -38,7 +38,7 @@ module _ {A : Type 0} (step : ℕ → A → A) (again : (e : ℕ) (a : A) → st
           ap (λ n. step n (g n)) it ∙ here ∙ same_as (e == x) (ap (λ n. e == n) it ∙ (sym (ap (λ n. n == e) it) ∙ same))
       go false same = was e
           ∙ ap (λ b. cond b (step e (f e)) (f e)) (sym (or-false (has ds e)))
-          ∙ ap (λ b. cond (has ds e || (b || false)) (step e (f e)) (f e)) (sym (turned x e same))
+          ∙ ap (λ b. cond (has ds e || (b || false)) (step e (f e)) (f e)) (sym (differ_turned x e same))
 
 -- what was cancelled stays so
 pub again_cancelled : {R : Type 0} (o : Option (Execution R)) → after_cancelling (after_cancelling o) ≡ after_cancelling o

@@ -6,6 +6,7 @@ use Rattle.std.proofs.lemmas.Bool.{and_parts}
 use Rattle.std.proofs.lemmas.Option.{same_Some}
 use Rattle.doc_nodes.specs.Imports.{NodeList}
 use Rattle.text_words.specs.Members.{has}
+use Rattle.text_words.proofs.KnownOptions.{one_of}
 use Rattle.pide_base.specs.declared.part.Part.{Part}
 use Rattle.pide_base.specs.declared.part.PartKind.{PartKind}
 use Rattle.core_tables.specs.Live.{tip_of}
@@ -65,9 +66,6 @@ module _ {S : Type 0} (l : Lang S) (h : List Event) (t : Tables S) (k : IsKept l
       ∙ ap (λ (x : Home). found_input l (doc l h).tip.nodes known x.input) (same_Some home job.home (sym at ∙ job.known))
       ∙ job.found)
 
-  same_input : (o : Option (Taken S)) (x y : Taken S) → o ≡ Some x → o ≡ Some y → x ≡ y
-  same_input o x y a b = cc
-
   pub job_right : (p : Part) → first_ready l h ≡ Some p → (nodes : NodeList) → nodes ≡ (tip_of t.versions).nodes
       → (home : Home) → t.homes p.exec ≡ Some home → (x : Taken S) → found_input l nodes known home.input ≡ Some x
       → setting l (doc l h).homes p.exec
@@ -75,7 +73,7 @@ module _ {S : Type 0} (l : Lang S) (h : List Event) (t : Tables S) (k : IsKept l
   job_right p is nodes same home at x found =
       let job = first_job p is in
       let it : job.home ≡ home = same_Some job.home home (sym job.known ∙ at) in
-      let input : job.input ≡ x = same_input (found_input l nodes known home.input) job.input x
+      let input : job.input ≡ x = one_of (found_input l nodes known home.input) job.input x
       (ap (λ ns. found_input l ns known home.input) (same ∙ ap (λ (v : Version). v.nodes) k.tip)
       ∙ ap (λ (y : Home). found_input l (doc l h).tip.nodes known y.input) (sym it) ∙ job.found) found in
       job.works_on

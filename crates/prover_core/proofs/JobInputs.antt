@@ -1,8 +1,9 @@
 -- What a job of a ready part takes up is there, and is what its execution works on.
-use Rattle.std.proofs.Common.{◌≡◌, ℕ, Bool, true, false, cond, List, [], ◌∷◌, Option, Some, None, refl, ap, sym, ◌∙◌}
+use Rattle.std.proofs.Common.{◌≡◌, ℕ, Bool, true, false, cond, List, [], ◌∷◌, Some, None, refl, ap, sym, ◌∙◌}
 use Rattle.std.proofs.lemmas.Bool.{false≢true, and_parts}
 use Rattle.std.specs.List.{AllByRecursion, list_all}
 use Rattle.std.specs.Option.{option_map, option_map_or, option_and_then}
+use Rattle.text_words.proofs.KnownOptions.{one_of}
 use Rattle.pide_base.specs.declared.part.Part.{Part}
 use Rattle.pide_base.specs.declared.part.PartKind.{PartKind}
 use Rattle.pide_base.specs.declared.part.PartKind.TheVariants as kind
@@ -67,16 +68,13 @@ module _ {S : Type 0} (l : Lang S) where
         → (w : Setting S) × (setting l d.homes f ≡ Some w) × (state_of (t.rows f) ≡ Some (state_behind l w))
     finished_state e f source done =
         let known : IsKnown l d.homes f = k.known f (live f source.assigned) in
-        let home_is : known.home ≡ source.home = same_home (numbered d.homes f) known.home source.home known.homed source.homed in (
+        let home_is : known.home ≡ source.home = one_of (numbered d.homes f) known.home source.home known.homed source.homed in (
           known.works_on,
           known.setting_is,
           ap state_of (k.rows f ∙ row_known l h d f known (live f source.assigned))
               ∙ left_by f known.works_on (made_of l known.works_on).forks known.home.input (completed_in h f)
               (ap (λ (x : Home). is_evaluation x.input) home_is ∙ source.evaluates) done,
         )
-      where
-        same_home : (o : Option Home) (x y : Home) → o ≡ Some x → o ≡ Some y → x ≡ y
-        same_home o x y a b = cc
 
     -- what is needed for the job of a part
     pub record JobFound (p : Part) : Type 0 where

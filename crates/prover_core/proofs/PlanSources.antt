@@ -5,6 +5,7 @@ use Rattle.std.specs.Prelude.{is_some}
 use Rattle.std.specs.Option.{option_map, option_and_then}
 use Rattle.text_words.specs.Members.{has}
 use Rattle.text_words.proofs.KnownMembers.{each_has}
+use Rattle.text_words.proofs.KnownOptions.{one_of}
 use Rattle.pide_base.specs.declared.part.PartKind.TheVariants as kind
 use Rattle.doc_nodes.specs.Imports.{NodeList}
 use Rattle.core_tables.specs.declared.execution.Execution.{Execution}
@@ -47,15 +48,12 @@ module _ {S : Type 0} {l : Lang S} {h : List Event} {t : Tables S} {id : ℕ} {n
       ∙ ap (λ p. told (option_map (execution_by l (has (d u).cancelled f) f (completed_in h f) x) p)) set
       ∙ evaluated_by (brought l f y) (made_of l y).forks x.input (completed_in h f) evaluates
 
-  one_home : (o : Option Home) (x y : Home) → o ≡ Some x → o ≡ Some y → x ≡ y
-  one_home o x y p q = cc
-
   old_told : (f : ℕ) (x : Home) → f ≤ length (d u).homes → assigns (d u).tip f ≡ true → numbered (now u).homes f ≡ Some x → is_evaluation x.input ≡ true
       → is_evaluated rows f ≡ is_finished h (evaluation f)
   old_told f x le is homed evaluates =
       let live = u.tip_live f is in
       let known : IsKnown l (d u).homes f = u.kept.known f live in
-      let same : known.home ≡ x = one_home (numbered (d u).homes f) known.home x known.homed
+      let same : known.home ≡ x = one_of (numbered (d u).homes f) known.home x known.homed
       (sym (number_grown (d u).homes (assignment_of (d u) nodes blobs).homes f le) ∙ homed) in
       ap told (are f ∙ u.kept.rows f)
       ∙ ap (λ b. told (cond b (row_by l (has (d u).cancelled f) f (completed_in h f) (numbered (d u).homes f) (setting l (d u).homes f)) None)) live
@@ -72,7 +70,7 @@ module _ {S : Type 0} {l : Lang S} {h : List Event} {t : Tables S} {id : ℕ} {n
   sources_told e x past at f is =
       let le = numbered_within (now u).homes e x at in
       let home : HasHome l (now u) (new u) e = u.laws.homes e (u.laws.given e past le) in
-      let same : home.home ≡ x = one_home (numbered (now u).homes e) home.home x home.homed at in
+      let same : home.home ≡ x = one_of (numbered (now u).homes e) home.home x home.homed at in
       let source : IsSource (now u) (new u) e f =
       each_has (IsSource (now u) (new u) e) (sources_of home.home.input) f home.sources
       (ap (λ (y : Home). has (sources_of y.input) f) same ∙ is) in

@@ -1,1 +1,2 @@
 mod Totals
+pub mod KnownLost

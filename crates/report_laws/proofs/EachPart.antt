@@ -1,6 +1,6 @@
 -- What holds of each element holds of each of a part, and of the one that is found.
 use Rattle.std.proofs.Common.{ℕ, zero, suc, Bool, true, false, cond, List, [], ◌∷◌, take, drop}
-use Rattle.std.proofs.Common.{find, filter, Some, IfSome}
+use Rattle.std.proofs.Common.{find, Some, IfSome}
 use Rattle.std.specs.List.{AllByRecursion}
 
 module _ {X : Type 0} (P : X → Type 0) where
@@ -13,16 +13,6 @@ module _ {X : Type 0} (P : X → Type 0) where
   each_behind zero xs all = all
   each_behind (suc n) [] all = tt
   each_behind (suc n) (x ∷ xs) all = each_behind n xs all.1
-
-  pub each_passing : (test : X → Bool) (xs : List X) → AllByRecursion P xs
-      → AllByRecursion P (filter test xs)
-  each_passing test [] all = tt
-  each_passing test (x ∷ xs) all = go (test x) (each_passing test xs all.1)
-    where
-      go : (b : Bool) → AllByRecursion P (filter test xs)
-          → AllByRecursion P (cond b (x ∷ filter test xs) (filter test xs))
-      go true more = (all.0, more)
-      go false more = more
 
   pub each_found : (test : X → Bool) (xs : List X) → AllByRecursion P xs → IfSome (find test xs) P
   each_found test [] all = tt

@@ -14,23 +14,20 @@ use Rattle.nj_syntax.specs.Answer.{formula_of}
 use Rattle.nj_syntax.specs.Answers.{Answers, IsFormula, SaysWhole}
 use Rattle.nj_syntax.specs.Grammar.{word}
 use Rattle.nj_syntax.proofs.KnownAnswers.{formula_answers, formula_tells}
-use Rattle.nj_print.specs.Prints.{Prints, quantifier}
+use Rattle.nj_print.specs.Prints.{quantifier}
 use Rattle.nj_print.specs.Readable.{IsReadable, IsReadAgain}
 use Rattle.nj_print.proofs.KnownPrints.{some_print, some_primed}
 use Rattle.nj_print.proofs.KnownReadable.{print_read_again}
 use Rattle.nj_print.proofs.KnownParts.{and_readable, implies_readable, not_readable, false_readable}
 use Rattle.nj_print.specs.Printed.{primed, formula_text}
 use Rattle.nj_print.proofs.KnownPrimed.{primed_is}
-use Rattle.nj_print.proofs.KnownTexts.{text_is}
+use Rattle.nj_print.proofs.KnownTexts.{text_is, printed}
 use Rattle.proof_state.specs.declared.subgoal.Subgoal.{Subgoal}
 use Rattle.proof_state.specs.declared.subgoal.Subgoal.TheVariants.{Show, AssumeShow, FixShow}
 use Rattle.proof_state.specs.Subgoals.{introduced}
 use Rattle.isar_rules.specs.Described.{fix_text, subgoal_text}
 use Rattle.report_laws.proofs.PlainTexts.{Plain, joined, after, parted}
 use Rattle.report_laws.proofs.PlainTokens.{tokens_plain}
-
-printed : (a : Formula) → Prints 10 [] a (formula_text a)
-printed a = let some = some_print [] a in subst (Prints 10 [] a) (text_is some.1) some.1
 
 -- the print of a readable formula is read again, so it is tokens to its end
 pub formula_plain : (a : Formula) → IsReadable a → Plain (formula_text a)

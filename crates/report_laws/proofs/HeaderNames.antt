@@ -3,7 +3,7 @@ use Rattle.std.proofs.Common.{◌≡◌, ◌↔◌, ℕ, zero, suc, Bool, List, 
 use Rattle.std.proofs.Common.{codes, Some, sym, refl, ap, subst, ◌∙◌}
 use Rattle.std.specs.List.{AllByRecursion}
 use Rattle.text_words.specs.Identifier.{IsIdentifier}
-use Rattle.text_words.proofs.KnownLists.{each-part}
+use Rattle.text_words.proofs.KnownLists.{each-part, each-passing}
 use Rattle.outer_tokens.specs.Headings.{Word, Heading, words, words_of, import_words, pair_words}
 use Rattle.outer_tokens.specs.Headings.{flat_pairs, proper}
 use Rattle.outer_tokens.specs.Lexing.{tokens_under}
@@ -18,7 +18,6 @@ use Rattle.doc_headers.specs.Headers.{HasHeader, pair_of}
 use Rattle.doc_headers.specs.Reading.{header_in}
 use Rattle.doc_headers.specs.declared.parts.Header.{Header}
 use Rattle.report_laws.specs.Headed.{IsNamed, AreNamed}
-use Rattle.report_laws.proofs.EachPart.{each_passing}
 
 base : List ℕ → Bool
 base = is_in_force []
@@ -55,7 +54,7 @@ base_tokens text = proper (tokens_under (λ _. is_in_force []) text)
 base_named : (text : List ℕ) → AllByRecursion (TokenNamed text) (base_tokens text)
 unfolding base
 base_named text =
-    each_passing (TokenNamed text) _ _
+    each-passing (TokenNamed text) _ _
     (between_named text 0 (length text) _ (all-tokens (λ _. is_in_force []) text))
 
 front_named : (text : List ℕ) (n : ℕ) (ts : List Token) → AllByRecursion (TokenNamed text) ts

@@ -2,7 +2,7 @@
 use Rattle.std.proofs.Common.{ℕ, List, [], ◌∷◌, Option, Some, None, IfSome}
 use Rattle.std.specs.Prelude.{⊤, fold}
 use Rattle.std.specs.List.{AllByRecursion}
-use Rattle.text_words.proofs.KnownLists.{each-both}
+use Rattle.text_words.proofs.KnownLists.{each-both, each-passing}
 use Rattle.shared_map.specs.Changes.{united}
 use Rattle.shared_map.specs.Cuts.{before, behind, at_key}
 use Rattle.theory_ctx.specs.declared.local.Local.{Local}
@@ -12,7 +12,7 @@ use Rattle.theory_ctx.specs.Locals.{Scoped, local_of, local_first, looked_in}
 use Rattle.theory_ctx.specs.Looked.{among, first_of, looked_by, name_parts, looked}
 use Rattle.theory_ctx.specs.Merged.{extended_facts, merged_facts}
 use Rattle.theory_ctx.specs.Order.{by_name}
-use Rattle.report_laws.proofs.EachPart.{each_passing, each_found}
+use Rattle.report_laws.proofs.EachPart.{each_found}
 use Rattle.report_laws.proofs.PlainTexts.{Plain}
 
 abbrev pub FactPlain : Fact → Type 0
@@ -26,7 +26,7 @@ pub added_plain : (fact : Fact) (facts : List Fact) → FactPlain fact → Facts
 added_plain fact facts this all =
     each-both FactPlain (before (at_key by_name fact.0) facts)
     (fact ∷ behind (at_key by_name fact.0) facts)
-    (each_passing FactPlain _ facts all) (this, each_passing FactPlain _ facts all)
+    (each-passing FactPlain _ facts all) (this, each-passing FactPlain _ facts all)
 
 united_plain : (one other : List Fact) → FactsPlain one → FactsPlain other
     → FactsPlain (united by_name one other)
@@ -34,10 +34,10 @@ united_plain [] other all more = more
 united_plain (fact ∷ one) other all more =
     each-both FactPlain (before (at_key by_name fact.0) other)
     (fact ∷ united by_name one (behind (at_key by_name fact.0) other))
-    (each_passing FactPlain _ other more) (
+    (each-passing FactPlain _ other more) (
       all.0,
       united_plain one (behind (at_key by_name fact.0) other) all.1
-          (each_passing FactPlain _ other more),
+          (each-passing FactPlain _ other more),
     )
 
 fold_plain : (parts : List (List Fact)) (all : List Fact) → FactsPlain all
@@ -80,7 +80,7 @@ looked_plain facts own [] all = tt
 looked_plain facts own (n ∷ []) all =
     first_plain (fact_of own n facts) (facts_elsewhere own n facts)
     (each_found FactPlain (is_called own n) facts all)
-    (each_passing FactPlain (is_import own n) facts all)
+    (each-passing FactPlain (is_import own n) facts all)
 looked_plain facts own (t ∷ n ∷ []) all =
     first_plain (fact_of t n facts) [] (each_found FactPlain (is_called t n) facts all) tt
 looked_plain facts own (t ∷ n ∷ m ∷ more) all = tt

@@ -1,6 +1,7 @@
 -- The text of a suggested proof is plain.
 use Rattle.std.proofs.Common.{◌≡◌, ℕ, zero, suc, List, [], ◌∷◌, ◌+◌, codes, Option, Some, None}
 use Rattle.std.proofs.Common.{IfSome, refl}
+use Rattle.text_words.proofs.KnownLists.{each-passing}
 use Rattle.nj_formula.specs.declared.formula.Formula.{Formula, out-Formula}
 use Rattle.nj_formula.specs.declared.formula.Formula.TheOpen.{Formula-F}
 use Rattle.nj_formula.specs.declared.formula.Formula.TheVariants as F
@@ -12,7 +13,7 @@ use Rattle.suggest_rules.specs.Names.{unhidden, citable, next_name, assuming}
 use Rattle.suggest_rules.specs.Search as S
 use Rattle.suggest_rules.specs.Search.{if_so, citing, first_of, found_by, found_within, suggested}
 use Rattle.suggest_rules.specs.TermText.{by_text}
-use Rattle.report_laws.proofs.EachPart.{each_front, each_passing}
+use Rattle.report_laws.proofs.EachPart.{each_front}
 use Rattle.report_laws.proofs.PlainTexts.{Plain, joined, after, decimal_plain, primes_plain}
 use Rattle.nj_print.proofs.KnownParts.{and_readable, or_readable, implies_readable}
 use Rattle.nj_print.proofs.KnownParts.{not_readable, false_readable}
@@ -110,7 +111,7 @@ module _ (aliases : List (List ℕ)) where
 each_unhidden : (locals : List Local) → LocalsSaid locals → LocalsSaid (unhidden locals)
 each_unhidden [] all = tt
 each_unhidden (local ∷ locals) all =
-    (all.0, each_passing LocalSaid _ (unhidden locals) (each_unhidden locals all.1))
+    (all.0, each-passing LocalSaid _ (unhidden locals) (each_unhidden locals all.1))
 
 by_plain : (o : Option Term) → Goes o → IfSome o (λ t. Plain (by_text t))
 by_plain None is = tt

@@ -4,6 +4,7 @@ use Rattle.std.proofs.Common.{refl, subst, arith}
 use Rattle.std.specs.Prelude.{⊤}
 use Rattle.std.specs.List.{AllByRecursion}
 use Rattle.text_words.specs.Identifier.{IsIdentifier}
+use Rattle.text_words.proofs.KnownLists.{each-passing}
 use Rattle.outer_tokens.specs.Forms.{dotted}
 use Rattle.outer_tokens.specs.Headings.{proper}
 use Rattle.outer_tokens.specs.Lexing.{tokens_under}
@@ -18,7 +19,6 @@ use Rattle.outer_tokens.specs.declared.row.Row.TheVariants.{Space, Enclosed, Err
 use Rattle.outer_tokens.specs.declared.row.Row.TheVariants.{LongIdent, Word, Sym}
 use Rattle.outer_tokens.specs.declared.token.Token.{Token}
 use Rattle.outer_tokens.proofs.KnownLexing.{all-tokens}
-use Rattle.report_laws.proofs.EachPart.{each_passing}
 use Rattle.report_laws.proofs.PlainTexts.{Plain, spelled, joined, with_first, identifier_plain}
 
 -- a name, long or not, or a command
@@ -72,5 +72,5 @@ between_plain names text from to (t ∷ ts) are =
 pub tokens_plain : (names : List ℕ → Bool) (text : List ℕ)
     → AllByRecursion (TokenPlain text) (proper (tokens_under (λ _. names) text))
 tokens_plain names text =
-    each_passing (TokenPlain text) _ _
+    each-passing (TokenPlain text) _ _
     (between_plain names text 0 (length text) _ (all-tokens (λ _. names) text))

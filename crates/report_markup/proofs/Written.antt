@@ -1,5 +1,5 @@
 -- What is written of a report is its element's YXML, and the element is a normal body.
-use Rattle.std.proofs.Common.{◌≡◌, ℕ, ◌+◌, List, [], ◌∷◌, ◌++◌, map, refl, sym, subst, ap, ◌∙◌, append_assoc, arith, codes, decimal, Result, Ok, Err, OnOk}
+use Rattle.std.proofs.Common.{◌≡◌, ℕ, ◌+◌, List, [], ◌∷◌, ◌++◌, map, refl, sym, subst, ap, ◌∙◌, append_assoc, arith, codes, decimal}
 use Rattle.std.specs.List.{flat_map, AllByRecursion}
 use Rattle.std.proofs.lemmas.List.{append-nil}
 use Rattle.xml_tree.specs.declared.tree.Tree.TheVariants.{Text, rolls-Elem, rolls-Text}
@@ -92,7 +92,3 @@ normal r plain fit =
       apart = subst Q (sym (element-marks r)) (tt, apart r.text);
       nested = omega (arith, element-height r);
     }
-
-pub on_ok : {T E P : Type 0} (r : Result T E) → P → OnOk r P
-on_ok (Ok x) p = p
-on_ok (Err e) p = tt

@@ -1,12 +1,13 @@
 -- Where nothing that a version assigns is cancelled and the version is settled, all its parts are finished.
 use Rattle.std.proofs.Common.{◌≡◌, ℕ, suc, Bool, true, false, cond, not, List, [], ◌∷◌, length, map, Option, Some, None, refl, sym, ap, subst, ◌∙◌}
-use Rattle.std.proofs.lemmas.Bool.{eqb-true, and_parts}
+use Rattle.std.proofs.lemmas.Bool.{eqb-true}
 use Rattle.std.proofs.Math.Bool.{and-false}
 use Rattle.std.specs.Prelude.{◌==◌, ◌&&◌, ◌||◌}
 use Rattle.std.specs.Option.{option_map_or}
 use Rattle.std.specs.List.{list_all, list_any, AllByRecursion}
 use Rattle.text_words.specs.Members.{has}
-use Rattle.text_words.proofs.KnownMembers.{each_has}
+use Rattle.text_words.proofs.KnownOptions.{one_of}
+use Rattle.text_words.proofs.KnownMembers.{has_passed}
 use Rattle.pide_base.specs.declared.part.PartKind.{PartKind}
 use Rattle.pide_base.specs.declared.part.PartKind.TheVariants as kind
 use Rattle.exec_rules.specs.declared.home.Home.{Home}
@@ -23,14 +24,6 @@ use Rattle.core_rules.specs.Stuck.{is_marked, is_over, is_settled, is_stuck, stu
 use Rattle.core_rules.proofs.KnownMarks.{length_marks}
 use Rattle.core_rules.proofs.KnownNumbers.{numbered_newest, numbered_on}
 
--- what all of a list pass, each that it has passes
-passes : (test : ℕ → Bool) (xs : List ℕ) (e : ℕ) → list_all test xs ≡ true → has xs e ≡ true → test e ≡ true
-passes test xs e all is = each_has (λ x. test x ≡ true) xs e (each xs all) is
-  where
-    each : (ys : List ℕ) → list_all test ys ≡ true → AllByRecursion (λ x. test x ≡ true) ys
-    each [] all = tt
-    each (y ∷ ys) all = let parts = and_parts (test y) (list_all test ys) all in (parts.0, each ys parts.1)
-
 -- none of those that all fail passes
 none_of : (test : ℕ → Bool) (xs : List ℕ) → AllByRecursion (λ x. test x ≡ false) xs → list_any test xs ≡ false
 none_of test [] all = refl
@@ -46,32 +39,29 @@ module _ (h : List Event) (v : Version) (cancelled : List ℕ) (kept : (e : ℕ)
   RestInside homes = (e : ℕ) (home : Home) → assigns v e ≡ true → numbered homes e ≡ Some home
       → AllByRecursion (λ f. assigns v f ≡ true) (sources_of home.input)
 
-  abbrev marks : List Home → List Bool
-  marks homes = stuck_marks h cancelled homes
-
   -- one execution more
   module _ (home : Home) (homes : List Home) (inside : RestInside (home ∷ homes))
-      (before : (f : ℕ) → assigns v f ≡ true → is_marked (marks homes) f ≡ false) where
+      (before : (f : ℕ) → assigns v f ≡ true → is_marked (stuck_marks h cancelled homes) f ≡ false) where
     abbrev number : ℕ
-    number = suc (length (marks homes))
+    number = suc (length (stuck_marks h cancelled homes))
 
     abbrev newest : Bool
-    newest = not (is_finished h (evaluation number)) && (has cancelled number || list_any (is_marked (marks homes)) (sources_of home.input))
+    newest = not (is_finished h (evaluation number)) && (has cancelled number || list_any (is_marked (stuck_marks h cancelled homes)) (sources_of home.input))
 
     fine : (e : ℕ) → assigns v e ≡ true → e ≡ number → newest ≡ false
     fine e is same =
         let long : number ≡ suc (length homes) = ap suc (length_marks h cancelled homes) in
         let at : numbered (home ∷ homes) e ≡ Some home = ap (numbered (home ∷ homes)) (same ∙ long) ∙ numbered_newest homes home in
-        let below = none_of (is_marked (marks homes)) (sources_of home.input)
-        (mapped (λ f. assigns v f ≡ true) (λ f. is_marked (marks homes) f ≡ false) (sources_of home.input) before (inside e home is at)) in
+        let below = none_of (is_marked (stuck_marks h cancelled homes)) (sources_of home.input)
+        (mapped (λ f. assigns v f ≡ true) (λ f. is_marked (stuck_marks h cancelled homes) f ≡ false) (sources_of home.input) before (inside e home is at)) in
         let out : has cancelled number ≡ false = ap (has cancelled) (sym same) ∙ kept e is in
-        ap (λ b. not (is_finished h (evaluation number)) && (b || list_any (is_marked (marks homes)) (sources_of home.input))) out
+        ap (λ b. not (is_finished h (evaluation number)) && (b || list_any (is_marked (stuck_marks h cancelled homes)) (sources_of home.input))) out
         ∙ ap (λ b. not (is_finished h (evaluation number)) && b) below ∙ and-false (not (is_finished h (evaluation number)))
 
-    newest_unmarked : (e : ℕ) → assigns v e ≡ true → is_marked (marks (home ∷ homes)) e ≡ false
+    newest_unmarked : (e : ℕ) → assigns v e ≡ true → is_marked (stuck_marks h cancelled (home ∷ homes)) e ≡ false
     newest_unmarked e is = go (e == number) refl
       where
-        go : (b : Bool) → (e == number) ≡ b → option_map_or (λ x. x) (cond b (Some newest) (numbered (marks homes) e)) false ≡ false
+        go : (b : Bool) → (e == number) ≡ b → option_map_or (λ x. x) (cond b (Some newest) (numbered (stuck_marks h cancelled homes) e)) false ≡ false
         go true eq = fine e is (eqb-true e number eq)
         go false eq = before e is
 
@@ -85,13 +75,10 @@ module _ (h : List Event) (v : Version) (cancelled : List ℕ) (kept : (e : ℕ)
 module _ {S : Type 0} (l : Lang S) (h : List Event) (d : Doc) (v : Version)
     (homed : (e : ℕ) → assigns v e ≡ true → HasHome l d v e)
     (kept : (e : ℕ) → assigns v e ≡ true → has d.cancelled e ≡ false) where
-  one_home : (o : Option Home) (a b : Home) → o ≡ Some a → o ≡ Some b → a ≡ b
-  one_home o a b p q = cc
-
   inside : RestInside h v d.cancelled kept d.homes
   inside e home is at =
       let own = homed e is in
-      subst (λ (x : Home). AllByRecursion (λ f. assigns v f ≡ true) (sources_of x.input)) (one_home (numbered d.homes e) own.home home own.homed at)
+      subst (λ (x : Home). AllByRecursion (λ f. assigns v f ≡ true) (sources_of x.input)) (one_of (numbered d.homes e) own.home home own.homed at)
       (mapped (IsSource d v e) (λ f. assigns v f ≡ true) (sources_of own.home.input) (λ f source. source.assigned) own.sources)
 
   clear : (e : ℕ) → assigns v e ≡ true → is_marked (stuck_marks h d.cancelled d.homes) e ≡ false
@@ -138,7 +125,7 @@ module _ {S : Type 0} (l : Lang S) (h : List Event) (d : Doc) (v : Version)
       go false false free over then = absurd (cc)
 
   pub closed : is_settled l h d v ≡ true → (e : ℕ) → assigns v e ≡ true → is_open l h d.homes e ≡ false
-  closed settled e is = go (numbered d.homes e) (passes (is_over l h d) (executions_of v) e settled is)
+  closed settled e is = go (numbered d.homes e) (has_passed (is_over l h d) (executions_of v) e settled is)
     where
       go : (o : Option Home) → list_all (λ p. is_finished h p || is_stuck h d p) (option_map_or
           (λ x. map (λ k. record { exec = e; kind = k }) (kinds_by x.input (forks l d.homes e))) o []) ≡ true

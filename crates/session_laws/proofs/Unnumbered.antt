@@ -3,6 +3,7 @@ use Rattle.std.proofs.Common.{◌≡◌, ◌+◌, ℕ, zero, suc, Bool, false, n
 use Rattle.std.specs.List.{cons_option, flat_map, filter_map, position_or_len, range_with_len}
 use Rattle.std.specs.Option.{option_and_then, option_map_or}
 use Rattle.text_words.specs.Members.{has}
+use Rattle.text_words.proofs.KnownLists.{map_alike}
 use Rattle.import_rounds.specs.Rounds.{in_rounds, is_known}
 use Rattle.import_rounds.specs.Looks.{aims_at}
 use Rattle.doc_nodes.specs.declared.inherited.NodeAliases.{NodeAliases}
@@ -44,14 +45,10 @@ same_first name (pair ∷ nodes) = ap (λ n. cond (not (equal pair.0 name)) (1 +
 pub same_place : (nodes : NodeList) (name : List ℕ) → place_of (plain nodes) name ≡ place_of nodes name
 same_place nodes name = ap₂ (λ k n. cond (nat_lt k n) (Some k) None) (same_first name nodes) (same_length nodes)
 
-map_same : {A B : Type 0} (f g : A → B) → ((x : A) → f x ≡ g x) → (xs : List A) → map f xs ≡ map g xs
-map_same f g same [] = refl
-map_same f g same (x ∷ xs) = ap₂ (λ y ys. y ∷ ys) (same x) (map_same f g same xs)
-
 module _ (all : NodeList) where
   same_rows : (nodes : NodeList) → map (λ (pair : List ℕ × Node). map (place_of (plain all)) pair.1.imports) (plain nodes) ≡ map (λ (pair : List ℕ × Node). map (place_of all) pair.1.imports) nodes
   same_rows [] = refl
-  same_rows (pair ∷ nodes) = ap₂ (λ y ys. y ∷ ys) (map_same (place_of (plain all)) (place_of all) (same_place all) pair.1.imports) (same_rows nodes)
+  same_rows (pair ∷ nodes) = ap₂ (λ y ys. y ∷ ys) (map_alike (place_of (plain all)) (place_of all) (same_place all) pair.1.imports) (same_rows nodes)
 
   same_aims : aims (plain all) ≡ aims all
   same_aims = same_rows all

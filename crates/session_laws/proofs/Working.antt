@@ -41,55 +41,55 @@ pub record CoreLaws {S : Type 0} (l : Lang S) : Type 0 where
 
 module _ {S : Type 0} (l : Lang S) (laws : CoreLaws l) (law : AskedLaw) (service : Service) (none : free_workers service ≡ 0)
     (m : List (List ℕ)) (version : Version) where
-  abbrev of : List Entry → List Heard
-  of es = all_heard service es
-
   abbrev past : List Entry → List Event
-  past es = (session l service (of es)).events
+  past es = (session l service (all_heard service es)).events
 
   -- a message waits for the version
   pub record Waits (es : List Entry) : Type 0 where
-    pub legal : IsLegal l service (of es)
-    pub alone : IsAlone l service (Some version) (of es)
-    pub rest : due l service (of es) ≡ Nothing
+    pub legal : IsLegal l service (all_heard service es)
+    pub alone : IsAlone l service (Some version) (all_heard service es)
+    pub rest : due l service (all_heard service es) ≡ Nothing
     pub going : has_ended (past es) ≡ false
-    pub waits_for : awaited l service (of es) (asked (mode_of service) m) ≡ Some version
+    pub waits_for : awaited l service (all_heard service es) (asked (mode_of service) m) ≡ Some version
 
   abbrev with_part : Part → List Entry → List Entry
   with_part p es = entry.Finished 0 p ∷ entry.Claimed 0 p ∷ es
 
   -- one part more is worked on
-  one_more : (es : List Entry) (p : Part) → Waits es → is_settled_in l (session l service (of es)) version ≡ false
+  one_more : (es : List Entry) (p : Part) → Waits es → is_settled_in l (session l service (all_heard service es)) version ≡ false
       → first_ready l (past es) ≡ Some p → Waits (with_part p es)
   one_more es p w unsettled ready =
       let first = laws.given (past es) p ready in
       let turn : 0 ≤ free_workers service = omega arith in
       record {
         legal = (
-          (w.legal, ((w.going, reader_idle l service (Some version) (of es) w.alone, first), inr (w.rest, turn))),
+          (w.legal, ((w.going, reader_idle l service (Some version) (all_heard service es) w.alone, first), inr (w.rest, turn))),
           ((refl, ready_wanted l (past es) p first), inr (refl, turn)),
         );
         alone = (refl, unsettled, w.alone);
         rest = refl;
         going = w.going;
-        waits_for = awaited_stays l service (of es) p (asked (mode_of service) m) ∙ w.waits_for;
+        waits_for = awaited_stays l service (all_heard service es) p (asked (mode_of service) m) ∙ w.waits_for;
       }
 
   -- until the version is settled
   pub record Ready (first : List Entry) : Type 0 where
     pub es : List Entry
     pub waits : Waits es
-    pub settled : is_settled_in l (session l service (of es)) version ≡ true
+    pub settled : is_settled_in l (session l service (all_heard service es)) version ≡ true
     pub calls_are : called es ≡ called first
 
   module _ (first : List Entry) where
-    part_ready : (es : List Entry) → Waits es → is_settled_in l (session l service (of es)) version ≡ false → first_ready l (past es) ≢ None
+    part_ready : (es : List Entry) → Waits es → is_settled_in l (session l service (all_heard service es)) version ≡ false
+        → first_ready l (past es) ≢ None
     part_ready es w unsettled = some_ready l service law none es w.legal version
-        (awaits l service (session l service (of es)) version (asked (mode_of service) m) w.waits_for) (Some version) w.alone
-        (λ k one. laws.rests (past es) k one (laws.events service (of es) w.legal)) unsettled
+        (awaits l service (session l service (all_heard service es)) version (asked (mode_of service) m) w.waits_for) (Some version) w.alone
+        (λ k one. laws.rests (past es) k one (laws.events service (all_heard service es) w.legal)) unsettled
 
-    decide : (es : List Entry) → Waits es → called es ≡ called first → (b : Bool) → is_settled_in l (session l service (of es)) version ≡ b
-        → ((p : Part) → first_ready l (past es) ≡ Some p → is_settled_in l (session l service (of es)) version ≡ false → Ready first) → Ready first
+    decide : (es : List Entry) → Waits es → called es ≡ called first
+        → (b : Bool) → is_settled_in l (session l service (all_heard service es)) version ≡ b
+        → ((p : Part) → first_ready l (past es) ≡ Some p
+        → is_settled_in l (session l service (all_heard service es)) version ≡ false → Ready first) → Ready first
     decide es w calls true e next = record { es = es; waits = w; settled = e; calls_are = calls }
     decide es w calls false e next = go (first_ready l (past es)) refl
       where
@@ -99,8 +99,10 @@ module _ {S : Type 0} (l : Lang S) (laws : CoreLaws l) (law : AskedLaw) (service
 
     pub work_on : (fuel n : ℕ) (es : List Entry) → Waits es → IsWorkOn l (past first) (past es) n → made l (past first) ≤ fuel + n
         → called es ≡ called first → Ready first
-    work_on zero n es w so enough calls = decide es w calls (is_settled_in l (session l service (of es)) version) refl
+    work_on zero n es w so enough calls = decide es w calls
+        (is_settled_in l (session l service (all_heard service es)) version) refl
         (λ p at e. let few = fewer_steps l (past first) (laws.ends (past first)) n (past es) so (part_ready es w e) in absurd (omega (arith, few, enough)))
-    work_on (suc fuel) n es w so enough calls = decide es w calls (is_settled_in l (session l service (of es)) version) refl
+    work_on (suc fuel) n es w so enough calls = decide es w calls
+        (is_settled_in l (session l service (all_heard service es)) version) refl
         (λ p at e. work_on fuel (suc n) (with_part p es) (one_more es p w e at) (work_next l (past first) n (past es) (past (with_part p es)) p so at refl)
         (omega (arith, enough)) calls)

@@ -1,9 +1,9 @@
 -- In each live version texts are short, and commands stand in them one behind the other.
-use Rattle.std.proofs.Common.{◌≡◌, ℕ, zero, suc, ◌≤◌, Bool, true, false, cond, List, [], ◌∷◌, length, filter, find, Option, Some, None, refl, subst}
+use Rattle.std.proofs.Common.{◌≡◌, ℕ, zero, suc, ◌≤◌, Bool, true, false, cond, List, [], ◌∷◌, length, find, Option, Some, None, refl, subst}
 use Rattle.std.specs.Prelude.{◌==◌, slice_get}
 use Rattle.std.specs.Option.{option_map, option_and_then}
 use Rattle.std.specs.List.{AllByRecursion}
-use Rattle.text_words.proofs.KnownLists.{each-both, each-so}
+use Rattle.text_words.proofs.KnownLists.{each-both, each-so, each-passing}
 use Rattle.pide_base.specs.Limits.{most_scalars}
 use Rattle.doc_nodes.specs.declared.node.Node.{Node}
 use Rattle.doc_nodes.specs.Imports.{NodeList, place_of}
@@ -29,14 +29,6 @@ AreLaid nodes = AllByRecursion (λ pair. IsLaid pair.1) nodes
 abbrev AllLaid : List (Live Version) → Type 0
 AllLaid live = AllByRecursion (λ one. AreLaid one.version.nodes) live
 
-pub each_kept : {X : Type 0} (P : X → Type 0) (p : X → Bool) (xs : List X) → AllByRecursion P xs → AllByRecursion P (filter p xs)
-each_kept P p [] all = tt
-each_kept P p (x ∷ xs) all = go (p x) (each_kept P p xs all.1)
-  where
-    go : (b : Bool) → AllByRecursion P (filter p xs) → AllByRecursion P (cond b (x ∷ filter p xs) (filter p xs))
-    go true rest = (all.0, rest)
-    go false rest = rest
-
 laid_of : (d : Doc) (pair : List ℕ × Node) → FitsNode d pair → IsLaid pair.1
 laid_of d pair fits = record { short = fits.text; rising = fits.commands }
 
@@ -47,7 +39,7 @@ module _ {S : Type 0} (l : Lang S) where
       each-both (λ one. AreLaid one.version.nodes) (doc l h).live _ (all_laid h legal.0)
       (each-so (FitsNode (doc l h)) (λ pair. IsLaid pair.1) (laid_of (doc l h)) nodes legal.1.1.nodes_fit, tt)
   all_laid (event.Cancel e ∷ h) legal = all_laid h legal.0
-  all_laid (event.Remove ids ∷ h) legal = each_kept (λ one. AreLaid one.version.nodes) _ (doc l h).live (all_laid h legal.0)
+  all_laid (event.Remove ids ∷ h) legal = each-passing (λ one. AreLaid one.version.nodes) _ (doc l h).live (all_laid h legal.0)
   all_laid (event.Claimed who p ∷ h) legal = all_laid h legal.0
   all_laid (event.Finished who p ∷ h) legal = all_laid h legal.0
   all_laid (event.Dropped who p ∷ h) legal = all_laid h legal.0

@@ -4,6 +4,7 @@ use Rattle.std.specs.Prelude.{slice_get, flat_map, is_some}
 use Rattle.std.specs.Option.{option_map_or}
 use Rattle.std.specs.List.{AllByRecursion}
 use Rattle.text_words.specs.Members.{has}
+use Rattle.text_words.proofs.KnownLists.{each-passing}
 use Rattle.text_edits.specs.declared.edit.Edit.{Edit}
 use Rattle.report_markup.specs.declared.report.Report.{Report}
 use Rattle.report_markup.specs.Ranges.{moved}
@@ -31,7 +32,7 @@ use Rattle.session_rules.specs.Shown.{placed_reports, finished_reports}
 use Rattle.session_replies.specs.Edited.{PlacesFit}
 use Rattle.session_replies.specs.Marked.{reported, shown_of, AreMovable}
 use Rattle.session_replies.proofs.RisingNumbers.{range_filtered}
-use Rattle.session_replies.proofs.LiveTexts.{each_kept, found_at, live_laid}
+use Rattle.session_replies.proofs.LiveTexts.{found_at, live_laid}
 use Rattle.session_replies.proofs.MovableParts.{shown_moves}
 
 -- unfinished parts show nothing
@@ -83,5 +84,5 @@ module _ {S : Type 0} (l : Lang S) (h : List Event) (id : ℕ) (name : List ℕ)
     told_moves tidy edits node at fit =
         let laid = live_laid l h id found.version name node legal found.live at in
         subst (AreMovable edits) (sym told_is)
-        (each_kept (λ p. AllByRecursion (Movable edits p.span.start) (reported p)) is_reported (scratch_shown l h found.version name)
+        (each-passing (λ p. AllByRecursion (Movable edits p.span.start) (reported p)) is_reported (scratch_shown l h found.version name)
         (shown_moves l tidy h found.version name node at laid edits fit))

@@ -1,3 +1,4 @@
+pub mod KnownLegal
 mod Logs
 mod Turned
 mod Pieces

@@ -1,7 +1,8 @@
 -- A session's items, the oldest first, after calls of the session's.
-use Rattle.std.proofs.Common.{◌≡◌, ℕ, List, [], ◌∷◌, ◌++◌, reverse, inl, inr, refl, sym, ap, subst, ◌∙◌}
+use Rattle.std.proofs.Common.{◌≡◌, List, [], ◌∷◌, ◌++◌, reverse, inl, inr, refl, sym, ap, subst, ◌∙◌}
 use Rattle.std.proofs.lemmas.List.{reverse-reverse}
 use mathlib.Core.List.{reverse-cons}
+use Rattle.session_turns.proofs.KnownLegal.{LegalLaw, WorkersLaw}
 use Rattle.language.specs.Lang.{Lang}
 use Rattle.hist_lock.specs.Entries.{Grows}
 use Rattle.session_rules.specs.declared.service.Service.{Service}
@@ -47,21 +48,14 @@ module _ {S : Type 0} (l : Lang S) where
       → session_after l log ≡ session_in l service items
   session_is service items log e same = ap (λ (xs : List SessionItem). session_after l xs) (sym e) ∙ same_session service items same
 
-  -- a legal list tells how many workers there are
-  abbrev pub WorkersLaw : Type 0
-  WorkersLaw = (count : ℕ) (items : List SessionItem) → AreLegal l (Workers count) items → worker_count (reverse items) ≡ count
-
-  abbrev pub LegalLaw : Type 0
-  LegalLaw = (count : ℕ) (items : List SessionItem) → AreLegal l (Workers count) items → IsLegalLog l (reverse items)
-
   module _ (old new : List SessionItem) (service now : Service) (same : service ≡ service_of (reverse old)) (stays : now ≡ service)
       (are : AreLegal l now new) where
     legal_so : AreLegal l (Workers (worker_count (reverse old))) new
     legal_so = subst (λ s. AreLegal l s new) (stays ∙ same) are
 
     -- the session is served as it was
-    pub served_so : WorkersLaw → now ≡ service_of (reverse new)
+    pub served_so : WorkersLaw l → now ≡ service_of (reverse new)
     served_so law = stays ∙ (same ∙ ap Workers (sym (law (worker_count (reverse old)) new legal_so)))
 
-    pub legal_now : LegalLaw → IsLegalLog l (reverse new)
+    pub legal_now : LegalLaw l → IsLegalLog l (reverse new)
     legal_now law = law (worker_count (reverse old)) new legal_so

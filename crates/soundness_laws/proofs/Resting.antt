@@ -1,9 +1,10 @@
 -- Where a version is settled and nothing of it is stuck, nothing is pending.
-use Rattle.std.proofs.Common.{◌≡◌, ◌⊎◌, inl, inr, ℕ, Bool, true, false, List, [], ◌∷◌, filter, length, Some, refl, sym, ap, ◌∙◌, arith}
-use Rattle.std.proofs.lemmas.Bool.{and_parts, or_cases, or_parts, eqb-true}
-use Rattle.std.specs.Prelude.{◌==◌, ◌&&◌, ◌||◌, cond, not, slice_get}
+use Rattle.std.proofs.Common.{◌≡◌, ℕ, Bool, true, false, List, [], ◌∷◌, filter, length, Some, refl, sym, ap, ◌∙◌, arith}
+use Rattle.std.proofs.lemmas.Bool.{and_parts, or_parts}
+use Rattle.std.specs.Prelude.{◌&&◌, ◌||◌, cond, not, slice_get}
 use Rattle.std.specs.List.{flat_map, list_all, list_any, range_with_len}
 use Rattle.text_words.specs.Members.{has}
+use Rattle.text_words.proofs.KnownMembers.{has_passed}
 use Rattle.pide_base.specs.declared.part.Part.{Part}
 use Rattle.core_tables.specs.declared.versions.Live.{Live}
 use Rattle.exec_rules.specs.declared.version.Version.{Version}
@@ -22,16 +23,6 @@ use Rattle.session_laws.proofs.KnownSeen.{none_passes}
 use Rattle.isar_rules.specs.Isar.{isar}
 use Rattle.soundness_laws.specs.Seen.{HasNoPending, HasSettled}
 use Rattle.soundness_laws.proofs.Believing.{Laws}
-
-all_have : (test : ℕ → Bool) (xs : List ℕ) (e : ℕ) → list_all test xs ≡ true → has xs e ≡ true → test e ≡ true
-all_have test [] e all is = absurd (cc)
-all_have test (x ∷ xs) e all is =
-    let parts = and_parts (test x) (list_all test xs) all in
-    go (or_cases (e == x) (has xs e) is) parts.0 (all_have test xs e parts.1)
-  where
-    go : ((e == x) ≡ true) ⊎ (has xs e ≡ true) → test x ≡ true → (has xs e ≡ true → test e ≡ true) → test e ≡ true
-    go (inl same) here later = ap test (eqb-true e x same) ∙ here
-    go (inr there) here later = later there
 
 none_pass : (test : ℕ → Bool) (xs : List ℕ) → ((e : ℕ) → test e ≡ false) → filter test xs ≡ []
 none_pass test [] none = refl
@@ -65,7 +56,7 @@ module _ (laws : Laws) (h : List Event) (legal : IsLegal isar h) (k : ℕ) (live
   closed : (e : ℕ) → assigns v e ≡ true → is_open isar h d.homes e ≡ false
   closed e is =
       let home = laws.homed h k live e legal at is in
-      let over : is_over isar h d e ≡ true = all_have (is_over isar h d) (executions_of v) e rest.settled is in
+      let over : is_over isar h d e ≡ true = has_passed (is_over isar h d) (executions_of v) e rest.settled is in
       let within = numbered_within d.homes e home.home home.homed in
       let both : (assigns v e && is_stuck_in isar h d e) ≡ false =
       none_passes (λ f. assigns v f && is_stuck_in isar h d f) 1 (length d.homes) e (numbered_positive d.homes e home.home home.homed)

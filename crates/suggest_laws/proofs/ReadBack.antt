@@ -1,5 +1,5 @@
 -- The text of a readable formula is plain, and is read as a formula that says the same.
-use Rattle.std.proofs.Common.{◌≡◌, [], Result, Ok, Err, sym, refl, subst}
+use Rattle.std.proofs.Common.{◌≡◌, Result, Ok, Err, sym, refl, subst}
 use Rattle.std.specs.List.{AllByRecursion}
 use Rattle.nj_formula.specs.declared.formula.Formula.{Formula}
 use Rattle.nj_formula.specs.Meaning.{meaning}
@@ -7,12 +7,10 @@ use Rattle.nj_syntax.specs.declared.fault.FormulaFault.{FormulaFault}
 use Rattle.nj_syntax.specs.Answer.{formula_of}
 use Rattle.nj_syntax.specs.Answers.{Answers, IsFormula, SaysWhole}
 use Rattle.nj_syntax.proofs.KnownAnswers.{formula_answers, formula_tells}
-use Rattle.nj_print.specs.Prints.{Prints}
 use Rattle.nj_print.specs.Readable.{IsReadable, IsReadAgain}
-use Rattle.nj_print.proofs.KnownPrints.{some_print}
 use Rattle.nj_print.proofs.KnownReadable.{print_read_again}
 use Rattle.nj_print.specs.Printed.{formula_text}
-use Rattle.nj_print.proofs.KnownTexts.{text_is}
+use Rattle.nj_print.proofs.KnownTexts.{printed}
 use Rattle.suggest_laws.specs.Lexemes.{IsPlain}
 use Rattle.suggest_laws.proofs.PlainTexts.{tokens_plain}
 
@@ -20,9 +18,6 @@ pub record IsReadBack (a : Formula) : Type 0 where
   pub back : Formula
   pub read : formula_of (formula_text a) ≡ Ok back
   pub says : meaning a ≡ meaning back
-
-printed : (a : Formula) → Prints 10 [] a (formula_text a)
-printed a = let some = some_print [] a in subst (Prints 10 [] a) (text_is some.1) some.1
 
 pub read_back : (a : Formula) → IsReadable a → IsReadBack a
 read_back a readable = go (formula_of (formula_text a)) refl (print_read_again a (formula_text a) (formula_of (formula_text a)) readable (printed a) (formula_answers (formula_text a)))

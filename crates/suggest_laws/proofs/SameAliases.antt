@@ -5,6 +5,7 @@ use Rattle.std.specs.List.{flat_map, position_or_len, range_with_len}
 use Rattle.std.specs.Option.{option_map_or}
 use Rattle.import_rounds.specs.Looks.{aims_at}
 use Rattle.text_words.specs.Members.{has}
+use Rattle.text_words.proofs.KnownLists.{map_alike}
 use Rattle.import_rounds.specs.Rounds.{in_rounds}
 use Rattle.doc_headers.specs.declared.parts.Header.{Header}
 use Rattle.doc_headers.specs.declared.parts.KeywordPair.{KeywordPair}
@@ -40,17 +41,13 @@ first_places (n ∷ ns) (m ∷ ms) name same = λ i. cond (not (equal (same.0 i)
 pub places : (ns ms : NodeList) → SameHeads ns ms → (name : List ℕ) → place_of ns name ≡ place_of ms name
 places ns ms same name = λ i. cond (nat_lt (first_places ns ms name same i) (sizes ns ms same i)) (Some (first_places ns ms name same i)) None
 
-each_place : (f g : List ℕ → Option ℕ) → ((name : List ℕ) → f name ≡ g name) → (names : List (List ℕ)) → map f names ≡ map g names
-each_place f g same [] = refl
-each_place f g same (name ∷ names) = λ i. same name i ∷ each_place f g same names i
-
 rows : (all others : NodeList) → ((name : List ℕ) → place_of all name ≡ place_of others name) → (ns ms : NodeList) → SameHeads ns ms
     → map (λ (pair : List ℕ × Node). aims_of all pair.1) ns ≡ map (λ (pair : List ℕ × Node). aims_of others pair.1) ms
 rows all others same [] [] heads = refl
 rows all others same [] (m ∷ ms) heads = absurd heads
 rows all others same (n ∷ ns) [] heads = absurd heads
 rows all others same (n ∷ ns) (m ∷ ms) heads =
-    let first : aims_of all n.1 ≡ aims_of others m.1 = each_place (place_of all) (place_of others) same n.1.imports ∙ ap (map (place_of others)) heads.1 in
+    let first : aims_of all n.1 ≡ aims_of others m.1 = map_alike (place_of all) (place_of others) same n.1.imports ∙ ap (map (place_of others)) heads.1 in
     λ i. first i ∷ rows all others same ns ms heads.3 i
 
 own_pairs : (ns ms : NodeList) (p : ℕ) → SameHeads ns ms → own_at ns p ≡ own_at ms p

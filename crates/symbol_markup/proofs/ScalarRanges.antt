@@ -1,6 +1,6 @@
 -- Ranges that stand on symbols keep their order in symbols, and are had back.
 use Rattle.std.proofs.Common.{◌≡◌, ℕ, ◌+◌, ◌-◌, ◌<◌, ◌≤◌, ◌↔◌, inl, Bool, true, false, List, []}
-use Rattle.std.proofs.Common.{◌∷◌, length, Some, refl, sym, ap, ◌∙◌, ⊎_elim, arith, length-drop}
+use Rattle.std.proofs.Common.{◌∷◌, length, Some, refl, sym, ap, ◌∙◌, ⊎_elim, arith}
 use Rattle.std.specs.Prelude.{◌==◌, not, cond, map, filter, slice_get}
 use Rattle.std.specs.Option.{option_map_or}
 use Rattle.std.specs.List.{AllByRecursion}
@@ -10,8 +10,9 @@ use Rattle.std.specs.declared.cmp.Ordering.{Ordering}
 use Rattle.std.specs.declared.cmp.Ordering.TheVariants.{Less, Equal, Greater}
 use Rattle.std.proofs.lemmas.Bool.{cases_lt, eqb-true, false_from_ne_true}
 use Rattle.pide_base.specs.declared.range.Range.{Range}
-use Rattle.symbols.specs.Symbols.{AreSymbolsBetween, IsBoundary, symbols_of}
+use Rattle.symbols.specs.Symbols.{IsBoundary, symbols_of}
 use Rattle.symbols.specs.Boundaries.{boundaries}
+use Rattle.symbols.proofs.KnownStops.{place-within}
 use Rattle.report_markup.specs.declared.report.Report.{Report}
 use Rattle.report_markup.specs.Order.{said_cmp, report_cmp}
 use Rattle.report_markup.specs.Sorting.{insert_if, insert_report, ordered_reports}
@@ -23,13 +24,6 @@ use Rattle.symbol_markup.proofs.SymbolCounts.{ended-rises}
 
 range : ℕ → ℕ → Range
 range start stop = record { start = start; stop = stop }
-
-place-within : (text : List ℕ) (from place : ℕ) (before : List (ℕ × ℕ))
-    → AreSymbolsBetween text from place before → from ≤ length text → place ≤ length text
-place-within text from place [] is within = omega arith
-place-within text from place (b ∷ bs) is within =
-    place-within text b.1 place bs is.2
-    (omega (arith, is.1.0, is.1.1.within, length-drop from text))
 
 unequal : (m n : ℕ) → m < n → (m == n) ≡ false
 unequal m n less = false_from_ne_true (m == n) (λ e. omega (arith, less, eqb-true m n e))

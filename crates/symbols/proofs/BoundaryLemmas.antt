@@ -7,7 +7,7 @@ use Rattle.symbols.specs.Boundaries.{boundaries_of, boundaries, last_place, Lies
 use Rattle.symbols.proofs.Laws.{rises}
 use Rattle.symbols.proofs.SymbolLemmas.{boundary-more}
 use Rattle.symbols.proofs.FunctionLemmas.{are-symbols}
-use Rattle.symbols.proofs.KnownStops.{same-stop}
+use Rattle.symbols.proofs.KnownStops.{same-stop, place-within}
 
 pub got : (xs : List ℕ) (k : ℕ) → k < length xs → slice_get xs k ≡ Some (get_or xs k 0)
 got [] k below = absurd (omega arith)
@@ -56,10 +56,6 @@ number-of text from to place (b ∷ bs) [] one is upto = absurd (omega (arith, i
 number-of text from to place (b ∷ bs) (s ∷ ss) one is upto =
     let same : b.1 ≡ s.1 = same-stop text from b.1 s.1 one.1 is.1 in
     number-of text s.1 to place bs ss (subst (λ p. AreSymbolsBetween text p place bs) same one.2) is.2 upto
-
-place-within : (text : List ℕ) (from place : ℕ) (before : List (ℕ × ℕ)) → AreSymbolsBetween text from place before → from ≤ length text → place ≤ length text
-place-within text from place [] is within = omega arith
-place-within text from place (b ∷ bs) is within = place-within text b.1 place bs is.2 (stop-within text from b.1 is.1)
 
 pub at-boundary : (text : List ℕ) (n place : ℕ) → slice_get (boundaries text) n ≡ Some place → IsBoundary text n place
 at-boundary text n place e = at-number text 0 (length text) (symbols_of text) n place (are-symbols text) e

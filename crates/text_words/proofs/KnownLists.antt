@@ -1,12 +1,12 @@
 -- Lists put together, taken apart, turned round and searched, and what holds of each element.
-use Rattle.std.proofs.Common.{List, [], ◌∷◌, ◌++◌, ◌≡◌, ◌+◌, length, refl, ap, arith, ℕ, ◌-◌, ◌≤◌, take, drop, reverse, sym, subst, ◌∙◌, Bool, true, false, cond, Some, None, get_or, suc, ◌<◌, add-one, sum, bytes_eq}
+use Rattle.std.proofs.Common.{List, [], ◌∷◌, ◌++◌, ◌≡◌, ◌+◌, length, refl, ap, arith, ℕ, ◌-◌, ◌≤◌, take, drop, reverse, sym, subst, ◌∙◌, Bool, true, false, cond, Some, None, get_or, zero, suc, ◌<◌, add-one, sum, bytes_eq, filter, map, ap₂}
 use Rattle.std.specs.List.{AllByRecursion, zip, position, position_or_len}
 use Rattle.std.proofs.lemmas.List.{length-drop, length-reverse, take-append-drop, reverse-append}
 use Rattle.std.proofs.Math.Seq.{take-append_seam, drop-cons}
-use Rattle.std.proofs.lemmas.Bool.{ltb-false, both_ways, false_from_ne_true}
+use Rattle.std.proofs.lemmas.Bool.{ltb-false, both_ways, false_from_ne_true, eq-eqb, ne_eqb}
 use Rattle.std.proofs.lemmas.List.Folds.{find_at}
 use Rattle.std.proofs.lemmas.Option.{slice_get_past}
-use Rattle.std.specs.Prelude.{slice_get, nat_lt, find}
+use Rattle.std.specs.Prelude.{◌==◌, slice_get, nat_lt, find}
 use Rattle.std.specs.Option.{option_and_then}
 use Rattle.std.proofs.lemmas.List.Sums.{sum_by-cons}
 use Rattle.std.proofs.lemmas.Slice.Eq.{bytes_eq-Decides}
@@ -81,3 +81,30 @@ same_length x y e = ap length (sym ((bytes_eq-Decides x y).0 e))
 -- the test of names is the same the other way round
 pub unlike_turned : (x y : List ℕ) → bytes_eq x y ≡ false → bytes_eq y x ≡ false
 unlike_turned x y ne = false_from_ne_true (bytes_eq y x) (λ same. both_ways (bytes_eq x y) ne ((bytes_eq-Decides x y).1 (sym ((bytes_eq-Decides y x).0 same))))
+
+-- of each element what holds of what stands at each place
+pub each-placed : {X : Type 0} (P : X → Type 0) (xs : List X)
+    → ((i : ℕ) (x : X) → slice_get xs i ≡ Some x → P x) → AllByRecursion P xs
+each-placed P [] at = tt
+each-placed P (x ∷ xs) at = (at zero x refl, each-placed P xs (λ i y there. at (suc i) y there))
+
+-- of each that passes a test
+pub each-passing : {X : Type 0} (P : X → Type 0) (test : X → Bool) (xs : List X)
+    → AllByRecursion P xs → AllByRecursion P (filter test xs)
+each-passing P test [] all = tt
+each-passing P test (x ∷ xs) all = go (test x) (each-passing P test xs all.1)
+  where
+    go : (b : Bool) → AllByRecursion P (filter test xs)
+        → AllByRecursion P (cond b (x ∷ filter test xs) (filter test xs))
+    go true rest = (all.0, rest)
+    go false rest = rest
+
+-- what makes the same of each element makes the same list
+pub map_alike : {X Y : Type 0} (f g : X → Y) → ((x : X) → f x ≡ g x) → (xs : List X)
+    → map f xs ≡ map g xs
+map_alike f g same [] = refl
+map_alike f g same (x ∷ xs) = ap₂ (λ y ys. y ∷ ys) (same x) (map_alike f g same xs)
+
+-- so is the test of numbers
+pub differ_turned : (m n : ℕ) → (m == n) ≡ false → (n == m) ≡ false
+differ_turned m n differ = ne_eqb n m (λ e. both_ways (m == n) differ (eq-eqb m n (sym e)))

@@ -4,7 +4,7 @@ use mathlib.Core.Bool.{false≢true}
 use Rattle.std.specs.List.{Contains, dedup, list_all, AllByRecursion}
 use Rattle.std.specs.Prelude.{◌==◌}
 use Rattle.std.specs.Cmp.Derive.{one_truth}
-use Rattle.std.proofs.lemmas.Bool.{eqb-true, and_from, or_left, or_right, or_cases}
+use Rattle.std.proofs.lemmas.Bool.{eqb-true, and_from, and_parts, or_left, or_right, or_cases}
 use Rattle.std.proofs.lemmas.Bool.Decides.{nat_tests}
 use Rattle.std.proofs.lemmas.List.Folds.{list_any_at, list_any-append}
 use Rattle.std.proofs.lemmas.List.Kept.{Contains-dedup_nat, Contains-from_dedup}
@@ -86,6 +86,19 @@ pub all_passed : (test : ℕ → Bool) (xs : List ℕ) → ((e : ℕ) → has xs
 all_passed test [] all = refl
 all_passed test (x ∷ xs) all = and_from (test x) (list_all test xs)
     (all x (has_itself xs x)) (all_passed test xs (λ e is. all e (has_tail x e xs is)))
+
+-- and what all of a list passes, each that it has passes
+pub has_passed : (test : ℕ → Bool) (xs : List ℕ) (e : ℕ) → list_all test xs ≡ true
+    → has xs e ≡ true → test e ≡ true
+has_passed test [] e all is = absurd (false≢true is)
+has_passed test (x ∷ xs) e all is =
+    let parts = and_parts (test x) (list_all test xs) all in
+    go (or_cases (e == x) (has xs e) is) parts.0 (has_passed test xs e parts.1)
+  where
+    go : ((e == x) ≡ true) ⊎ (has xs e ≡ true) → test x ≡ true
+        → (has xs e ≡ true → test e ≡ true) → test e ≡ true
+    go (inl same) here later = ap test (eqb-true e x same) ∙ here
+    go (inr there) here later = later there
 
 -- numbers that were put in order, each once, are the same
 pub same_numbers : (found ordered : List ℕ) → IsPermutation found ordered → (e : ℕ) → has (dedup eqb ordered) e ≡ has found e

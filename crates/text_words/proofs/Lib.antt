@@ -3,3 +3,4 @@ pub mod KnownFronts
 pub mod KnownPieces
 pub mod KnownLists
 pub mod KnownMembers
+pub mod KnownOptions

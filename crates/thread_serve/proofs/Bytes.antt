@@ -21,8 +21,9 @@ use Rattle.session_turns.specs.view_laws_below.Callers.{service_of, whose, worke
 use Rattle.session_turns.specs.view_laws_below.Histories.{IsLegalLog}
 use Rattle.session_turns.specs.view_laws_below.Idle.{Waits}
 use Rattle.session_turns.specs.view_laws_below.Sent.{bytes_sent, joined_bytes}
+use Rattle.session_turns.proofs.KnownLegal.{LegalLaw, WorkersLaw}
 use Rattle.thread_serve.specs.Closed.{IsClosed}
-use Rattle.thread_serve.proofs.Logs.{LegalLaw, WorkersLaw, count_is, from_log, legal_log, to_log}
+use Rattle.thread_serve.proofs.Logs.{count_is, from_log, legal_log, to_log}
 
 module _ {S : Type 0} (l : Lang S) where
   -- what others do hands a caller nothing

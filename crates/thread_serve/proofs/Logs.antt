@@ -9,33 +9,27 @@ use Rattle.session_turns.specs.keeping_rules_below.Legal.{AreLegal}
 use Rattle.session_turns.specs.document_session_below.Contents.{SessionState}
 use Rattle.session_turns.specs.view_laws_below.Callers.{service_of, worker_count}
 use Rattle.session_turns.specs.view_laws_below.Histories.{IsLegalLog}
+use Rattle.session_turns.proofs.KnownLegal.{LegalLaw, WorkersLaw}
 
 module _ {S : Type 0} (l : Lang S) where
-  -- a legal list tells how many workers there are, and is legal the other way round
-  abbrev pub WorkersLaw : Type 0
-  WorkersLaw = (count : ℕ) (items : List SessionItem) → AreLegal l (Workers count) items → worker_count (reverse items) ≡ count
-
-  abbrev pub LegalLaw : Type 0
-  LegalLaw = (count : ℕ) (items : List SessionItem) → AreLegal l (Workers count) items → IsLegalLog l (reverse items)
-
   module _ (count : ℕ) (s : SessionState) (service : s.service ≡ Workers count) (legal : AreLegal l s.service s.items) where
     are : AreLegal l (Workers count) s.items
     are = subst (λ v. AreLegal l v s.items) service legal
 
-    pub legal_log : LegalLaw → IsLegalLog l (reverse s.items)
+    pub legal_log : LegalLaw l → IsLegalLog l (reverse s.items)
     legal_log law = law count s.items are
 
-    pub count_is : WorkersLaw → worker_count (reverse s.items) ≡ count
+    pub count_is : WorkersLaw l → worker_count (reverse s.items) ≡ count
     count_is law = law count s.items are
 
-    service_is : WorkersLaw → service_of (reverse s.items) ≡ s.service
+    service_is : WorkersLaw l → service_of (reverse s.items) ≡ s.service
     service_is law = ap Workers (count_is law) ∙ sym service
 
     -- what holds by the session holds by the list, and back
-    pub to_log : WorkersLaw → (P : Service → List SessionItem → Type 0) → P s.service s.items
+    pub to_log : WorkersLaw l → (P : Service → List SessionItem → Type 0) → P s.service s.items
         → P (service_of (reverse s.items)) (reverse (reverse s.items))
     to_log law P p = subst (λ v. P v (reverse (reverse s.items))) (sym (service_is law)) (subst (P s.service) (sym (reverse-reverse s.items)) p)
 
-    pub from_log : WorkersLaw → (P : Service → List SessionItem → Type 0) → P (service_of (reverse s.items)) (reverse (reverse s.items))
+    pub from_log : WorkersLaw l → (P : Service → List SessionItem → Type 0) → P (service_of (reverse s.items)) (reverse (reverse s.items))
         → P s.service s.items
     from_log law P p = subst (P s.service) (reverse-reverse s.items) (subst (λ v. P v (reverse (reverse s.items))) (service_is law) p)

@@ -1,11 +1,12 @@
 -- What the items of the reader and of the writer tell of the whole list.
 use Rattle.std.proofs.Common.{◌≡◌, ◌⊎◌, ℕ, zero, suc, ◌+◌, ◌≤◌, Bool, true, false, List, [], ◌∷◌, reverse, Contains, None, inl, inr, refl, sym, ap, subst, ◌∙◌, arith}
-use Rattle.std.specs.Prelude.{◌==◌, ◌↔◌}
-use Rattle.std.proofs.lemmas.List.Elements.{All-contains, All-contains_itself, All-filter, Contains-append_left, Contains-push_cases}
+use Rattle.std.specs.Prelude.{◌↔◌}
+use Rattle.std.proofs.lemmas.List.Elements.{All-contains, Contains-append_left, Contains-push_cases}
 use mathlib.Core.List.{reverse-cons}
 use Rattle.language.specs.Lang.{Lang}
 use Rattle.hist_lock.specs.Entries.{own}
 use Rattle.hist_lock.specs.declared.view.View.{View}
+use Rattle.hist_lock.proofs.KnownOwn.{own_within}
 use Rattle.worker_loop.specs.Held.{held_in}
 use Rattle.worker_loop.specs.Rounds.{HasSeen}
 use Rattle.worker_loop.specs.Sending.{AreSent}
@@ -13,6 +14,7 @@ use Rattle.worker_loop.specs.declared.said.Said.TheVariants as said
 use Rattle.core_rules.specs.Standing.{has_ended, held}
 use Rattle.reply_outbox.specs.declared.item.Item.TheVariants as item
 use Rattle.reply_outbox.specs.Items.{is_lost}
+use Rattle.reply_outbox.proofs.KnownLost.{stays_lost}
 use Rattle.session_rules.specs.declared.entry.Entry.TheVariants as entry
 use Rattle.session_turns.specs.keeping_rules_below.Items.{SessionItem, session_in}
 use Rattle.session_turns.specs.document_session_below.Contents.{SessionState}
@@ -20,11 +22,12 @@ use Rattle.document_serve.specs.Served.{calls_in}
 use Rattle.session_turns.specs.view_laws_below.Callers.{whose, worker_count}
 use Rattle.session_turns.specs.view_laws_below.Histories.{IsLegalLog, session_after}
 use Rattle.session_turns.specs.view_laws_below.Says.{says}
+use Rattle.session_turns.proofs.KnownLegal.{LegalLaw, WorkersLaw}
 use Rattle.thread_serve.specs.Closed.{IsClosed, WorkersAreFree, made_items}
 use Rattle.thread_serve.specs.Promises.{NobodyHolds}
 use Rattle.thread_serve.specs.Reader.{calls_made}
 use Rattle.thread_serve.proofs.Calls.{calls_own, calls_reversed}
-use Rattle.thread_serve.proofs.Logs.{LegalLaw, WorkersLaw, count_is, from_log, legal_log}
+use Rattle.thread_serve.proofs.Logs.{count_is, from_log, legal_log}
 
 -- each item is its caller's own
 abbrev pub OwnLaw : Type 0
@@ -44,12 +47,6 @@ tells_loss (item.Made (entry.Finished w part)) items e = absurd (let no : ⊥ = 
 tells_loss (item.Made (entry.Dropped w part)) items e = absurd (let no : ⊥ = cc in no)
 tells_loss (item.Made entry.Ended) items e = absurd (let no : ⊥ = cc in no)
 
-stays_lost : (x : SessionItem) (items : List SessionItem) → is_lost items ≡ true → is_lost (x ∷ items) ≡ true
-stays_lost (item.Opened service) items e = e
-stays_lost (item.Sent writer len) items e = e
-stays_lost (item.Lost writer) items e = refl
-stays_lost (item.Made entry) items e = e
-
 pub lost_where : (items : List SessionItem) (x : SessionItem) → says x ≡ said.Lost → Contains (reverse items) x → is_lost items ≡ true
 lost_where [] x e has = absurd (nowhere x has)
 lost_where (y ∷ items) x e has = go (lost_where items x e)
@@ -59,11 +56,6 @@ lost_where (y ∷ items) x e has = go (lost_where items x e)
     go before (inl earlier) = stays_lost y items (before earlier)
     go before (inr is) = tells_loss y items (ap says is ∙ e)
 
--- what a caller made stands in the list
-own_within : (c : ℕ) (log : List SessionItem) (x : SessionItem) → Contains (own whose c log) x → Contains log x
-own_within c log x has = All-contains (Contains log) (own whose c log) x
-    (All-filter (λ e. whose e == c) (Contains log) log (All-contains_itself log)) has
-
 module _ {S : Type 0} (l : Lang S) (count : ℕ) (reader writer : View SessionItem) (s : SessionState) (c : IsClosed l count reader writer s) where
   -- the calls are the reader's
   pub calls_are : calls_in s.items ≡ calls_made reader.mine
@@ -72,7 +64,7 @@ module _ {S : Type 0} (l : Lang S) (count : ℕ) (reader writer : View SessionIt
   -- so is the loss of the sink the writer's, and others may have seen it
   pub writer_lost : (x : SessionItem) → Contains writer.mine x → says x ≡ said.Lost → is_lost s.items ≡ true
   writer_lost x has e = lost_where s.items x e
-      (own_within (count + 1) (reverse s.items) x (subst (λ (xs : List SessionItem). Contains xs x) (sym c.writer_made) has))
+      (own_within whose (count + 1) (reverse s.items) x (subst (λ (xs : List SessionItem). Contains xs x) (sym c.writer_made) has))
 
   pub reader_saw_loss : HasSeen says reader said.Lost → is_lost s.items ≡ true
   reader_saw_loss saw = lost_where s.items saw.0 saw.2

@@ -6,6 +6,7 @@ use Rattle.std.specs.List.{AllByRecursion}
 use Rattle.std.specs.Option.{option_map, option_map_or}
 use Rattle.std.specs.Cmp.Derive.{one_truth}
 use Rattle.text_words.specs.Members.{has}
+use Rattle.text_words.proofs.KnownOptions.{one_of}
 use Rattle.shared_map.specs.Pairs.{IsSorted}
 use Rattle.doc_nodes.specs.declared.node.Entry.{Entry}
 use Rattle.doc_nodes.specs.declared.node.Node.{Node}
@@ -23,9 +24,6 @@ use Rattle.update_plans.proofs.Members.{In, in_at, in_either, in_flat, in_map, e
 use Rattle.update_plans.proofs.Named.{of_row}
 use Rattle.update_plans.proofs.Visible.{SeenAt, seen_at, at_seen}
 use Rattle.update_plans.proofs.BesideRows.{OfRow, in_beside}
-
-one_of : {X : Type 0} (o : Option X) (x y : X) → o ≡ Some x → o ≡ Some y → x ≡ y
-one_of o x y p q = cc
 
 evaluates : (row : Row) (e : ℕ) → row.evaluation ≡ e → has (executions row) e ≡ true
 evaluates row e is = of_row row e (inl is)

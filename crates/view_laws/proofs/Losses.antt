@@ -4,6 +4,7 @@ use Rattle.std.specs.Prelude.{◌↔◌}
 use Rattle.language.specs.Lang.{Lang}
 use Rattle.reply_outbox.specs.declared.item.Item.TheVariants as item
 use Rattle.reply_outbox.specs.Items.{is_lost}
+use Rattle.reply_outbox.proofs.KnownLost.{stays_lost}
 use Rattle.session_rules.specs.declared.service.Service.{Service}
 use Rattle.session_rules.specs.declared.service.Service.TheVariants.{Workers}
 use Rattle.keeping_rules.specs.Items.{SessionItem}
@@ -11,12 +12,6 @@ use Rattle.keeping_rules.specs.Legal.{AreLegal, MayStand}
 use Rattle.view_laws.specs.Callers.{service_of, worker_count}
 use Rattle.view_laws.specs.Histories.{IsLegalLog}
 use Rattle.view_laws.proofs.Own.{has_cases, has_last, has_more, has_none, on_log}
-
-stays_lost : (x : SessionItem) (items : List SessionItem) → is_lost items ≡ true → is_lost (x ∷ items) ≡ true
-stays_lost (item.Opened other) items e = e
-stays_lost (item.Made entry) items e = e
-stays_lost (item.Sent writer len) items e = e
-stays_lost (item.Lost writer) items e = refl
 
 module _ {S : Type 0} (l : Lang S) (count : ℕ) where
   abbrev service : Service

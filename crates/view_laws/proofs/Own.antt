@@ -2,7 +2,7 @@
 use Rattle.std.proofs.Common.{◌≡◌, ◌⊎◌, ℕ, Bool, true, false, cond, List, [], ◌∷◌, ◌++◌, reverse, filter, Contains, inl, inr, ⊎_elim, refl, sym, ap, subst, ◌∙◌, arith, eq-eqb}
 use Rattle.std.specs.Prelude.{◌==◌}
 use Rattle.std.proofs.lemmas.List.{reverse-append, reverse-reverse}
-use Rattle.std.proofs.lemmas.List.Elements.{All-contains, All-contains_itself, All-filter, Contains-append_cases, Contains-append_left, Contains-append_right, Contains-push, Contains-push_cases, filter-append}
+use Rattle.std.proofs.lemmas.List.Elements.{Contains-append_cases, Contains-append_left, Contains-append_right, Contains-push, Contains-push_cases, filter-append}
 use mathlib.Core.List.{reverse-cons}
 use Rattle.hist_lock.specs.Entries.{own}
 use Rattle.reply_outbox.specs.declared.item.Item.TheVariants as item
@@ -35,15 +35,10 @@ own_reversed c (x ∷ items) = ap (λ (xs : List SessionItem). reverse xs) (own_
     go true r = refl
     go false r = refl
 
--- what stands in a caller's items stands in the list
-pub own_within : (c : ℕ) (log : List SessionItem) (x : SessionItem) → Contains (own whose c log) x → Contains log x
-own_within c log x has = All-contains (Contains log) (own whose c log) x
-    (All-filter (λ e. whose e == c) (Contains log) log (All-contains_itself log)) has
-
 nowhere : (x : SessionItem) → Contains [] x → ⊥
 nowhere x has = absurd (omega (arith, has.1))
 
--- and what stands in the list stands in its caller's
+-- what stands in the list stands in its caller's items
 pub own_has : (log : List SessionItem) (x : SessionItem) → Contains log x → Contains (own whose (whose x) log) x
 own_has [] x has = absurd (nowhere x has)
 own_has (y ∷ log) x has = go (own_has log x) (Contains-append_cases (y ∷ []) log x has)

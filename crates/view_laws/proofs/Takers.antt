@@ -4,6 +4,7 @@ use Rattle.std.specs.Prelude.{◌==◌}
 use Rattle.std.proofs.lemmas.List.Elements.{All-contains, Contains-append_left, Contains-push, filter_passes}
 use Rattle.language.specs.Lang.{Lang}
 use Rattle.hist_lock.specs.Entries.{own}
+use Rattle.hist_lock.proofs.KnownOwn.{own_within}
 use Rattle.worker_loop.specs.declared.said.Said.TheVariants as said
 use Rattle.worker_loop.specs.Sending.{AreSent}
 use Rattle.reply_outbox.specs.declared.item.Item.TheVariants as item
@@ -15,7 +16,7 @@ use Rattle.keeping_rules.specs.Legal.{AreLegal, MayStand}
 use Rattle.view_laws.specs.Callers.{service_of, whose, worker_count}
 use Rattle.view_laws.specs.Histories.{IsLegalLog}
 use Rattle.view_laws.specs.Says.{says}
-use Rattle.view_laws.proofs.Own.{has_cases, has_none, on_log, own_within}
+use Rattle.view_laws.proofs.Own.{has_cases, has_none, on_log}
 
 module _ {S : Type 0} (l : Lang S) where
   module _ (count : ℕ) where
@@ -63,7 +64,7 @@ module _ {S : Type 0} (l : Lang S) where
       one : (x : SessionItem) → Contains (own whose who log) x → who ≡ worker_count log + 1
       one x has =
           let its : whose x ≡ who = eqb-true (whose x) who (All-contains (λ y. (whose y == who) ≡ true) (own whose who log) x (filter_passes (λ y. whose y == who) log) has) in
-          sym its ∙ by_writer x (own_within who log x has) (All-contains (λ y. says y ≡ said.Sent) (own whose who log) x only has)
+          sym its ∙ by_writer x (own_within whose who log x has) (All-contains (λ y. says y ≡ said.Sent) (own whose who log) x only has)
 
       go : (mine : List SessionItem) → own whose who log ≡ mine → who ≡ worker_count log + 1
       go [] e = absurd (some e)

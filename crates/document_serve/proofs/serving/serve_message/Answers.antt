@@ -5,14 +5,13 @@ use Rattle.document_session.specs.keeping_rules_below.Legal.{AreLegal}
 use Rattle.message_input.specs.declared.answering.Halt.TheVariants as halt
 use Rattle.document_session.specs.Answers.{TakenSo}
 use Rattle.document_session.specs.Contents.{SessionState}
-use Rattle.document_serve.specs.Joins.{counts_later}
-use Rattle.document_serve.specs.Runs.{CountsSo}
 use Rattle.document_serve.proofs.Answered.{answer_err, answer_ok}
 use Rattle.document_serve.proofs.At.{at_first}
 use Rattle.document_serve.proofs.HandedBack.{stays_short, part_fails, part_told, fewer_parts}
 use Rattle.document_serve.proofs.Short.{short}
 use Rattle.document_serve.proofs.Stepping.{answered}
-use Rattle.message_input.proofs.KnownHalting.{passed}
+use Rattle.message_input.proofs.KnownHalting.{passed, counts_later}
+use Rattle.message_input.specs.Counts.{CountsSo}
 use Rattle.document_serve.proofs.Stops.{StopsAmong, counts_on, short_before}
 use Rattle.document_serve.proofs.Waiting.{may_after}
 use Rattle.document_serve.proofs.serving.serve_message.Goals as goal

@@ -1,13 +1,14 @@
 -- What is written is the element's YXML piece by piece, and the element is a normal body.
 use Rattle.std.proofs.Common.{◌≡◌, ◌++◌, ◌∷◌, [], List, map, string_bytes, subst, arith}
 use Rattle.std.specs.List.{AllByRecursion}
+use Rattle.pide_base.proofs.KnownOutcomes.{on_ok_always}
 use Rattle.xml_tree.specs.Normal.{IsAttribute}
 use Rattle.yxml.specs.Spelling.{yxml}
 use Rattle.report_markup.specs.declared.property.Property.{Property}
 use Rattle.report_markup.specs.declared.report.Report.{Report}
 use Rattle.report_markup.specs.Element.{element, property_attribute}
 use Rattle.report_markup.proofs.KnownNumbers.{offsets_fit}
-use Rattle.report_markup.proofs.Written.{pieces, normal, on_ok}
+use Rattle.report_markup.proofs.Written.{pieces, normal}
 use Rattle.report_markup.proofs.element.write_report.Goals as goal
 use Rattle.report_markup.proofs.KnownPieces.{last_piece}
 
@@ -34,5 +35,5 @@ pub returns-clause-normal : goal.returns-clause-normal
 returns-clause-normal c =
     let report : Report = record c.args.report.now { range = c.args.range } in
     let P : List Property → Type 0 = λ ps. AllByRecursion IsAttribute (map property_attribute ps) in
-    on_ok c.push_str-5.result (normal report c.as_str.ensures.plain
+    on_ok_always c.push_str-5.result (normal report c.as_str.ensures.plain
     (offsets_fit c.args.range _ (omega arith) (omega arith) (subst P c.as_slice.ensures c.in_ok-write_properties.ensures.plain)))

@@ -1,10 +1,11 @@
 -- What came of the batch is kept.
 use Rattle.std.proofs.Common.{rules, ◌<◌, ◌++◌, length, All, IsPermutation, subst, sym}
 use Rattle.std.specs.Prelude.{slice_index}
+use Rattle.pide_base.proofs.KnownOutcomes.{on_ok_always}
 use Rattle.batch_check.specs.Cutting.{cut_all}
 use Rattle.batch_check.specs.Tasks.{MakesSo}
 use Rattle.task_round.specs.Rounds.{AreMade}
-use Rattle.document_build.proofs.Rounds.{make_so, numbers_within, on_ok, places_taken}
+use Rattle.document_build.proofs.Rounds.{make_so, numbers_within, places_taken}
 use Rattle.document_build.proofs.batch.Work.check.Goals as goal
 
 pub add_places-requires : goal.add_places-requires
@@ -23,5 +24,5 @@ returns-clause-kept g c = λ before keeps.
 pub returns-clause-taken : goal.returns-clause-taken
 returns-clause-taken g c = λ done before.
     let places = c.args.places.now in let numbers = c.in_ok-round.round.taken.items in
-    on_ok c.keep_all.result
+    on_ok_always c.keep_all.result
     (subst (λ xs. IsPermutation (done ++ places) xs) (search rules) (places_taken places numbers done c.args.taken.now.items c.in_ok-round.ensures.once before))
