@@ -61,8 +61,7 @@ assigned_version nodes blobs a = record { nodes = nodes; blobs = blobs; assigned
 
 -- the executions that a new tip has no more, and of which a part is unfinished
 abbrev pub dropped : (ℕ → Bool) → Version → Version → List ℕ
-dropped opened tip new =
-    filter (λ e. opened e && not (assigns new e)) (executions_of tip)
+dropped opened tip new = filter (λ e. opened e && not (assigns new e)) (executions_of tip)
 
 -- the document with a new version and its assignment
 abbrev pub with_version : (ℕ → Bool) → Doc → ℕ → Version → Assignment → Doc

@@ -16,12 +16,9 @@ use Rattle.core_rules.specs.Updates.{FitsUpdate}
 -- that holds none; it is finished by that worker while its execution is wanted, and let go once it
 -- is not; and work ends once
 abbrev pub MayWork : {S : Type 0} → Lang S → List Event → Event → Type 0
-MayWork l h (event.Claimed who p) =
-    (has_ended h ≡ false) × (held h who ≡ None) × IsFirst l h p
-MayWork l h (event.Finished who p) =
-    (held h who ≡ Some p) × (is_wanted (doc l h) p.exec ≡ true)
-MayWork l h (event.Dropped who p) =
-    (held h who ≡ Some p) × (is_wanted (doc l h) p.exec ≡ false)
+MayWork l h (event.Claimed who p) = (has_ended h ≡ false) × (held h who ≡ None) × IsFirst l h p
+MayWork l h (event.Finished who p) = (held h who ≡ Some p) × (is_wanted (doc l h) p.exec ≡ true)
+MayWork l h (event.Dropped who p) = (held h who ≡ Some p) × (is_wanted (doc l h) p.exec ≡ false)
 MayWork l h event.Ended = has_ended h ≡ false
 MayWork l h call = ⊥
 
@@ -29,8 +26,7 @@ MayWork l h call = ⊥
 abbrev pub MayFollow : {S : Type 0} → Lang S → List Event → Event → Type 0
 MayFollow l h (event.Update id nodes blobs) =
     (has_ended h ≡ false) × FitsUpdate (doc l h) id nodes blobs
-MayFollow l h (event.Cancel e) =
-    (has_ended h ≡ false) × (is_assigned (doc l h).live e ≡ true)
+MayFollow l h (event.Cancel e) = (has_ended h ≡ false) × (is_assigned (doc l h).live e ≡ true)
 MayFollow l h (event.Remove ids) =
     (has_ended h ≡ false) × (removing (doc l h).live ids ≡ answer.Removed)
 MayFollow l h work = MayWork l h work

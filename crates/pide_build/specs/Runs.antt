@@ -25,8 +25,7 @@ module _ {S : Type 0} (l : Lang S) where
   -- short; else the refusals
   abbrev pub WritesSo : Status → List (List (List ℕ)) → Ending → Option (List ℕ)
       → Option (List ℕ) → Option (List ℕ) → Type 0
-  WritesSo status.Done messages ending left held held' =
-      Appends held held' (all_replies messages)
+  WritesSo status.Done messages ending left held held' = Appends held held' (all_replies messages)
   WritesSo status.WriteFault messages ending left held held' =
       WritesFront messages ending left held held'
   WritesSo status.NoMemory messages ending left held held' =

@@ -25,8 +25,7 @@ is_beyond theories text =
 abbrev pub with_theory : List ℕ → List ℕ → TheoryList → Result TheoryList Refusal
 with_theory name text theories =
     if is_some (found in_order name theories) then Err NodeTwice
-    else if is_beyond theories text then Err Limit
-    else Ok (put in_order (name, text) theories)
+    else if is_beyond theories text then Err Limit else Ok (put in_order (name, text) theories)
 
 -- what a message that was read makes of them: in a build each brings a theory
 abbrev pub with_message : EditorMessage → TheoryList → Result TheoryList Refusal

@@ -1,6 +1,5 @@
 pub mod Words
 pub mod Limit
-pub mod Held
 pub mod Headline
 pub mod Outcomes
 pub mod Answered

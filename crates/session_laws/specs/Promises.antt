@@ -45,9 +45,8 @@ pub record IsShown {S : Type 0} (l : Lang S) (s : Session) (id : ℕ) (name : Li
   pub scratch : parts_shown l s.events (document l s) looked.version name
       ≡ scratch_shown l s.events looked.version name
   pub told : reply ≡ tells.Markup id name
-      (protocol_reports s.protocol looked.text
-      (ordered_reports (left_by edits (flat_map placed_reports
-      (parts_shown l s.events (document l s) looked.version name)))))
+      (protocol_reports s.protocol looked.text (ordered_reports (left_by edits
+      (flat_map placed_reports (parts_shown l s.events (document l s) looked.version name)))))
       (pending l s.events (document l s) looked.version name) (is_outdated edits) ∷ []
 
 -- so is each snapshot that isn't refused

@@ -24,10 +24,7 @@ IsAlone l service waited (Message read ∷ h) = IsAlone l service (awaited l ser
 IsAlone l service waited (Ended ∷ h) = IsAlone l service None h
 IsAlone l service (Some version) (Finished zero p ∷ Claimed zero q ∷ h) =
     (q ≡ p) × IsUnsettled l (session l service h) version × IsAlone l service (Some version) h
-IsAlone l service waited (Claimed (suc w) p ∷ h) =
-    IsAlone l service None h
-IsAlone l service waited (Finished (suc w) p ∷ h) =
-    IsAlone l service None h
-IsAlone l service waited (Dropped (suc w) p ∷ h) =
-    IsAlone l service None h
+IsAlone l service waited (Claimed (suc w) p ∷ h) = IsAlone l service None h
+IsAlone l service waited (Finished (suc w) p ∷ h) = IsAlone l service None h
+IsAlone l service waited (Dropped (suc w) p ∷ h) = IsAlone l service None h
 IsAlone l service waited (e ∷ h) = ⊥

@@ -19,13 +19,8 @@ pub record Session : Type 0 where
 
 -- before anything happened
 abbrev pub empty_session : Session
-empty_session = record {
-  buffer = buffer.empty_buffer;
-  events = [];
-  protocol = Scalars;
-  called =
-      false;
-}
+empty_session =
+    record { buffer = buffer.empty_buffer; events = []; protocol = Scalars; called = false }
 
 -- the versions and the executions
 abbrev pub document : {S : Type 0} → Lang S → Session → Doc
