@@ -8,10 +8,13 @@ use crate::input::Input;
 use crate::ran::Ran;
 use core_rules::doc_nodes_below::Shared;
 use core_rules::language_below::{Answer, Language};
-use pide_base::{Part, Stop};
+use pide_base::{Part, PartKind, Stop};
 use std::alloc::Global;
 use std::marker::Model;
 use text_edits::Text;
+
+/// A command of fewer scalars is short.
+const SHORT: usize = 128;
 
 /// What is needed to work on a part: its command's source and blob, and what it takes up.
 #[derive(Drop)]
@@ -66,6 +69,15 @@ impl<S> Job<S> {
         ensures { result.now ≡ self.now.source }
     {
         self.source.get().as_slice()
+    }
+
+    /// Whether the work is likely to take less time than a worker needs to awake: that of a short
+    /// command without a blob, whose state is there. A print may search, so it is none.
+    pub fn is_small(&self) -> bool {
+        self.part.kind != PartKind::Print
+            && self.source().len() < SHORT
+            && self.blob.is_none()
+            && matches!(self.input, Input::State(_))
     }
 
     pub(crate) fn blob(&self) -> Option<&[char]>

@@ -5,8 +5,8 @@ use std::hint::spin_loop;
 use std::sync::Wait;
 use std::sync::atomic::{AtomicU64, Ordering};
 
-/// So many looks are taken before a caller parks: they take about as long as a small part.
-const LOOKS: u32 = 500;
+/// Where looks are of no use, so many times fewer are taken.
+const FEWEST: u64 = 32;
 
 /// How often there was news, and how many callers park until there is more.
 #[derive(Drop)]
@@ -16,14 +16,22 @@ pub(crate) struct EventCount {
     looking: AtomicU64,
     /// How many park. Those who are about to park are counted too.
     parked: AtomicU64,
+    /// How many looks a caller takes before it parks.
+    looks: AtomicU64,
+    /// How many it takes where they are of use.
+    most_looks: u64,
 }
 
 impl EventCount {
-    pub(crate) fn new() -> EventCount {
+    /// A count at which callers look so often before they park, and less often where that was of
+    /// no use.
+    pub(crate) fn new(most_looks: u64) -> EventCount {
         EventCount {
             count: AtomicU64::new(0),
             looking: AtomicU64::new(0),
             parked: AtomicU64::new(0),
+            looks: AtomicU64::new(most_looks),
+            most_looks,
         }
     }
 
@@ -34,14 +42,21 @@ impl EventCount {
 
     /// Whether the count soon is another than the one that was heard.
     fn changes_soon(&self, heard: u64) -> bool {
+        let looks = self.looks.load(Ordering::SeqCst);
         self.looking.fetch_add(1, Ordering::SeqCst);
-        let changes = self.is_seen_to_change(heard);
+        let changes = self.is_seen_to_change(heard, looks);
         self.looking.fetch_sub(1, Ordering::SeqCst);
+        let next = if changes {
+            self.most_looks
+        } else {
+            (looks / 2).max(self.most_looks / FEWEST)
+        };
+        self.looks.store(next, Ordering::SeqCst);
         changes
     }
 
-    fn is_seen_to_change(&self, heard: u64) -> bool {
-        for _ in 0..LOOKS {
+    fn is_seen_to_change(&self, heard: u64, looks: u64) -> bool {
+        for _ in 0..looks {
             if self.now() != heard {
                 return true;
             }

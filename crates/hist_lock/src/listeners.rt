@@ -2,6 +2,13 @@
 use crate::event_count::EventCount;
 use crate::news::{News, Role};
 
+/// So many looks take about as long as a turn.
+const FEW_LOOKS: u64 = 500;
+
+/// So many looks take about as long as some small parts: where many of these come one after the
+/// other, the writer has awoken when the next reply is there.
+const MANY_LOOKS: u64 = 50_000;
+
 /// A count of news for callers of each role.
 #[derive(Drop)]
 pub(crate) struct Listeners {
@@ -13,9 +20,9 @@ pub(crate) struct Listeners {
 impl Listeners {
     pub(crate) fn new() -> Listeners {
         Listeners {
-            reader: EventCount::new(),
-            writer: EventCount::new(),
-            workers: EventCount::new(),
+            reader: EventCount::new(FEW_LOOKS),
+            writer: EventCount::new(MANY_LOOKS),
+            workers: EventCount::new(FEW_LOOKS),
         }
     }
 

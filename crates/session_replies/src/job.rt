@@ -66,6 +66,11 @@ impl<S> SessionJob<S> {
         self.job.part()
     }
 
+    /// Whether the work is likely to take less time than a worker needs to awake.
+    pub fn is_small(&self) -> bool {
+        self.job.is_small()
+    }
+
     /// How its reports are told.
     pub fn protocol(&self) -> Protocol
         ensures { result ≡ self.now.protocol }

@@ -33,6 +33,16 @@ pub enum Claiming<S> {
     NoMemory,
 }
 
+impl<S> Claiming<S> {
+    /// The job that was claimed.
+    fn job(&self) -> Option<&SessionJob<S>> {
+        match self {
+            Claiming::Job { job, .. } => Some(job),
+            _ => None,
+        }
+    }
+}
+
 impl<L: Language, P: Past<Service, Entry> + Drop> Locked<L, P> {
     /// The reader or a worker claims the first ready part.
     pub(crate) fn try_claim(&mut self, alloc: Global, lang: &L, who: u32) -> Claim<L::State>
@@ -88,7 +98,7 @@ impl<'a, L: Language, P: Past<Service, Entry> + Drop> Turn<Locked<L, P>> for Cla
     fn run(self, state: &mut Locked<L, P>) -> Claiming<L::State> {
         let ClaimTurn { alloc, lang, who } = self;
         let claiming = state.claim(alloc, lang, who);
-        state.note_claim(matches!(claiming, Claiming::Job { .. }));
+        state.note_claim(claiming.job());
         claiming
     }
 }

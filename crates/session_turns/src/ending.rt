@@ -63,7 +63,7 @@ impl<L: Language, P: Past<Service, Entry> + Drop> Turn<Locked<L, P>> for FinishT
     fn run(self, state: &mut Locked<L, P>) -> Finish {
         let FinishTurn { who, done } = self;
         let finish = state.finish(who, done);
-        state.note_end(who, true);
+        state.note_end(true);
         finish
     }
 }
@@ -87,7 +87,7 @@ impl<L: Language, P: Past<Service, Entry> + Drop> Turn<Locked<L, P>> for GiveUpT
     fn run(self, state: &mut Locked<L, P>) -> GiveUp<L::State> {
         let GiveUpTurn { who, job } = self;
         let given_up = state.give_up(who, job);
-        state.note_end(who, matches!(given_up, GiveUp::Dropped));
+        state.note_end(matches!(given_up, GiveUp::Dropped));
         given_up
     }
 }

@@ -1,18 +1,17 @@
 //! For whom each item is news; whoever waits and isn't named goes on waiting.
 //!
 //! One worker is enough, however many parts are ready: a worker that is woken claims next, and its
-//! claim is news for one worker more, where another part is ready. Only where a claim finds nothing
-//! does a worker wait.
+//! claim is news for one worker more, where another part is ready, unless its own part is small: then
+//! it is back for the other one before somebody else has awoken. Only where a claim finds nothing
+//! does a worker wait; and the reader claims again or has its message answered.
 ghost use Rattle.std.specs.Prelude.{◌≡◌};
 
 use crate::locked::Locked;
+use document_session::session_replies_below::SessionJob;
 use hist_lock::News;
 use language::Language;
 use reply_outbox::Past;
 use session_rules::{Entry, Service};
-
-/// The reader's number.
-const READER: u32 = 0;
 
 impl<L: Language, P: Past<Service, Entry> + Drop> Locked<L, P> {
     /// For how many workers it is news that parts may be ready.
@@ -28,11 +27,16 @@ impl<L: Language, P: Past<Service, Entry> + Drop> Locked<L, P> {
     }
 
     /// A part is claimed: another may be ready.
-    fn news_of_claim(&self) -> News {
+    fn news_of_claim(&self, job: &SessionJob<L::State>) -> News {
+        let workers = if job.is_small() {
+            0
+        } else {
+            self.workers_for_ready()
+        };
         News {
             reader: false,
             writer: false,
-            workers: self.workers_for_ready(),
+            workers,
         }
     }
 
@@ -45,35 +49,29 @@ impl<L: Language, P: Past<Service, Entry> + Drop> Locked<L, P> {
         }
     }
 
-    /// A part is finished or dropped, which may be replied: a version may be settled, and other
-    /// parts ready. A worker claims next itself, but the reader may have its message answered
-    /// instead.
-    fn news_of_end(&self, who: u32) -> News {
-        let workers = if who == READER {
-            self.workers_for_ready()
-        } else {
-            0
-        };
+    /// A part is finished or dropped, which may be replied: a version may be settled. Other parts
+    /// may be ready, which this caller comes back for.
+    fn news_of_end(&self) -> News {
         News {
             reader: self.may_settle(),
             writer: true,
-            workers,
+            workers: 0,
         }
     }
 
-    /// Notes whether a part was claimed.
-    pub(crate) fn note_claim(&mut self, is_claimed: bool)
+    /// Notes the job that was claimed, if one was.
+    pub(crate) fn note_claim(&mut self, claimed: Option<&SessionJob<L::State>>)
         ensures { self.new ≡ self.old }
     {
-        if !is_claimed {
+        let Some(job) = claimed else {
             return;
-        }
+        };
         self.held = self.held.saturating_add(1);
-        self.news = self.news_of_claim();
+        self.news = self.news_of_claim(job);
     }
 
-    /// Notes whether this caller's part was finished or dropped.
-    pub(crate) fn note_end(&mut self, who: u32, is_ended: bool)
+    /// Notes whether a part was finished or dropped.
+    pub(crate) fn note_end(&mut self, is_ended: bool)
         ensures { self.new ≡ self.old }
     {
         if !is_ended {
@@ -81,7 +79,7 @@ impl<L: Language, P: Past<Service, Entry> + Drop> Locked<L, P> {
         }
         self.held = self.held.saturating_sub(1);
         self.holds_wanted = self.holds_wanted || self.held == 0;
-        self.news = self.news_of_end(who);
+        self.news = self.news_of_end();
     }
 
     /// Notes whether a message was answered, by which parts that are held may be wanted no more.

@@ -8,6 +8,7 @@ ghost use Rattle.session_turns.specs.Working.{AnswersSo, MustWait, TakesSo};
 
 use crate::locked::Locked;
 use byte_message::Message;
+use document_session::session_replies_below::SessionJob;
 use document_session::{Claim, Taken};
 use hist_lock::Turn;
 use language::Language;
@@ -114,15 +115,18 @@ impl<'a, L: Language, P: Past<Service, Entry> + Drop> Turn<Locked<L, P>> for Tak
         } = self;
         let taking = state.take(alloc, lang, message);
         state.note_message(matches!(taking, Taking::Replied));
-        state.note_claim(claims(&taking));
+        state.note_claim(claimed(&taking));
         taking
     }
 }
 
-/// Whether the reader claimed a part.
-fn claims<S>(taking: &Taking<S>) -> bool {
+/// The job that the reader claimed, if it claimed one.
+fn claimed<S>(taking: &Taking<S>) -> Option<&SessionJob<S>> {
     match taking {
-        Taking::Waits { claim, .. } => matches!(claim, Claim::Job { .. }),
-        _ => false,
+        Taking::Waits {
+            claim: Claim::Job { job, .. },
+            ..
+        } => Some(job),
+        _ => None,
     }
 }
