@@ -7,10 +7,7 @@ ghost use Rattle.data_shapes.specs.LentMarks.{meant};
 
 use crate::cut::first_chunk;
 use crate::mark::{LentMark, chunk_mark};
-use yxml::YxmlFault;
-
-/// At most so many elements are nested.
-const MAX_DEPTH: usize = 200;
+use yxml::{MAX_DEPTH, YxmlFault};
 
 /// How many elements are open behind the chunk at `at`, where so many are open before it.
 fn depth_behind(chunk: &str, at: usize, depth: usize) -> Result<usize, YxmlFault>

@@ -12,11 +12,9 @@ ghost use Rattle.keeping_rules.specs.Pieces.{pieces, AreWaiting};
 use crate::session::Session;
 use keeping_rules::writer_laws;
 use language::Language;
+use message_values::MOST_WORKERS;
 use reply_outbox::Past;
 use session_rules::{Entry, Service};
-
-/// The most workers that messages name.
-const MOST_WORKERS: u32 = 16;
 
 impl<L: Language, P: Past<Service, Entry> + Drop> Session<L, P> {
     /// The reply that waited longest, which the writer takes: None exactly where none waits or the

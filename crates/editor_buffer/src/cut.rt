@@ -13,12 +13,10 @@ use doc_nodes::{Aliases, Entry, Node, Shared};
 use joined_results::both;
 use message_values::Refusal;
 use node_commands::{OldCommands, command_ranges, entries_of, kept_runs, sources};
+use pide_base::ID_END;
 use sheet_edits::PrepareError;
 use sqlite_items::Items;
 use std::alloc::{AllocError, Global};
-
-/// The smallest number that is no id.
-const ID_END: u64 = 1_000_000_000_000_000_000;
 
 /// A node with its commands, and the next id after them.
 #[derive(Drop)]

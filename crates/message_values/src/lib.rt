@@ -24,4 +24,4 @@ pub use laws::a_message_is_asked_where_it_is_spelled;
 pub use mode::Mode;
 pub use protocol::Protocol;
 pub use refusal::Refusal;
-pub use worker::Worker;
+pub use worker::{MOST_WORKERS, Worker};

@@ -6,7 +6,7 @@ ghost use Rattle.message_values.specs.Workers.{IsWorker};
 use std::marker::Model;
 
 /// The most workers that there are.
-const MOST_WORKERS: u64 = 16;
+pub const MOST_WORKERS: u32 = 16;
 
 /// A worker that a message names: one of the numbers 1 to 16.
 #[derive(Clone, Copy, Debug, PartialEq, Eq, PartialOrd, Ord, Hash)]
@@ -32,7 +32,7 @@ impl Worker {
     pub fn new(number: u64) -> Option<Worker>
         ensures { SomeIff result (IsWorker number) number }
     {
-        if number < 1 || MOST_WORKERS < number {
+        if number < 1 || u64::from(MOST_WORKERS) < number {
             return None;
         }
         Some(Worker { number })

@@ -6,7 +6,7 @@ ghost use Rattle.pide_base.specs.Ids.{IsId};
 use std::marker::Model;
 
 /// The smallest number that is no id any more.
-pub(crate) const ID_END: u64 = 1_000_000_000_000_000_000;
+pub const ID_END: u64 = 1_000_000_000_000_000_000;
 
 fn is_id(number: u64) -> bool
     ensures { IsTrue result ↔ IsId number }

@@ -24,7 +24,7 @@ mod stop;
 
 pub use flag::Flag;
 pub use gate::{Gate, Point};
-pub use ids::{CommandId, ExecId, VersionId};
+pub use ids::{CommandId, ExecId, ID_END, VersionId};
 pub use limits::{are_too_many, are_too_many_live, is_too_long};
 pub use never::Never;
 pub use node_name::{NodeName, is_node_name};

@@ -11,10 +11,9 @@ ghost use Rattle.pide_program.specs.Words.{is_build, is_check, is_gen, is_served
 ghost use Rattle.pide_program.specs.Limit.{input_limit};
 
 use crate::outcome::Outcome;
-use crate::running::{
-    MOST_NODES, MOST_WORKERS, build, check, make, serve_alone, serve_beside, unserved,
-};
+use crate::running::{MOST_NODES, build, check, make, serve_alone, serve_beside, unserved};
 use command_words::{Request, asked};
+use message_values::MOST_WORKERS;
 use pide_base::{Gate, Sink, Source, Status};
 use reply_outbox::Past;
 use session_rules::{Entry, Service};

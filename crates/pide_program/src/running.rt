@@ -29,10 +29,7 @@ use thread_serve::document_session_below::Session;
 use toplevel::Isar;
 
 /// The most bytes that a run takes.
-const LIMIT: usize = 1 << 40;
-
-/// The most workers beside the reader.
-pub(crate) const MOST_WORKERS: u32 = 16;
+pub(crate) const LIMIT: usize = 1 << 40;
 
 /// The most nodes of a document that is made.
 pub(crate) const MOST_NODES: u32 = 1_000;

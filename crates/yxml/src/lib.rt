@@ -16,5 +16,5 @@ mod writing;
 
 pub use fault::YxmlFault;
 pub use laws::{each_text_has_one_answer, what_is_written_is_read_back};
-pub use reading::parse_body;
+pub use reading::{MAX_DEPTH, parse_body};
 pub use writing::write_body;

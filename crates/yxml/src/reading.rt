@@ -14,7 +14,7 @@ use std::alloc::Global;
 use xml_tree::Body;
 
 /// At most so many elements are nested.
-const MAX_DEPTH: usize = 200;
+pub const MAX_DEPTH: usize = 200;
 
 /// The body that `text` spells, or the first fault from the left. A text that stands in one piece
 /// is copied once.

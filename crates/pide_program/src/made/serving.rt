@@ -8,6 +8,7 @@ ghost use Rattle.made_document.specs.Texts.{most_nodes};
 ghost use Rattle.pide_program.specs.Answered.{Answered, Made};
 
 use crate::made::swallow::Swallow;
+use crate::running::LIMIT;
 use byte_message::one_reading;
 use language::Language;
 use made_document::made_bytes;
@@ -23,9 +24,6 @@ use thread_serve::document_session_below::Session;
 
 /// The list of what happens, which nobody reads.
 pub(crate) type List = Unkept<Service, Entry>;
-
-/// More bytes than the messages have.
-const LIMIT: usize = 1 << 40;
 
 /// The most bytes that a pull brings.
 const PIECE: usize = 65_536;
