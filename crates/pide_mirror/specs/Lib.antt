@@ -1,0 +1,9 @@
+pub mod Hearing
+pub mod Feeding
+pub mod Knowing
+pub mod Taking
+pub mod Mirroring
+pub mod Showing
+pub mod NodeParts
+pub mod KeptNodes
+pub mod Looking
