@@ -1,0 +1,81 @@
+//! The calls of a script, and the mirror that they are about.
+use crate::hearing::answer_heard;
+use crate::looks::look;
+use crate::shapes::message_of;
+use crate::telling::put_fault;
+use byte_message::Message;
+use message_values::Mode;
+use pide_mirror::Mirror;
+use script_lines::{Answer, Call, Fault, Script};
+use std::alloc::{AllocError, Global};
+use std::mem;
+
+/// The mirror that calls are about.
+#[derive(Drop)]
+pub(crate) struct Calls {
+    mirror: Mirror,
+}
+
+impl Calls {
+    pub(crate) fn new(alloc: Global) -> Result<Calls, AllocError> {
+        let mirror = Mirror::new(alloc, Mode::Serve)?;
+        Ok(Calls { mirror })
+    }
+
+    /// A new mirror, for messages of this mode.
+    fn renew(&mut self, alloc: Global, mode: Mode) -> Answer {
+        let mirror = Mirror::new(alloc, mode)?;
+        drop(mem::replace(&mut self.mirror, mirror));
+        Ok(())
+    }
+
+    /// A new mirror, for messages of the mode that a call names.
+    fn renew_as(&mut self, alloc: Global, call: Call) -> Answer {
+        let mode = mode_of(call.word(0)?)?;
+        self.renew(alloc, mode)
+    }
+
+    /// Messages are sent.
+    fn send(&mut self, alloc: Global, shown: &[&str]) -> Answer {
+        for message in shown {
+            send(&mut self.mirror, message_of(alloc, *message)?)?;
+        }
+        Ok(())
+    }
+}
+
+/// A message is sent.
+fn send(mirror: &mut Mirror, message: Message) -> Answer {
+    let sent = mirror.sent(&message);
+    drop(message);
+    Ok(sent?)
+}
+
+/// The mode that the word names.
+fn mode_of(word: &str) -> Result<Mode, Fault> {
+    match word {
+        "serve" => Ok(Mode::Serve),
+        "replay" => Ok(Mode::Replay),
+        _ => Err(Fault::Line),
+    }
+}
+
+impl Script for Calls {
+    fn begin(&mut self, alloc: Global) -> Answer {
+        self.renew(alloc, Mode::Serve)
+    }
+
+    /// `mirror serve` and `mirror replay` begin anew, and `sent` tells messages. `look 1 A` asks what
+    /// is seen of a node in a version, behind edits as `insert 0 'text'` or `remove 0 'text'`, and
+    /// `fault` for the first fault. The other calls tell what is heard.
+    fn answer(&mut self, alloc: Global, words: &[&str], out: &mut String) -> Answer {
+        let call = Call::of(words)?;
+        match call.verb {
+            "mirror" => self.renew_as(alloc, call),
+            "sent" => self.send(alloc, call.words),
+            "look" => look(alloc, &self.mirror, &call, out),
+            "fault" => put_fault(out, self.mirror.fault()),
+            _ => answer_heard(alloc, &mut self.mirror, call, out),
+        }
+    }
+}
