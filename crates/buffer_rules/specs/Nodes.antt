@@ -1,5 +1,5 @@
 -- The nodes that an update makes of a document's sheets (this project's own).
-use Rattle.std.specs.Prelude.{ℕ, ◌+◌, List, [], ◌∷◌, map}
+use Rattle.std.specs.Prelude.{◌≡◌, ℕ, ◌+◌, Bool, true, List, [], ◌∷◌, map, slice_get, Some}
 use Rattle.std.specs.Option.{option_map_or}
 use Rattle.std.specs.List.{zip}
 use Rattle.shared_map.specs.Pairs.{found}
@@ -80,3 +80,8 @@ nodes_from tip all p (pair ∷ pairs) next =
 -- ids that they keep from the version before, and the next ones
 abbrev pub nodes_after : NodeList → SheetList → ℕ → Numbered
 nodes_after tip sheets next = nodes_from tip (uncut_all sheets) 0 sheets next
+
+-- nodes of which those that are marked are the version's before
+abbrev pub AreKept : NodeList → List Bool → NodeList → Type 0
+AreKept tip marks nodes = (p : ℕ) (pair : List ℕ × Node) → slice_get marks p ≡ Some true
+    → slice_get nodes p ≡ Some pair → found in_order pair.0 tip ≡ Some pair.1

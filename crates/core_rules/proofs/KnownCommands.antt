@@ -1,6 +1,6 @@
 -- A command that was there has the source that it had.
-use Rattle.std.proofs.Common.{◌≡◌, ℕ, zero, suc, ◌≤◌, inl, inr, true, ◌||◌, List, [], ◌∷◌, ◌++◌, map, Some, refl, ap, sym, subst, ◌∙◌, arith}
-use Rattle.text_words.proofs.KnownLists.{each-part}
+use Rattle.std.proofs.Common.{◌≡◌, ℕ, zero, suc, ◌≤◌, inl, inr, true, false, ◌||◌, List, [], ◌∷◌, ◌++◌, map, Some, refl, ap, sym, subst, ◌∙◌, arith}
+use Rattle.text_words.proofs.KnownLists.{differ_turned, each-part}
 use Rattle.std.proofs.lemmas.Bool.{eq-eqb, false≢true, or_parts}
 use Rattle.std.specs.Prelude.{◌==◌, slice_get}
 use Rattle.std.specs.List.{AllByRecursion}
@@ -14,7 +14,7 @@ use Rattle.core_rules.specs.Assigned.{command_ids}
 use Rattle.core_rules.specs.Doc.{Doc}
 use Rattle.core_rules.specs.Updates.{AllDiffer, source_in, Stood, IsOld, IsKnown, node_in}
 use Rattle.core_rules.proofs.Tables.{AtMost}
-use Rattle.text_words.proofs.KnownMembers.{has_both}
+use Rattle.text_words.proofs.KnownMembers.{apart, has_both, has_left, has_right}
 use Rattle.core_rules.proofs.SameCommands.{SameSources}
 
 -- the ids of commands
@@ -28,6 +28,20 @@ has_there (x ∷ es) zero e c at same =
     ap (λ b. b || has (ids es) c) (eq-eqb c x.command (same ∙ sym (ap (λ (y : Entry). y.command) one)))
 has_there (x ∷ es) (suc i) e c at same =
     ap (λ b. (c == x.command) || b) (has_there es i e c at same) ∙ or-true (c == x.command)
+
+-- the id of a command that is there
+pub id_there : (es : List Entry) (i : ℕ) (e : Entry) → slice_get es i ≡ Some e → has (ids es) e.command ≡ true
+id_there es i e at = has_there es i e e.command at refl
+
+pub command_there : (nodes : NodeList) (q i : ℕ) (pair : List ℕ × Node) (e : Entry) → slice_get nodes q ≡ Some pair
+    → slice_get pair.1.entries i ≡ Some e → has (command_ids nodes) e.command ≡ true
+command_there [] q i pair e at there = absurd (cc)
+command_there (n ∷ ns) zero i pair e at there =
+    let same : n ≡ pair = cc in
+    has_left (ids n.1.entries) (command_ids ns) e.command
+    (subst (λ (x : List ℕ × Node). has (ids x.1.entries) e.command ≡ true) (sym same) (id_there pair.1.entries i e there))
+command_there (n ∷ ns) (suc q) i pair e at there =
+    has_right (ids n.1.entries) (command_ids ns) e.command (command_there ns q i pair e at there)
 
 -- commands with the same id are the same
 pub same_id : (es : List Entry) (i j : ℕ) (a b : Entry) → AllDiffer (ids es) → slice_get es i ≡ Some a
@@ -50,6 +64,13 @@ differ_front (x ∷ xs) ys all =
 pub differ_back : (xs ys : List ℕ) → AllDiffer (xs ++ ys) → AllDiffer ys
 differ_back [] ys all = all
 differ_back (x ∷ xs) ys all = differ_back xs ys all.1
+
+-- an id that is in one list is not in another, where all differ
+pub differ_apart : (xs ys : List ℕ) (c : ℕ) → AllDiffer (xs ++ ys) → has ys c ≡ true → has xs c ≡ false
+differ_apart [] ys c differ is = refl
+differ_apart (x ∷ xs) ys c differ is =
+    let out = (or_parts (has xs x) (has ys x) (sym (has_both xs ys x) ∙ differ.0)).1 in
+    ap (λ b. b || has xs c) (differ_turned x c (apart ys x c out is)) ∙ differ_apart xs ys c differ.1 is
 
 -- the commands of one node differ, where those of all do
 pub differ_at : (nodes : NodeList) (p : ℕ) (pair : List ℕ × Node) → AllDiffer (command_ids nodes)

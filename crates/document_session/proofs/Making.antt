@@ -24,7 +24,7 @@ use Rattle.exec_assign.specs.Untouched.{AreChanged}
 use Rattle.update_plans.specs.Alive.{HaveCommands}
 use Rattle.editor_buffer.specs.document_edits_below.NameSets.{NameSet}
 use Rattle.editor_buffer.specs.document_edits_below.NameSets.{AreChanged as AreOthers}
-use Rattle.editor_buffer.specs.Cutting.{AreKept}
+use Rattle.buffer_rules.specs.Nodes.{AreKept}
 use Rattle.editor_buffer.specs.Preparation.{Preparation}
 use Rattle.prover_core.specs.Plans.{PlanState, IsPlanOf}
 use Rattle.reply_outbox.specs.declared.item.Item.TheVariants.{Made}

@@ -10,7 +10,7 @@ use Rattle.doc_nodes.specs.Names.{in_order}
 use Rattle.doc_nodes.specs.Imports.{NodeList}
 use Rattle.doc_blobs.specs.Needs.{AliasList}
 use Rattle.buffer_rules.specs.Sheets.{SheetList}
-use Rattle.buffer_rules.specs.Nodes.{Numbered, cut, before_in, uncut_all, nodes_from, nodes_after}
+use Rattle.buffer_rules.specs.Nodes.{AreKept, Numbered, cut, before_in, uncut_all, nodes_from, nodes_after}
 use Rattle.sheet_edits.specs.OpenSheet.{OpenSheet}
 use Rattle.sheet_edits.specs.declared.fault.PrepareError.{PrepareError}
 use Rattle.sheet_edits.specs.declared.fault.PrepareError.TheVariants.{Refused, NoMemory}
@@ -39,11 +39,6 @@ GivesRemade tip name opened node aliases next (Ok (Some made)) =
 GivesRemade tip name opened node aliases next (Err NoMemory) = Unit {0}
 GivesRemade tip name opened node aliases next (Err (Refused refusal)) = (refusal ≡ Limit)
     × (id_end < next_after opened.sheet aliases (before_in tip name) next)
-
--- the marked nodes are the tip's
-abbrev pub AreKept : NodeList → List Bool → NodeList → Type 0
-AreKept tip marks nodes = (p : ℕ) (pair : List ℕ × Node) → slice_get marks p ≡ Some true
-    → slice_get nodes p ≡ Some pair → found in_order pair.0 tip ≡ Some pair.1
 
 -- a node that was cut is put in its place
 pub record IsPut (c : Cutting) (name : List ℕ) (made : Remade) (d : Cutting) : Type 0 where

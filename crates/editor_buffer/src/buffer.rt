@@ -9,7 +9,8 @@ ghost use Rattle.document_edits.specs.Standing.{sheets_of, Drafted};
 ghost use Rattle.doc_nodes.specs.Heads.{heads};
 ghost use Rattle.document_edits.specs.Heads.{KeepHeaders};
 ghost use Rattle.document_edits.specs.NameSets.{AreChanged};
-ghost use Rattle.editor_buffer.specs.Cutting.{AreKept, IsCutWhole};
+ghost use Rattle.buffer_rules.specs.Nodes.{AreKept};
+ghost use Rattle.editor_buffer.specs.Cutting.{IsCutWhole};
 ghost use Rattle.editor_buffer.specs.Preparation.{buffer_of, IsStanding, Preparation};
 
 use crate::cutting::{Cutting, Tip, cut_all};

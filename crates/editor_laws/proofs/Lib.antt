@@ -11,7 +11,6 @@ mod FineEvents
 mod FineSessions
 mod CommandNumbers
 mod FineDocs
-mod AtPlaces
 mod FittingSettings
 mod AssignReplies
 mod LookedAt

@@ -30,7 +30,7 @@ use Rattle.editor_laws.proofs.FittingReports.{AllFit, Fitting, left_fit, order_a
 use Rattle.editor_laws.proofs.FittingSettings.{ReportLaws, settings_fit}
 use Rattle.editor_laws.proofs.LookedAt.{looks_at, node_short}
 use Rattle.editor_laws.proofs.RisingLists.{range_within, rises_range, rising_filter}
-use Rattle.editor_laws.proofs.ScratchSizes.{find_all}
+use Rattle.text_words.proofs.KnownFinds.{find_all}
 use Rattle.editor_laws.proofs.ShownParts.{SettingFits, shown_fit}
 
 -- the executions among all that pass a test are ids, and rise
@@ -58,7 +58,7 @@ live_fine lives id v all is = go (find (λ live. live.id == id) lives) refl is
     go None at is = absurd (cc)
     go (Some one) at is =
         let same : one.version ≡ v = cc in subst FineVersion same
-        (find_all FineLive (λ live. live.id == id) lives one all at).1
+        (find_all (λ live. live.id == id) FineLive lives one all at).1
 
 module _ {S : Type 0} (l : Lang S) (told : ReportLaws l)
     (within : (text : List ℕ) (place : ℕ) → symbol_place text place ≤ length text + 1) where

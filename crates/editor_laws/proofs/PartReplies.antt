@@ -34,7 +34,7 @@ use Rattle.session_rules.specs.Steps.{Claims, Due, Finishes, Nothing, called_for
 use Rattle.mirror_laws.proofs.KnownReported.{held_part}
 use Rattle.editor_laws.proofs.FineDocs.{FineDoc, FineLive}
 use Rattle.editor_laws.proofs.FittingReports.{AllFit, told_fit, told_fits}
-use Rattle.editor_laws.proofs.AtPlaces.{any_from}
+use Rattle.text_words.proofs.KnownFinds.{any_from}
 use Rattle.editor_laws.proofs.FittingSettings.{Reported, part_reported}
 use Rattle.editor_laws.proofs.ReadCalls.{IsSound}
 use Rattle.exec_rules.proofs.KnownThere.{all_at}

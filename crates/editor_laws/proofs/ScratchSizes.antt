@@ -4,6 +4,7 @@ use Rattle.std.proofs.lemmas.List.{length-drop, length-take}
 use Rattle.std.specs.Prelude.{slice_get, find, ◌==◌}
 use Rattle.std.specs.Option.{option_map_or}
 use Rattle.std.specs.List.{AllByRecursion}
+use Rattle.text_words.proofs.KnownFinds.{find_all}
 use Rattle.doc_nodes.specs.declared.node.Entry.{Entry}
 use Rattle.doc_nodes.specs.declared.node.Node.{Node}
 use Rattle.doc_nodes.specs.Imports.{NodeList, order}
@@ -22,15 +23,6 @@ pub source_most : (node : Node) (e : Entry) → length (source_in node e) ≤ le
 source_most node e =
     let front = length-take (e.range.stop - e.range.start) (drop e.range.start node.text) in
     let rest = length-drop e.range.start node.text in omega (arith, front, rest)
-
-pub find_all : {X : Type 0} (Q : X → Type 0) (p : X → Bool) (xs : List X) (x : X)
-    → AllByRecursion Q xs → find p xs ≡ Some x → Q x
-find_all Q p [] x all at = absurd (cc)
-find_all Q p (y ∷ xs) x all at = go (p y) at (find_all Q p xs x all.1)
-  where
-    go : (b : Bool) → cond b (Some y) (find p xs) ≡ Some x → (find p xs ≡ Some x → Q x) → Q x
-    go true is rest = let same : y ≡ x = cc in subst Q same all.0
-    go false is rest = rest is
 
 module _ {S : Type 0} (l : Lang S) (n : ℕ) (nodes : NodeList) (blobs : BlobList)
     (short : AreShort n nodes) where
@@ -72,5 +64,5 @@ module _ {S : Type 0} (l : Lang S) (n : ℕ) (nodes : NodeList) (blobs : BlobLis
       go : (o : Option (ℕ × Run S)) → find (λ one. one.0 == p) (scratch l nodes blobs) ≡ o
           → AllByRecursion SourceIsShort (option_map_or (λ (one : ℕ × Run S). one.1.commands) o [])
       go None at = tt
-      go (Some one) at = find_all RunIsShort (λ one. one.0 == p) (scratch l nodes blobs) one
+      go (Some one) at = find_all (λ one. one.0 == p) RunIsShort (scratch l nodes blobs) one
           (all_short (order nodes) [] tt) at

@@ -84,3 +84,15 @@ pub exactly : (p : ℕ → Bool) (n : ℕ) (xs : List ℕ) → IsStrictlyIncreas
 exactly p n xs rises sound complete = exactly_from p n 0 xs (rises_from_pairs xs 0 (λ lt. omega arith) (AllPairs-from_increasing xs rises))
     (λ y h. let s = sound y h in (omega (arith, s.0), s.1))
     (λ y le lt t. complete y (omega arith) t)
+
+-- rising numbers, by one equation a number
+pub risen_range : (p : ℕ → Bool) (n : ℕ) (xs : List ℕ) → IsStrictlyIncreasing xs → ((e : ℕ) → has xs e ≡ p e)
+    → ((e : ℕ) → p e ≡ true → (1 ≤ e) × (e ≤ n)) → xs ≡ filter p (range_with_len 1 n)
+risen_range p n xs rises same within = exactly_from p n 1 xs
+    (rises_from_pairs xs 1 (λ lt. first xs lt same) (AllPairs-from_increasing xs rises))
+    (λ y is. let mine : p y ≡ true = sym (same y) ∙ is in let le = (within y mine).1 in (omega (arith, le), mine))
+    (λ y le lt is. same y ∙ is)
+  where
+    first : (ys : List ℕ) → 0 < length ys → ((e : ℕ) → has ys e ≡ p e) → 1 ≤ get_or ys 0 0
+    first [] lt are = absurd (omega (arith, lt))
+    first (y ∷ ys) lt are = (within y (sym (are y) ∙ has_itself ys y)).0

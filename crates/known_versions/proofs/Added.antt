@@ -16,6 +16,7 @@ use Rattle.buffer_rules.specs.Preparing.{Buffer}
 use Rattle.mirror_rules.specs.Images.{Image}
 use Rattle.mirror_rules.specs.Rows.{executions_of, rows_of}
 use Rattle.mirror_rules.specs.Updates.{image_after}
+use Rattle.text_words.proofs.KnownOptions.{one_of}
 use Rattle.known_versions.specs.Kept.{told_rows, IsKept}
 use Rattle.known_versions.specs.Places.{StandsAt, has_execution, PlaceTable, unreported, HaveSources}
 use Rattle.known_versions.specs.Tables.{table_of}
@@ -23,11 +24,11 @@ use Rattle.known_versions.specs.Renewed.{gives, fresh_all, AreMade}
 use Rattle.known_versions.specs.declared.known.Known.{Known}
 use Rattle.known_versions.specs.declared.place.Place.{Place}
 use Rattle.known_versions.specs.declared.renewing.NewRows.{NewRows}
-use Rattle.known_versions.proofs.Finding.{any_at, any_there}
+use Rattle.text_words.proofs.KnownFinds.{any_at, any_from}
 use Rattle.known_versions.proofs.KnownSources.{one_site}
 use Rattle.known_versions.proofs.FreshRows.{fresh_from, fresh_there}
 use Rattle.known_versions.proofs.Rowing.{any_gives, entry_there, all_from, all_there}
-use Rattle.known_versions.proofs.Carrying.{same_some, rows_made, ids_made, made_gives}
+use Rattle.known_versions.proofs.Carrying.{rows_made, ids_made, made_gives}
 
 module _ (known : Known) (im : Image) (kept : IsKept known im) (listed : List NodeRows) (buffer : Buffer) (made : List NewRows)
     (sorted : IsSorted in_order buffer.nodes) (differ : AllDiffer (command_ids buffer.nodes)) (same : HaveSources im.nodes buffer.nodes)
@@ -55,13 +56,13 @@ module _ (known : Known) (im : Image) (kept : IsKept known im) (listed : List No
       let a = all_from exec c buffer.nodes made place is in
       let pair = a.1 in
       let m = are a.0 pair a.3 in
-      let rows_are : m.0 ≡ a.2 = same_some (slice_get made a.0) m.0 a.2 m.1 a.4 in
+      let rows_are : m.0 ≡ a.2 = one_of (slice_get made a.0) m.0 a.2 m.1 a.4 in
       let f = fresh_from pair.1.text exec c pair.1.entries a.2.rows place a.5 in
       let e = f.1 in
       let s : StandsAt buffer.nodes pair e = record { node = a.0; at = f.0; node_is = a.3; entry_is = f.3 } in
       let row_at : slice_get m.0.rows f.0 ≡ Some f.2 = ap (λ (x : NewRows). slice_get x.rows f.0) rows_are ∙ f.4 in
       let there = entry_there pair.1.entries m.0.rows f.0 f.2 (ids_are a.0 pair a.3) row_at in
-      let mine : there.0 ≡ e = same_some (slice_get pair.1.entries f.0) there.0 e there.1 f.3 in
+      let mine : there.0 ≡ e = one_of (slice_get pair.1.entries f.0) there.0 e there.1 f.3 in
       let command : e.command ≡ c = sym (ap (λ (x : Entry). x.command) mine) ∙ there.2 ∙ eqb-true f.2.command c (and_parts _ _ f.5).0 in
       let given = any_at (λ row. gives row exec c) m.0.rows f.0 f.2 row_at f.5 in
       let has_it : has_execution new pair e exec ≡ true
@@ -85,7 +86,7 @@ module _ (known : Known) (im : Image) (kept : IsKept known im) (listed : List No
   comes_in pair e exec s is none =
       let m = are s.node pair s.node_is in
       let given = gives_just s.node pair s.node_is exec e.command ∙ ap (λ (rows : List Told). has (executions_of rows e.command) exec) (sym (rows_are_made pair e s)) ∙ is in
-      let row = any_there (λ r. gives r exec e.command) m.0.rows given in
+      let row = any_from (λ r. gives r exec e.command) m.0.rows given in
       let entry = entry_there pair.1.entries m.0.rows row.0 row.1 (ids_are s.node pair s.node_is) row.2 in
       let here = fresh_there pair.1.text exec e.command pair.1.entries m.0.rows row.0 entry.0 row.1 entry.1 row.2 row.3 in
       let found = all_there exec e.command buffer.nodes made s.node pair m.0 here.0 s.node_is m.1 (moved m.0.stays refl) here.1 in

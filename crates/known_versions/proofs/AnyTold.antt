@@ -12,7 +12,7 @@ use Rattle.shared_map.specs.Pairs.{Each, IsSorted, has_key, found}
 use Rattle.mirror_rules.specs.Reports.{PartReport}
 use Rattle.known_versions.specs.Places.{takes}
 use Rattle.known_versions.specs.declared.place.Place.{Place}
-use Rattle.known_versions.proofs.Finding.{any_at, any_there}
+use Rattle.text_words.proofs.KnownFinds.{any_at, any_from}
 use Rattle.known_versions.proofs.Telling.{Commands}
 
 -- what is found stands somewhere
@@ -49,7 +49,7 @@ stands_found (x ∷ all) (suc i) c place sorted at =
 pub any_takes : (told : PartReport) (all : Commands) → IsSorted nat_cmp all → list_any (λ pair. takes told pair.1) all ≡ true
     → (c : ℕ) × (place : Place) × (found nat_cmp c all ≡ Some place) × (takes told place ≡ true)
 any_takes told all sorted is =
-    let one = any_there (λ pair. takes told pair.1) all is in
+    let one = any_from (λ pair. takes told pair.1) all is in
     (one.1.0, one.1.1, stands_found all one.0 one.1.0 one.1.1 sorted one.2, one.3)
 
 pub taken_any : (told : PartReport) (all : Commands) (c : ℕ) (place : Place) → found nat_cmp c all ≡ Some place → takes told place ≡ true

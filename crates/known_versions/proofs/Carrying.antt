@@ -4,6 +4,8 @@ use Rattle.std.specs.Prelude.{slice_get, not, ◌==◌, if◌then◌else◌}
 use Rattle.std.specs.Option.{option_and_then}
 use Rattle.std.proofs.lemmas.Bool.{eqb-true, and_parts, false≢true}
 use Rattle.text_words.specs.Members.{has}
+use Rattle.text_words.proofs.KnownOptions.{one_of}
+use Rattle.text_words.proofs.KnownFinds.{any_from}
 use Rattle.shared_map.specs.Pairs.{IsSorted}
 use Rattle.doc_nodes.specs.declared.node.Entry.{Entry}
 use Rattle.doc_nodes.specs.declared.node.Node.{Node}
@@ -26,13 +28,9 @@ use Rattle.known_versions.specs.Renewed.{gives, is_stale, stale_of, stale_in, ma
 use Rattle.known_versions.specs.declared.known.Known.{Known}
 use Rattle.known_versions.specs.declared.place.Place.{Place}
 use Rattle.known_versions.specs.declared.renewing.NewRows.{NewRows}
-use Rattle.known_versions.proofs.Finding.{any_there}
 use Rattle.known_versions.proofs.Updating.{rows_there}
 use Rattle.known_versions.proofs.KnownSources.{one_site}
 use Rattle.known_versions.proofs.Rowing.{any_gives, gives_has, entry_there, rows_differ, stale_from, stale_gives}
-
-pub same_some : {A : Type 0} (o : Option A) (x y : A) → o ≡ Some x → o ≡ Some y → x ≡ y
-same_some o x y a b = let e : Some x ≡ Some y = sym a ∙ b in cc
 
 pub ids_by : (es : List Entry) (rows : List Told) → map (λ r. r.0) (rows_by es rows) ≡ map (λ e. e.command) es
 ids_by [] rows = refl
@@ -99,8 +97,8 @@ module _ (known : Known) (im : Image) (kept : IsKept known im) (listed : List No
           let n = from.1 in
           let node_at : slice_get im.nodes from.0 ≡ Some n = ap (λ ns. slice_get ns from.0) (sym kept.nodes) ∙ from.3 in
           let r = kept.rows from.0 n node_at in
-          let rows_are : r.0 ≡ from.2 = same_some (slice_get known.rows from.0) r.0 from.2 r.1 from.4 in
-          let gave = any_there (λ row. gives row exec e.command) from.2 (stale_gives from.2 (for n.0) exec e.command from.5) in
+          let rows_are : r.0 ≡ from.2 = one_of (slice_get known.rows from.0) r.0 from.2 r.1 from.4 in
+          let gave = any_from (λ row. gives row exec e.command) from.2 (stale_gives from.2 (for n.0) exec e.command from.5) in
           let parts = and_parts (gave.1.command == e.command) _ gave.3 in
           let there = entry_there n.1.entries from.2 gave.0 gave.1 (ap (λ rs. map (λ x. x.0) (told_rows rs)) (sym rows_are) ∙ ap (map (λ x. x.0)) (sym r.2) ∙ kept.aligned from.0 n node_at) gave.2 in
           let one = one_site im.nodes from.0 gave.0 s0.node s0.at n pair0 there.0 tip.1 kept.differ node_at there.1 s0.node_is s0.entry_is

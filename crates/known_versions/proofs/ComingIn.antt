@@ -9,7 +9,7 @@ use Rattle.known_versions.specs.Places.{PlaceTable, unreported}
 use Rattle.known_versions.specs.Renewed.{fresh_row, fresh_in}
 use Rattle.doc_nodes.specs.declared.node.Entry.{Entry}
 use Rattle.known_versions.specs.declared.place.Place.{Place}
-use Rattle.known_versions.proofs.Finding.{flipped}
+use Rattle.text_words.proofs.KnownLists.{differ_turned}
 use Rattle.known_versions.proofs.Stepping.{row_with}
 
 module _ (text : List ℕ) (command exec : ℕ) (more : List ℕ) (table : PlaceTable) where
@@ -33,7 +33,7 @@ module _ (text : List ℕ) (command exec : ℕ) (more : List ℕ) (table : Place
           let t : table e c ≡ None = ap (λ x. table x c) (sym ex) ∙ ap (table exec) (sym cm) ∙ none in
           sym (ap (λ o. option_or o (if (e == exec) || has more e then Some (unreported text) else None)) t
           ∙ ap (λ b. if b || has more e then Some (unreported text) else None) (eq-eqb e exec (sym ex)))
-      go true cmd false other = ap (λ b. option_or (table e c) (if b || has more e then Some (unreported text) else None)) (sym (flipped exec e other))
+      go true cmd false other = ap (λ b. option_or (table e c) (if b || has more e then Some (unreported text) else None)) (sym (differ_turned exec e other))
 
   -- one that is there stays
   pub is_in : (place : Place) → table exec command ≡ Some place

@@ -14,7 +14,7 @@ use Rattle.reply_writing.specs.declared.told.CommandRow.{CommandRow}
 use Rattle.mirror_rules.specs.Rows.{executions_of, rows_by}
 use Rattle.known_versions.specs.Kept.{told_rows}
 use Rattle.known_versions.specs.Indexed.{executions_in}
-use Rattle.known_versions.proofs.Finding.{flipped}
+use Rattle.text_words.proofs.KnownLists.{differ_turned}
 
 abbrev pub first_of : List CommandRow → ℕ → Option CommandRow
 first_of rows command = find (λ row. row.command == command) rows
@@ -72,7 +72,7 @@ ids_more xs x id = has_both xs (x ∷ []) id ∙ go (x == id) refl
 
     go : (b : Bool) → (x == id) ≡ b → (has xs id || ((id == x) || false)) ≡ cond b true (has xs id)
     go true same = or_right (has xs id) ((id == x) || false) (ap (λ b. b || false) (eq-eqb id x (sym (eqb-true x id same))))
-    go false other = ap (λ b. has xs id || (b || false)) (flipped x id other) ∙ or_no (has xs id)
+    go false other = ap (λ b. has xs id || (b || false)) (differ_turned x id other) ∙ or_no (has xs id)
 
 -- what passes the first is what passes the others
 pub any_behind : {A : Type 0} (p : A → Bool) (xs more : List A) (x : A) → xs ≡ x ∷ more → p x ≡ false → list_any p more ≡ list_any p xs

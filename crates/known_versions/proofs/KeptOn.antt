@@ -21,6 +21,7 @@ use Rattle.buffer_rules.specs.Preparing.{Buffer}
 use Rattle.mirror_rules.specs.Images.{Image}
 use Rattle.mirror_rules.specs.Rows.{executions_of, rows_of, node_rows}
 use Rattle.mirror_rules.specs.Updates.{image_after}
+use Rattle.text_words.proofs.KnownOptions.{one_of}
 use Rattle.known_versions.specs.Kept.{told_rows, IsKept}
 use Rattle.known_versions.specs.Places.{StandsAt, has_execution, PlaceTable, or_unreported, AreRenewed, HaveSources}
 use Rattle.known_versions.specs.Tables.{table_of}
@@ -30,7 +31,7 @@ use Rattle.known_versions.specs.declared.place.Place.{Place}
 use Rattle.known_versions.specs.declared.renewing.NewRows.{NewRows}
 use Rattle.known_versions.proofs.NodesFound.{row_there}
 use Rattle.known_versions.proofs.Rowing.{any_gives, stale_at}
-use Rattle.known_versions.proofs.Carrying.{same_some, rows_made, tip_gives, for_named, not_stale}
+use Rattle.known_versions.proofs.Carrying.{rows_made, tip_gives, for_named, not_stale}
 use Rattle.known_versions.proofs.Added.{fresh_one, comes_in}
 
 module _ (known : Known) (im : Image) (kept : IsKept known im) (listed : List NodeRows) (buffer : Buffer) (made : List NewRows)
@@ -72,8 +73,8 @@ module _ (known : Known) (im : Image) (kept : IsKept known im) (listed : List No
       by_stay p pair node_is pair0 e0 s0 cmd has0 rows given name true stays out =
           let m = (are p pair node_is).2 in
           let q = m.stays stays in
-          let one : pair ≡ pair0 = same_some (slice_get im.nodes q.0) pair pair0 q.1
-          (ap (slice_get im.nodes) (same_some (place_of im.nodes pair0.0) q.0 s0.node (ap (place_of im.nodes) (sym name) ∙ place_named im.nodes q.0 pair kept.sorted q.1) (place_named im.nodes s0.node pair0 kept.sorted s0.node_is)) ∙ s0.node_is) in
+          let one : pair ≡ pair0 = one_of (slice_get im.nodes q.0) pair pair0 q.1
+          (ap (slice_get im.nodes) (one_of (place_of im.nodes pair0.0) q.0 s0.node (ap (place_of im.nodes) (sym name) ∙ place_named im.nodes q.0 pair kept.sorted q.1) (place_named im.nodes s0.node pair0 kept.sorted s0.node_is)) ∙ s0.node_is) in
           let entry : slice_get pair.1.entries s0.at ≡ Some e0 = ap (λ (x : List ℕ × Node). slice_get x.1.entries s0.at) one ∙ s0.entry_is in
           let s : StandsAt buffer.nodes pair e0 = record { node = p; at = s0.at; node_is = node_is; entry_is = entry } in
           let has_it : has_execution new pair e0 exec ≡ true

@@ -6,6 +6,8 @@ use Rattle.std.specs.List.{AllByRecursion}
 use Rattle.std.proofs.lemmas.Bool.{false≢true}
 use Rattle.text_words.specs.Members.{has}
 use Rattle.text_words.proofs.KnownMembers.{each_has}
+use Rattle.text_words.proofs.KnownFinds.{map_get}
+use Rattle.exec_rules.proofs.KnownThere.{all_at}
 use Rattle.shared_map.specs.Pairs.{has_key, found}
 use Rattle.doc_nodes.specs.declared.node.Entry.{Entry}
 use Rattle.doc_nodes.specs.declared.node.Node.{Node}
@@ -14,15 +16,14 @@ use Rattle.doc_nodes.proofs.KnownNames.{name_is}
 use Rattle.doc_nodes.specs.Imports.{NodeList}
 use Rattle.core_rules.specs.Assigned.{command_ids}
 use Rattle.core_rules.specs.Updates.{AllDiffer}
-use Rattle.core_rules.proofs.KnownCommands.{ids, same_id, differ_front, differ_back}
+use Rattle.core_rules.proofs.KnownCommands.{ids, id_there, command_there, same_id, differ_front, differ_back}
 use Rattle.buffer_rules.specs.Cuts.{source, commands_of}
 use Rattle.buffer_rules.specs.Nodes.{before_in}
 use Rattle.buffer_rules.specs.Numbers.{Command}
 use Rattle.buffer_laws.specs.Known.{AreBelow, IsNewOr, AreKnown}
 use Rattle.known_versions.specs.Places.{HaveSources}
 use Rattle.known_versions.proofs.Finding.{differ_behind}
-use Rattle.known_versions.proofs.Reporting.{id_there, command_there}
-use Rattle.known_versions.proofs.NodesFound.{mapped_at, map_get}
+use Rattle.known_versions.proofs.NodesFound.{mapped_at}
 
 -- commands of one id stand at one place
 pub one_site : (nodes : NodeList) (q i r j : ℕ) (a b : List ℕ × Node) (x y : Entry) → AllDiffer (command_ids nodes)
@@ -49,11 +50,6 @@ one_site (n ∷ ns) (suc q) i zero j a b x y differ at xt bt yt same =
 one_site (n ∷ ns) (suc q) i (suc r) j a b x y differ at xt bt yt same =
     one_site ns q i r j a b x y (differ_back (ids n.1.entries) (command_ids ns) differ) at xt bt yt same
 
-each_get : {A : Type 0} (Q : A → Type 0) (xs : List A) (i : ℕ) (x : A) → AllByRecursion Q xs → slice_get xs i ≡ Some x → Q x
-each_get Q [] i x all at = absurd (cc)
-each_get Q (y ∷ xs) zero x all at = let same : y ≡ x = cc in subst Q same all.0
-each_get Q (y ∷ xs) (suc i) x all at = each_get Q xs i x all.1 at
-
 -- a node that is found stands somewhere
 pub node_stands : (nodes : NodeList) (name : List ℕ) (node : Node) → found in_order name nodes ≡ Some node
     → (q : ℕ) × (pair : List ℕ × Node) × (slice_get nodes q ≡ Some pair) × (pair.1 ≡ node) × (pair.0 ≡ name)
@@ -69,8 +65,8 @@ node_stands (n ∷ ns) name node is = go (has_key in_order name n) refl is (node
 -- what an update's commands are known to be gives their sources
 pub sources_kept : (tip nodes : NodeList) (next : ℕ) → AllDiffer (command_ids tip) → AreBelow next (command_ids tip) → AreKnown tip next nodes → HaveSources tip nodes
 sources_kept tip nodes next differ below known pair other e f s t same =
-    go (each_get (IsNewOr next (before_in tip pair.0)) (commands_of pair.1) s.at (e.command, source pair.1.text e.range)
-    (each_get (λ p. AllByRecursion (IsNewOr next (before_in tip p.0)) (commands_of p.1)) nodes s.node pair known s.node_is)
+    go (all_at (IsNewOr next (before_in tip pair.0)) (commands_of pair.1) s.at (e.command, source pair.1.text e.range)
+    (all_at (λ p. AllByRecursion (IsNewOr next (before_in tip p.0)) (commands_of p.1)) nodes s.node pair known s.node_is)
     (map_get (λ (x : Entry). (x.command, source pair.1.text x.range)) pair.1.entries s.at e s.entry_is))
   where
     under : f.command < next

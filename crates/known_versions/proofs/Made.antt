@@ -26,7 +26,8 @@ use Rattle.known_versions.specs.declared.known.Known.{Known}
 use Rattle.known_versions.specs.declared.renewing.NewRows.{NewRows}
 use Rattle.known_versions.proofs.Named.{find_by, none_named, of_named, rows_own}
 use Rattle.known_versions.proofs.KnownSources.{node_stands}
-use Rattle.known_versions.proofs.NodesFound.{found_named, map_get}
+use Rattle.text_words.proofs.KnownFinds.{map_get}
+use Rattle.known_versions.proofs.NodesFound.{found_named}
 use Rattle.known_versions.proofs.Updating.{places_renewed, there_renewed}
 use Rattle.known_versions.proofs.Carrying.{ids_by}
 use Rattle.known_versions.proofs.KeptOn.{comes_out_renewed}

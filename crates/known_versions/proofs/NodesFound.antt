@@ -8,6 +8,7 @@ use Rattle.std.specs.List.{AllByRecursion}
 use Rattle.text_words.specs.Members.{has}
 use Rattle.shared_map.specs.Pairs.{IsSorted, has_key, found}
 use Rattle.text_words.proofs.KnownLists.{found_passes}
+use Rattle.text_words.proofs.KnownFinds.{find_all}
 use Rattle.pide_base.specs.declared.part.Part.{Part}
 use Rattle.pide_base.specs.declared.part.PartKind.{PartKind}
 use Rattle.doc_nodes.specs.declared.node.Entry.{Entry}
@@ -19,10 +20,9 @@ use Rattle.doc_nodes.proofs.KnownPlaces.{each_at}
 use Rattle.exec_rules.specs.Listed.{Told}
 use Rattle.core_rules.specs.Parts.{same_part}
 use Rattle.mirror_rules.specs.Images.{FinishedPart, Image}
-use Rattle.mirror_rules.specs.Parts.{reports_at}
+use Rattle.mirror_rules.specs.Parts.{is_at, reports_at}
 use Rattle.mirror_rules.specs.Rows.{executions_of, rows_by}
 use Rattle.known_versions.specs.Places.{PlaceTable, IsThere, AreThere}
-use Rattle.known_versions.proofs.Reporting.{is_at}
 
 -- what is said of each node is found by its name
 pub found_named : {B : Type 0} (f : List ℕ × Node → B) (nodes : NodeList) (q : ℕ) (pair : List ℕ × Node) → IsSorted in_order nodes
@@ -44,11 +44,6 @@ mapped_at f [] q y at = absurd (cc)
 mapped_at f (x ∷ xs) zero y at = (x, refl, cc)
 mapped_at f (x ∷ xs) (suc q) y at = mapped_at f xs q y at
 
-pub map_get : {A B : Type 0} (f : A → B) (xs : List A) (q : ℕ) (x : A) → slice_get xs q ≡ Some x → slice_get (map f xs) q ≡ Some (f x)
-map_get f [] q x at = absurd (cc)
-map_get f (y ∷ xs) zero x at = let same : y ≡ x = cc in ap (λ z. Some (f z)) same
-map_get f (y ∷ xs) (suc q) x at = map_get f xs q x at
-
 -- what rows by these commands list is a command's
 pub row_there : (es : List Entry) (rows : List Told) (c x : ℕ) → has (executions_of (rows_by es rows) c) x ≡ true
     → (i : ℕ) × (e : Entry) × (slice_get es i ≡ Some e) × (e.command ≡ c)
@@ -61,14 +56,6 @@ row_there (e ∷ es) rows c x is = go (e.command == c) refl is (row_there es row
         → (i : ℕ) × (d : Entry) × (slice_get (e ∷ es) i ≡ Some d) × (d.command ≡ c)
     go true same is more = (zero, e, refl, eqb-true e.command c same)
     go false other is more = let rest = more is in (suc rest.0, rest.1, rest.2, rest.3)
-
-found_each : {A : Type 0} (Q : A → Type 0) (p : A → Bool) (xs : List A) (x : A) → AllByRecursion Q xs → find p xs ≡ Some x → Q x
-found_each Q p [] x all is = absurd (cc)
-found_each Q p (y ∷ xs) x all is = go (p y) is (found_each Q p xs x all.1)
-  where
-    go : (b : Bool) → cond b (Some y) (find p xs) ≡ Some x → (find p xs ≡ Some x → Q x) → Q x
-    go true at more = let same : y ≡ x = cc in subst Q same all.0
-    go false at more = more at
 
 -- what isn't there has reported nothing
 pub nothing_there : (table : PlaceTable) (im : Image) → AreThere table im → (exec c : ℕ) → table exec c ≡ None
@@ -83,7 +70,7 @@ nothing_there table im all exec c none kind = go (find (is_at c part) im.finishe
     go (Some f) is =
         let both = and_parts (f.command == c) (same_part f.part part) (found_passes (is_at c part) im.finished f is) in
         let own = and_parts (f.part.exec == exec) _ both.1 in
-        let there = found_each (IsThere table) (is_at c part) im.finished f all is in
+        let there = find_all (is_at c part) (IsThere table) im.finished f all is in
         let e = eqb-true f.command c both.0 in
         let x = eqb-true f.part.exec exec own.0 in
         let at : table exec c ≡ Some there.0 = ap (λ d. table exec d) (sym e) ∙ ap (λ y. table y f.command) (sym x) ∙ there.1 in

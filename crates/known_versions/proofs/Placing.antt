@@ -15,14 +15,14 @@ use Rattle.core_rules.specs.Assigned.{command_ids}
 use Rattle.core_rules.specs.Parts.{same_part, same_kind}
 use Rattle.core_rules.specs.Updates.{AllDiffer}
 use Rattle.mirror_rules.specs.Images.{FinishedPart, Image}
-use Rattle.mirror_rules.specs.Parts.{reports_at}
+use Rattle.mirror_rules.specs.Parts.{is_at, reports_at}
 use Rattle.mirror_rules.specs.Reports.{PartReport, belongs_to, belongs_in, finished_at, with_report}
 use Rattle.mirror_rules.specs.Rows.{rows_of}
 use Rattle.buffer_rules.specs.Cuts.{source}
 use Rattle.known_versions.specs.Places.{StandsAt, has_execution, place_of, PlaceTable, ArePlaced, with_reports, takes, told_at, told_in}
 use Rattle.known_versions.specs.declared.place.Place.{Place}
-use Rattle.known_versions.proofs.Reporting.{is_at, reports_then}
-use Rattle.known_versions.proofs.Finding.{any_at, any_there}
+use Rattle.known_versions.proofs.Reporting.{reports_then}
+use Rattle.text_words.proofs.KnownFinds.{any_at, any_from}
 
 -- a place of these
 abbrev pub made : List ℕ → Option (List Report) → Option (List Report) → Option (List Report) → Place
@@ -140,9 +140,9 @@ module _ (told : PartReport) (table : PlaceTable) (im : Image) (placed : ArePlac
   -- and a command to which it belongs has a place that takes it
   pub belongs_taken : belongs_in told im ≡ true → (command : ℕ) × (place : Place) × (table told.part.exec command ≡ Some place) × (takes told place ≡ true)
   belongs_taken is =
-      let n = any_there (λ p. list_any (belongs_to told p.1 (rows_of im p.0)) p.1.entries) im.nodes is in
+      let n = any_from (λ p. list_any (belongs_to told p.1 (rows_of im p.0)) p.1.entries) im.nodes is in
       let pair = n.1 in
-      let c = any_there (belongs_to told pair.1 (rows_of im pair.0)) pair.1.entries n.3 in
+      let c = any_from (belongs_to told pair.1 (rows_of im pair.0)) pair.1.entries n.3 in
       let e = c.1 in
       let both = and_parts _ _ c.3 in
       (e.command, place_of im pair e told.part.exec, placed.there pair e told.part.exec (record { node = n.0; at = c.0; node_is = n.2; entry_is = c.2 }) both.0, both.1)

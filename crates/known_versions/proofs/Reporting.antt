@@ -4,7 +4,9 @@ use Rattle.std.proofs.lemmas.Bool.{or_parts}
 use Rattle.std.specs.Prelude.{find, slice_get, flat_map, ◌==◌, ◌&&◌, if◌then◌else◌}
 use Rattle.std.specs.Option.{option_map, option_or}
 use Rattle.text_words.specs.Members.{has}
-use Rattle.text_words.proofs.KnownMembers.{has_both, has_itself, has_tail, has_left, has_right}
+use Rattle.text_words.proofs.KnownMembers.{apart, has_both, has_itself, has_tail, has_left, has_right}
+use Rattle.text_words.proofs.KnownLists.{differ_turned}
+use Rattle.text_words.proofs.KnownFinds.{find_behind}
 use Rattle.std.proofs.lemmas.List.Folds.{find-append}
 use Rattle.pide_base.specs.declared.part.Part.{Part}
 use Rattle.doc_nodes.specs.declared.node.Entry.{Entry}
@@ -14,33 +16,13 @@ use Rattle.exec_rules.specs.Listed.{Told}
 use Rattle.core_rules.specs.Assigned.{command_ids}
 use Rattle.core_rules.specs.Parts.{same_part}
 use Rattle.core_rules.specs.Updates.{AllDiffer}
-use Rattle.core_rules.proofs.KnownCommands.{ids, differ_back, differ_front}
+use Rattle.core_rules.proofs.KnownCommands.{ids, id_there, command_there, differ_apart, differ_back, differ_front}
 use Rattle.mirror_rules.specs.Images.{FinishedPart, Image}
-use Rattle.mirror_rules.specs.Parts.{reports_at}
+use Rattle.mirror_rules.specs.Parts.{is_at, reports_at}
 use Rattle.mirror_rules.specs.Reports.{PartReport, belongs_to, finished_at, finished_by, with_report}
 use Rattle.mirror_rules.specs.Rows.{rows_of}
 use Rattle.known_versions.specs.Places.{StandsAt}
-use Rattle.known_versions.proofs.Finding.{find_behind, find_before, apart, flipped, differ_before, differ_behind}
-
-abbrev pub is_at : ℕ → Part → FinishedPart → Bool
-is_at c p f = f.command == c && same_part f.part p
-
--- the id of a command that is there
-pub id_there : (es : List Entry) (i : ℕ) (e : Entry) → slice_get es i ≡ Some e → has (ids es) e.command ≡ true
-id_there [] i e at = absurd (cc)
-id_there (x ∷ es) zero e at =
-    let same : x ≡ e = cc in ap (λ (y : Entry). has (ids (x ∷ es)) y.command) (sym same) ∙ has_itself (ids es) x.command
-id_there (x ∷ es) (suc i) e at = has_tail x.command e.command (ids es) (id_there es i e at)
-
-pub command_there : (nodes : NodeList) (q i : ℕ) (pair : List ℕ × Node) (e : Entry) → slice_get nodes q ≡ Some pair
-    → slice_get pair.1.entries i ≡ Some e → has (command_ids nodes) e.command ≡ true
-command_there [] q i pair e at there = absurd (cc)
-command_there (n ∷ ns) zero i pair e at there =
-    let same : n ≡ pair = cc in
-    has_left (ids n.1.entries) (command_ids ns) e.command
-    (subst (λ (x : List ℕ × Node). has (ids x.1.entries) e.command ≡ true) (sym same) (id_there pair.1.entries i e there))
-command_there (n ∷ ns) (suc q) i pair e at there =
-    has_right (ids n.1.entries) (command_ids ns) e.command (command_there ns q i pair e at there)
+use Rattle.known_versions.proofs.Finding.{find_before, differ_behind}
 
 module _ (told : PartReport) (c : ℕ) (p : Part) where
   module _ (node : Node) (rows : List Told) where
@@ -56,7 +38,7 @@ module _ (told : PartReport) (c : ℕ) (p : Part) where
     others [] out = refl
     others (e ∷ es) out =
         let parts = or_parts (c == e.command) (has (ids es) c) out in
-        find_behind (is_at c p) (finished_by told node rows e) (flat_map (finished_by told node rows) es) (other_one e (flipped c e.command parts.0))
+        find_behind (is_at c p) (finished_by told node rows e) (flat_map (finished_by told node rows) es) (other_one e (differ_turned c e.command parts.0))
         ∙ others es parts.1
 
     pub own_one : (i : ℕ) (e : Entry) (es : List Entry) → AllDiffer (ids es) → slice_get es i ≡ Some e → e.command ≡ c
@@ -99,7 +81,7 @@ module _ (told : PartReport) (c : ℕ) (p : Part) where
     own_node (n ∷ ns) (suc q) i pair e differ at there is =
         find_behind (is_at c p) (node_finished n) (flat_map node_finished ns)
         (others n.1 (rows_of im n.0) n.1.entries
-        (differ_before (ids n.1.entries) (command_ids ns) c differ (ap (λ d. has (command_ids ns) d) (sym is) ∙ command_there ns q i pair e at there)))
+        (differ_apart (ids n.1.entries) (command_ids ns) c differ (ap (λ d. has (command_ids ns) d) (sym is) ∙ command_there ns q i pair e at there)))
         ∙ own_node ns q i pair e (differ_back (ids n.1.entries) (command_ids ns) differ) at there is
 
     -- a command's part has what is finished at the command by the report, or what it had

@@ -15,7 +15,7 @@ use Rattle.known_versions.specs.Kept.{told_rows}
 use Rattle.known_versions.specs.Renewed.{gives, is_stale, stale_of, stale_in, fresh_in, fresh_of, fresh_all}
 use Rattle.known_versions.specs.declared.place.Place.{Place}
 use Rattle.known_versions.specs.declared.renewing.NewRows.{NewRows}
-use Rattle.known_versions.proofs.Finding.{flipped}
+use Rattle.text_words.proofs.KnownLists.{differ_turned}
 
 abbrev pub row_ids : List CommandRow → List ℕ
 row_ids rows = map (λ row. row.command) rows
@@ -27,7 +27,7 @@ none_gives : (rows : List CommandRow) (exec c : ℕ) → has (row_ids rows) c �
 none_gives [] exec c out = refl
 none_gives (row ∷ rows) exec c out =
     let parts = or_parts (c == row.command) (has (row_ids rows) c) out in
-    ap (λ b. (b && has row.executions exec) || any_gives rows exec c) (flipped c row.command parts.0) ∙ none_gives rows exec c parts.1
+    ap (λ b. (b && has row.executions exec) || any_gives rows exec c) (differ_turned c row.command parts.0) ∙ none_gives rows exec c parts.1
 
 or_no : (b : Bool) → (b || false) ≡ b
 or_no true = refl

@@ -12,7 +12,7 @@ use Rattle.mirror_rules.specs.Rows.{executions_of}
 use Rattle.known_versions.specs.Kept.{told_rows}
 use Rattle.known_versions.specs.declared.renewing.NewRows.{NewRows}
 use Rattle.known_versions.specs.declared.place.Place.{Place}
-use Rattle.known_versions.proofs.Finding.{flipped}
+use Rattle.text_words.proofs.KnownLists.{differ_turned}
 
 abbrev pub row_with : ℕ → List ℕ → CommandRow
 row_with command executions = record { command = command; executions = executions }
@@ -42,7 +42,7 @@ module _ (command exec : ℕ) (more kept : List ℕ) (table : PlaceTable) where
           both : (b : Bool) (o : Option Place) → o ≡ None → (if b then None else o) ≡ None
           both true o is = refl
           both false o is = is
-      go true false other = ap (λ b. if (b || has more e) && not (has kept e) then None else table e c) (sym (flipped exec e other))
+      go true false other = ap (λ b. if (b || has more e) && not (has kept e) then None else table e c) (sym (differ_turned exec e other))
 
   -- one that is kept stays
   pub leaves_in : has kept exec ≡ true
@@ -93,10 +93,6 @@ row_left kept row more table after so e c = ap (λ o. if is_stale more kept e c 
     go true same =
         ap (λ d. if list_any (λ r. gives r e c) more && not (has (kept c) e) then None else (if has row.executions e && not (has (kept d) e) then None else table e c)) (eqb-true row.command c same)
         ∙ mine (has row.executions e) (list_any (λ r. gives r e c) more) (has (kept c) e)
-
-pub on_ok : {T E : Type 0} (r : Result T E) (P Q : Type 0) → (P → Q) → OnOk r P → OnOk r Q
-on_ok (Ok x) P Q f p = f p
-on_ok (Err x) P Q f p = tt
 
 -- what an index keeps is what is made of the node
 pub stale_same : (rows : List CommandRow) (new : NewRows) (o : Option NewRows) (kept : ℕ → List ℕ) → o ≡ Some new → new.stays ≡ false

@@ -18,16 +18,14 @@ use Rattle.reply_writing.specs.declared.told.NodeRows.{NodeRows}
 use Rattle.buffer_rules.specs.Cuts.{source}
 use Rattle.buffer_rules.specs.Preparing.{Buffer}
 use Rattle.mirror_rules.specs.Images.{FinishedPart, Image}
-use Rattle.mirror_rules.specs.Parts.{reports_at}
+use Rattle.mirror_rules.specs.Parts.{is_at, reports_at}
 use Rattle.mirror_rules.specs.Rows.{executions_of, rows_of, node_rows}
 use Rattle.mirror_rules.specs.Updates.{stands, image_after}
 use Rattle.known_versions.specs.Places.{StandsAt, has_execution, place_of, PlaceTable, ArePlaced, IsThere, AreThere, or_unreported, AreRenewed, HaveSources}
 use Rattle.known_versions.specs.declared.place.Place.{Place}
-use Rattle.known_versions.proofs.Finding.{find_kept}
-use Rattle.known_versions.proofs.Reporting.{is_at}
+use Rattle.text_words.proofs.KnownFinds.{any_at, any_from, find_kept, map_get}
 use Rattle.known_versions.proofs.Placing.{same_place}
-use Rattle.known_versions.proofs.Finding.{any_at, any_there}
-use Rattle.known_versions.proofs.NodesFound.{found_named, mapped_at, map_get, row_there, nothing_there}
+use Rattle.known_versions.proofs.NodesFound.{found_named, mapped_at, row_there, nothing_there}
 
 module _ (tip : Image) (listed : List NodeRows) (buffer : Buffer) (sorted : IsSorted in_order buffer.nodes) where
   abbrev new : Image
@@ -97,7 +95,7 @@ module _ (tip : Image) (listed : List NodeRows) (buffer : Buffer) (sorted : IsSo
 
     still_there : (f : FinishedPart) → stands new.rows f ≡ true → IsThere after f
     still_there f is =
-        let row = any_there (λ node. has (executions_of node.1 f.command) f.part.exec) new.rows is in
+        let row = any_from (λ node. has (executions_of node.1 f.command) f.part.exec) new.rows is in
         let from = mapped_at (node_rows tip listed) buffer.nodes row.0 row.1 row.2 in
         let pair = from.0 in
         let here : has (executions_of (node_rows tip listed pair).1 f.command) f.part.exec ≡ true

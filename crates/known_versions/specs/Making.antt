@@ -6,6 +6,7 @@ use Rattle.shared_map.specs.Pairs.{found}
 use Rattle.doc_nodes.specs.declared.node.Node.{Node}
 use Rattle.doc_nodes.specs.Names.{in_order}
 use Rattle.doc_nodes.specs.Imports.{NodeList, place_of}
+use Rattle.buffer_rules.specs.Nodes.{AreKept}
 use Rattle.core_rules.specs.Assigned.{command_ids}
 use Rattle.core_rules.specs.Updates.{AllDiffer}
 use Rattle.reply_writing.specs.declared.told.CommandRow.{CommandRow}
@@ -46,14 +47,9 @@ AreMadeBy tip marks listing nodes made = (p : ℕ) (pair : List ℕ × Node)
     → slice_get nodes p ≡ Some pair → (new : NewRows) × (slice_get made p ≡ Some new)
     × IsMadeBy tip (is_marked marks p) (listed_at listing p) pair new
 
--- marked nodes are those of the version before
-abbrev pub AreUntouched : NodeList → List Bool → NodeList → Type 0
-AreUntouched tip marks nodes = (p : ℕ) (pair : List ℕ × Node) → slice_get marks p ≡ Some true
-    → slice_get nodes p ≡ Some pair → found in_order pair.0 tip ≡ Some pair.1
-
 -- nodes that an update of a version may make: marked ones are the version's, commands that stay
 -- have their sources still, and no two have one id
 pub record FitsTip (image : Image) (marks : List Bool) (nodes : NodeList) : Type 0 where
-  pub kept : AreUntouched image.nodes marks nodes
+  pub kept : AreKept image.nodes marks nodes
   pub sources : HaveSources image.nodes nodes
   pub differ : AllDiffer (command_ids nodes)

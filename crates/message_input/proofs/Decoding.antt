@@ -1,5 +1,6 @@
 -- What a decoder hands out, and how its stream ends.
 use Rattle.std.proofs.Common.{◌≡◌, [], ◌∷◌, ◌++◌, List, ℕ, Option, None, Some, refl, sym, ap, ◌∙◌, subst, append-nil}
+use Rattle.text_words.proofs.KnownLists.{no_parts}
 use Rattle.byte_message.proofs.KnownEndings.{reads}
 use Rattle.byte_message.specs.Feeding.{ending_by, ending_of}
 use Rattle.byte_message.specs.Heading.{heading}
@@ -52,10 +53,6 @@ none_spelled front (m ∷ ms) e (first, rest, parts, one, others) = absurd (neve
     never [] p i = absurd (let no : ⊥ = cc in no)
     never (b ∷ bytes) p i = absurd (let no : ⊥ = cc in no)
 
-parts_none : (front rest : List ℕ) → [] ≡ front ++ rest → (front ≡ []) × (rest ≡ [])
-parts_none [] rest e = (refl, sym e)
-parts_none (b ∷ front) rest e = absurd (let no : ⊥ = cc in no)
-
 none_faulty : (fault : Option FrameFault) (at : ℕ) (rest kept : List ℕ) → rest ≡ [] → KeepsRest fault at rest kept → fault ≡ None
 none_faulty None at rest kept e k = refl
 none_faulty (Some fault) at rest kept e (wrong, bad, p) =
@@ -64,5 +61,5 @@ none_faulty (Some fault) at rest kept e (wrong, bad, p) =
 -- at the beginning nothing waits and nothing is at fault
 pub begins : (now : Framing) → Stands [] [] now → (now.waiting ≡ []) × (now.fault ≡ None)
 begins now s =
-    let parts = parts_none s.reached.front s.rest s.reached.whole in
+    let parts = no_parts s.reached.front s.rest s.reached.whole in
     (s.reached.made ∙ none_spelled s.reached.front s.reached.more parts.0 s.reached.spelled, none_faulty now.fault now.at s.rest now.rest parts.1 s.kept)

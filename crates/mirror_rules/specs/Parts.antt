@@ -14,13 +14,16 @@ use Rattle.mirror_rules.specs.Forking.{may_fork, forks_by}
 use Rattle.buffer_rules.specs.Cuts.{source}
 use Rattle.core_rules.specs.Parts.{same_part}
 use Rattle.core_rules.specs.Shown.{PartShown}
-use Rattle.mirror_rules.specs.Images.{Image}
+use Rattle.mirror_rules.specs.Images.{FinishedPart, Image}
 use Rattle.mirror_rules.specs.Rows.{executions_of, rows_of}
+
+-- whether it is what the part came to at the command
+abbrev pub is_at : ℕ → Part → FinishedPart → Bool
+is_at command part f = f.command == command && same_part f.part part
 
 -- what a part reported at a command, where it is finished
 abbrev pub reports_at : Image → ℕ → Part → Option (List Report)
-reports_at image command part = option_map (λ f. f.reports)
-    (find (λ f. f.command == command && same_part f.part part) image.finished)
+reports_at image command part = option_map (λ f. f.reports) (find (is_at command part) image.finished)
 
 -- a command's part of this kind, of an execution
 abbrev pub part_of : Image → Entry → PartKind → ℕ → PartShown

@@ -1,5 +1,6 @@
 -- Before anything was heard.
 use Rattle.std.proofs.Common.{◌≡◌, ℕ, ◌+◌, inl, List, [], ◌∷◌, ◌++◌, length, Option, Some, None, refl, ap, sym, subst, ◌∙◌}
+use Rattle.text_words.proofs.KnownLists.{no_parts}
 use Rattle.byte_message.specs.Heading.Heading.{Faulty, Unended}
 use Rattle.byte_message.specs.Kept.{Framing, KeepsRest, Stands}
 use Rattle.byte_message.specs.Stream.{IsShort, told_place}
@@ -18,10 +19,6 @@ stands_first = record {
   kept = (refl, inl refl);
 }
 
-no_bytes : (a b : List ℕ) → [] ≡ a ++ b → (a ≡ []) × (b ≡ [])
-no_bytes [] b is = (refl, sym is)
-no_bytes (x ∷ a) b is = absurd (cc)
-
 kept_first : (fault : Option FrameFault) (at : ℕ) (kept : List ℕ) → KeepsRest fault at [] kept → (kept ≡ []) × (fault ≡ None)
 kept_first None at kept is = (sym is.0, refl)
 kept_first (Some fault) at kept is = let both : Unended ≡ Faulty is.0 = is.1 in absurd (cc)
@@ -31,7 +28,7 @@ pub at_first : (frames : Framing) → Stands [] [] frames
     → (frames.waiting ≡ []) × (frames.at ≡ told_place 0) × (frames.rest ≡ []) × (frames.fault ≡ None)
 at_first frames stands =
     let r = stands.reached in
-    let none = no_bytes r.front stands.rest r.whole in
+    let none = no_parts r.front stands.rest r.whole in
     let kept = kept_first frames.fault frames.at frames.rest (subst (λ bytes. KeepsRest frames.fault frames.at bytes frames.rest) none.1 stands.kept) in (
       (same-read [] [] frames none_read stands stands_first).0,
       r.place ∙ ap (λ (bytes : List ℕ). told_place (0 + length bytes)) none.0,

@@ -29,8 +29,3 @@ pub command_ids : (table : PlaceTable) (aliases : AliasList) (e : Entry) (execut
 command_ids table aliases e [] ids = tt
 command_ids table aliases e (x ∷ prints) ids = each-both HasId (evaluation_kept aliases e x (table x e.command)) (map (print_kept table e) prints)
     (evaluation_ids aliases e x (table x e.command) ids.0) (prints_ids table e prints ids.1)
-
--- what follows from what holds behind a call does so too
-pub ok_so : {A E : Type 0} (result : Result A E) (P Q : Type 0) → (P → Q) → OnOk result P → OnOk result Q
-ok_so (Ok done) P Q so is = so is
-ok_so (Err error) P Q so is = is

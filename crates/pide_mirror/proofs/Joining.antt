@@ -6,6 +6,7 @@ use Rattle.byte_message.specs.Stream.{IsShort}
 use Rattle.message_values.specs.declared.mode.Mode.{Mode}
 use Rattle.mirror_rules.specs.Events.{AreHeard, AreMoves, AreSpelled, MirrorEvent, Fed, Given, heard_moves, stream}
 use Rattle.mirror_rules.specs.Moves.{Move, Sent, Heard, Broken}
+use Rattle.mirror_rules.proofs.KnownMoves.{heard_both}
 use Rattle.pide_mirror.specs.Feeding.{Hears, HearsFront}
 use Rattle.pide_mirror.specs.Hearing.{Hearing, HasHeard}
 
@@ -16,12 +17,6 @@ heard_all front rest (Sent read ∷ moves) spelled short = absurd spelled
 heard_all front rest (Broken fault ∷ moves) spelled short = absurd spelled
 heard_all front rest (Heard at reply ∷ moves) spelled short = (front, rest, refl, short, spelled)
 
-pub heard_joined : (a b : List Move) → heard_moves (a ++ b) ≡ heard_moves a ++ heard_moves b
-heard_joined [] b = refl
-heard_joined (Sent read ∷ a) b = heard_joined a b
-heard_joined (Heard at reply ∷ a) b = ap (λ ms. Heard at reply ∷ ms) (heard_joined a b)
-heard_joined (Broken fault ∷ a) b = ap (λ ms. Broken fault ∷ ms) (heard_joined a b)
-
 -- the moves that two pieces come to are those of both joined
 pub moves_joined : (mode : Mode) (events : List MirrorEvent) (a b : List ℕ) (moves : List Move)
     → AreMoves mode (Fed b ∷ Fed a ∷ events) moves → AreMoves mode (Fed (a ++ b) ∷ events) moves
@@ -29,7 +24,7 @@ moves_joined mode events a b moves (before, new, is, new_is, (older, newer, befo
   older,
   new ++ newer,
   is ∙ ap (λ ms. new ++ ms) before_is ∙ sym (append_assoc new newer older),
-  heard_joined new newer ∙ ap (λ ms. ms ++ heard_moves newer) new_is ∙ ap (λ ms. new ++ ms) newer_is,
+  heard_both new newer ∙ ap (λ ms. ms ++ heard_moves newer) new_is ∙ ap (λ ms. new ++ ms) newer_is,
   come,
   subst (λ bytes. AreHeard bytes (heard_moves moves)) (append_assoc (stream events) a b) all,
 )

@@ -10,7 +10,7 @@ use Rattle.doc_nodes.specs.Imports.{NodeList}
 use Rattle.core_rules.specs.Assigned.{command_ids}
 use Rattle.core_rules.specs.Updates.{AllDiffer}
 use Rattle.buffer_laws.specs.Known.{AreBelow, AreKnown}
-use Rattle.buffer_rules.specs.Nodes.{Numbered, nodes_after}
+use Rattle.buffer_rules.specs.Nodes.{AreKept, Numbered, nodes_after}
 use Rattle.buffer_rules.specs.Preparing.{Buffer, prepared, within_limits}
 use Rattle.buffer_rules.specs.Sheets.{SheetList}
 use Rattle.buffer_rules.specs.Updates.{Asked, document_after}
@@ -22,7 +22,6 @@ use Rattle.mirror_rules.specs.Images.{Mirror}
 use Rattle.std.proofs.lemmas.Bool.{lt-ltb}
 use Rattle.editor_buffer.specs.Preparation.{Preparation}
 use Rattle.message_values.specs.declared.refusal.Refusal.TheVariants.{VersionNotHigher}
-use Rattle.known_versions.specs.Making.{AreUntouched}
 use Rattle.known_versions.specs.Places.{HaveSources}
 use Rattle.pide_mirror.specs.Knowing.{IsDocument, FitsUpdate}
 use Rattle.pide_mirror.specs.declared.document.Document.{Document as Knowledge}
@@ -83,7 +82,7 @@ prepared_of before after live asked is = go (document_after asked before.documen
 -- an update that is prepared is the editor's, and its version can be made of the tip's
 pub fits_update : (document : Knowledge) (m : Mirror) (is : IsDocument document m) (id : ℕ) (asked : Asked) (made : Preparation)
     → m.last < id → prepared document.buffer (length document.live.items) asked ≡ Ok made.after
-    → AreUntouched document.buffer.nodes made.untouched made.after.nodes → IsSorted in_order made.after.nodes
+    → AreKept document.buffer.nodes made.untouched made.after.nodes → IsSorted in_order made.after.nodes
     → ((tip : NodeList) (sheets : SheetList) (next : ℕ) → AreKnown tip next (nodes_after tip sheets next).nodes)
     → ((tip : NodeList) (sheets : SheetList) (next : ℕ) → map (λ pair. pair.0) (nodes_after tip sheets next).nodes ≡ map (λ pair. pair.0) sheets)
     → ((tip : NodeList) (sheets : SheetList) (next : ℕ) → IsSorted in_order sheets → AllDiffer (command_ids tip) → AreBelow next (command_ids tip)
@@ -94,7 +93,7 @@ pub fits_update : (document : Knowledge) (m : Mirror) (is : IsDocument document 
 fits_update document m is id asked made later done untouched sorted known names differ below = record {
   prepared = ap (λ b. if b then prepared m.buffer (length m.live) asked else Err VersionNotHigher) (lt-ltb m.last id later) ∙ whole;
   fits = record {
-    kept = subst (λ ns. AreUntouched ns made.untouched made.after.nodes) (ap (λ (b : Buffer). b.nodes) is.buffer ∙ sym is.nodes) untouched;
+    kept = subst (λ ns. AreKept ns made.untouched made.after.nodes) (ap (λ (b : Buffer). b.nodes) is.buffer ∙ sym is.nodes) untouched;
     sources = subst (λ ns. HaveSources ns made.after.nodes) (sym is.nodes) (sources_kept m.buffer.nodes made.after.nodes m.buffer.next mine is.below
         (subst (λ ns. AreKnown m.buffer.nodes m.buffer.next ns) (sym of.nodes) (known m.buffer.nodes of.sheets m.buffer.next)));
     differ = subst (λ ns. AllDiffer (command_ids ns)) (sym of.nodes) (differ m.buffer.nodes of.sheets m.buffer.next

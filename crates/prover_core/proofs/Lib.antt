@@ -60,7 +60,6 @@ mod PlannedKept
 mod LiveIds
 mod HasTurned
 mod RemovedKept
-mod RisenRange
 mod ShownParts
 mod ShownRows
 mod NodeShown

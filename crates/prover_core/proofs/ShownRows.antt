@@ -23,7 +23,7 @@ use Rattle.prover_core.specs.Kept.{Tables, IsKept}
 use Rattle.exec_lists.specs.Parts.{parts_known, rows_known, is_unfinished}
 use Rattle.prover_core.specs.Results.{is_reported}
 use Rattle.prover_core.proofs.OpenRows.{row_known, done_closed}
-use Rattle.prover_core.proofs.RisenRange.{risen_range}
+use Rattle.import_rounds.proofs.KnownRising.{risen_range}
 use Rattle.prover_core.proofs.ShownParts.{execution_shown}
 
 filter_flat : {A B : Type 0} (test : B → Bool) (f : A → List B) (xs : List A) → filter test (flat_map f xs) ≡ flat_map (λ x. filter test (f x)) xs

@@ -11,7 +11,9 @@ use Rattle.std.proofs.lemmas.List.Folds.{find-append}
 use Rattle.shared_map.specs.Pairs.{Each, IsSorted, has_key, found}
 use Rattle.shared_map.specs.Cuts.{before, behind, at_key}
 use Rattle.shared_map.specs.Changes.{put, without, united}
-use Rattle.shared_map.proofs.Lists.{or_none, Each-along, filter_all, filter_none, find_none, find_kept, find_dropped}
+use Rattle.text_words.proofs.KnownFinds.{find_kept}
+use Rattle.text_words.proofs.KnownOptions.{or_none}
+use Rattle.shared_map.proofs.Lists.{Each-along, filter_all, filter_none, find_none, find_dropped}
 use Rattle.shared_map.specs.KeyCut.{is_cut-at_key}
 use Rattle.std.proofs.lemmas.Option.{none-some}
 
@@ -31,11 +33,11 @@ module _ {K V : Type 0} {cmp : K → K → Ordering} (total : IsTotalOrder cmp) 
         → find (has_key cmp q) (before (at_key cmp key) xs) ≡ cond (is_gt o) (find (has_key cmp q) xs) None
     found_before Less e = find_dropped (has_key cmp q) (λ p. is_lt (cmp p.0 key)) (λ x has. ap is_lt (as_key key q Less e x has)) xs
     found_before Equal e = find_dropped (has_key cmp q) (λ p. is_lt (cmp p.0 key)) (λ x has. ap is_lt (as_key key q Equal e x has)) xs
-    found_before Greater e = find_kept (has_key cmp q) (λ p. is_lt (cmp p.0 key)) (λ x has. ap is_lt (as_key key q Greater e x has)) xs
+    found_before Greater e = find_kept (has_key cmp q) (λ p. is_lt (cmp p.0 key)) xs (λ x has. ap is_lt (as_key key q Greater e x has))
 
     pub found_behind : (o : Ordering) → cmp key q ≡ o
         → find (has_key cmp q) (behind (at_key cmp key) xs) ≡ cond (is_lt o) (find (has_key cmp q) xs) None
-    found_behind Less e = find_kept (has_key cmp q) (λ p. is_gt (cmp p.0 key)) (λ x has. ap is_gt (as_key key q Less e x has)) xs
+    found_behind Less e = find_kept (has_key cmp q) (λ p. is_gt (cmp p.0 key)) xs (λ x has. ap is_gt (as_key key q Less e x has))
     found_behind Equal e = find_dropped (has_key cmp q) (λ p. is_gt (cmp p.0 key)) (λ x has. ap is_gt (as_key key q Equal e x has)) xs
     found_behind Greater e = find_dropped (has_key cmp q) (λ p. is_gt (cmp p.0 key)) (λ x has. ap is_gt (as_key key q Greater e x has)) xs
 

@@ -1,7 +1,6 @@
 -- What holds of each item, and what a filter or a search leaves of a list.
 use Rattle.std.proofs.Common.{◌≡◌, ◌≤◌, ◌+◌, Bool, true, false, cond, List, [], ◌∷◌, ◌++◌, length, filter, Option, Some, None, Result, Ok, Err, IfOk, refl, sym, ◌∙◌, ap, arith, length-append}
 use Rattle.std.specs.Prelude.{find}
-use Rattle.std.specs.Option.{option_or}
 use Rattle.std.proofs.lemmas.Bool.{false≢true}
 use Rattle.shared_map.specs.Pairs.{Each}
 
@@ -54,19 +53,7 @@ module _ {X : Type 0} (f : X → Bool) where
   find_none (x ∷ xs) all = ap (λ b. cond b (Some x) (find f xs)) all.0 ∙ find_none xs all.1
 
 module _ {X : Type 0} (f g : X → Bool) where
-  -- a search goes on as before where the filter keeps what it looks for
-  pub find_kept : ((x : X) → f x ≡ true → g x ≡ true) → (xs : List X) → find f (filter g xs) ≡ find f xs
-  find_kept keeps [] = refl
-  find_kept keeps (x ∷ xs) = go (f x) refl (g x) refl (find_kept keeps xs)
-    where
-      go : (a : Bool) → f x ≡ a → (b : Bool) → g x ≡ b → find f (filter g xs) ≡ find f xs
-          → find f (cond b (x ∷ filter g xs) (filter g xs)) ≡ cond a (Some x) (find f xs)
-      go true e true h rest = ap (λ b. cond b (Some x) (find f (filter g xs))) e
-      go true e false h rest = absurd (false≢true (sym h ∙ keeps x e))
-      go false e true h rest = ap (λ b. cond b (Some x) (find f (filter g xs))) e ∙ rest
-      go false e false h rest = rest
-
-  -- and finds nothing where the filter drops what it looks for
+  -- a search finds nothing where the filter drops what it looks for
   pub find_dropped : ((x : X) → f x ≡ true → g x ≡ false) → (xs : List X) → find f (filter g xs) ≡ None
   find_dropped drops [] = refl
   find_dropped drops (x ∷ xs) = go (g x) refl (f x) refl (find_dropped drops xs)
@@ -121,7 +108,3 @@ length_of all l x r whole = omega (arith, ap length whole, length-append l (x �
 pub ok_along : {T E : Type 0} (r : Result T E) (a b : T) → a ≡ b → IfOk r (λ t. t ≡ a) → IfOk r (λ t. t ≡ b)
 ok_along (Ok t) a b e is = is ∙ e
 ok_along (Err error) a b e is = tt
-
-pub or_none : {X : Type 0} (o : Option X) → option_or o None ≡ o
-or_none None = refl
-or_none (Some x) = refl

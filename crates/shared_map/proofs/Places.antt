@@ -14,7 +14,8 @@ use Rattle.shared_map.specs.Pairs.{Each, IsSorted}
 use Rattle.shared_map.specs.Cuts.{IsCut, before, behind, at_key}
 use Rattle.shared_map.specs.Changes.{put}
 use Rattle.shared_map.specs.KeyCut.{is_cut-at_key}
-use Rattle.shared_map.proofs.Lists.{or_none, Each-along, filter_all, filter_none, find_none}
+use Rattle.text_words.proofs.KnownOptions.{or_none}
+use Rattle.shared_map.proofs.Lists.{Each-along, filter_all, filter_none, find_none}
 use Rattle.shared_map.proofs.KnownSorted.{IsFork, fork_of}
 
 not_less : (o p : Ordering) → (p ≡ Less → o ≡ Less) → is_lt o ≡ false → is_lt p ≡ false

@@ -108,3 +108,8 @@ map_alike f g same (x ∷ xs) = ap₂ (λ y ys. y ∷ ys) (same x) (map_alike f 
 -- so is the test of numbers
 pub differ_turned : (m n : ℕ) → (m == n) ≡ false → (n == m) ≡ false
 differ_turned m n differ = ne_eqb n m (λ e. both_ways (m == n) differ (eq-eqb m n (sym e)))
+
+-- the parts of nothing are nothing
+pub no_parts : {X : Type 0} (xs ys : List X) → [] ≡ xs ++ ys → (xs ≡ []) × (ys ≡ [])
+no_parts [] ys is = (refl, sym is)
+no_parts (x ∷ xs) ys is = absurd (cc)

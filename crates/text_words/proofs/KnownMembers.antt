@@ -4,7 +4,7 @@ use mathlib.Core.Bool.{false≢true}
 use Rattle.std.specs.List.{Contains, dedup, list_all, AllByRecursion}
 use Rattle.std.specs.Prelude.{◌==◌}
 use Rattle.std.specs.Cmp.Derive.{one_truth}
-use Rattle.std.proofs.lemmas.Bool.{eqb-true, and_from, and_parts, or_left, or_right, or_cases}
+use Rattle.std.proofs.lemmas.Bool.{eqb-true, and_from, and_parts, or_left, or_right, or_cases, ne_eqb}
 use Rattle.std.proofs.lemmas.Bool.Decides.{nat_tests}
 use Rattle.std.proofs.lemmas.List.Folds.{list_any_at, list_any-append}
 use Rattle.std.proofs.lemmas.List.Kept.{Contains-dedup_nat, Contains-from_dedup}
@@ -116,6 +116,10 @@ each_has P (x ∷ xs) e all is = go (or_cases (e == x) (has xs e) is) (each_has 
     go : ((e == x) ≡ true) ⊎ (has xs e ≡ true) → (has xs e ≡ true → P e) → P e
     go (inl same) rest = subst P (sym (eqb-true e x same)) all.0
     go (inr there) rest = rest there
+
+-- one that a list has differs from one that it hasn't
+pub apart : (xs : List ℕ) (c d : ℕ) → has xs c ≡ false → has xs d ≡ true → (c == d) ≡ false
+apart xs c d out is = ne_eqb c d (λ e. false≢true (sym out ∙ ap (λ x. has xs x) e ∙ is))
 
 -- what a list has with one number behind it, and is not that one, it has
 pub has_other : (front : List ℕ) (p q : ℕ) → (p == q) ≡ false → has (front ++ p ∷ []) q ≡ true → has front q ≡ true

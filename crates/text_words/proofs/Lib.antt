@@ -4,3 +4,4 @@ pub mod KnownPieces
 pub mod KnownLists
 pub mod KnownMembers
 pub mod KnownOptions
+pub mod KnownFinds

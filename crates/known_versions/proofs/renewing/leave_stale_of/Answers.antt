@@ -2,10 +2,11 @@
 use Rattle.std.proofs.Common.{◌≡◌, Some, None, false, ap, sym, ◌∙◌}
 use Rattle.std.specs.Prelude.{if◌then◌else◌}
 use Rattle.std.specs.Option.{option_copied}
+use Rattle.pide_base.proofs.KnownOutcomes.{on_ok_so}
 use Rattle.known_versions.specs.Tables.{table_of}
 use Rattle.known_versions.specs.Indexed.{row_at, executions_in}
 use Rattle.known_versions.proofs.Indexing.{first_of, executions_first}
-use Rattle.known_versions.proofs.Stepping.{on_ok, stale_same}
+use Rattle.known_versions.proofs.Stepping.{stale_same}
 use Rattle.known_versions.proofs.renewing.leave_stale_of.Goals as goal
 
 pub returns-in_ok-indexed-in-Some-2 : goal.returns-in_ok-indexed-in-Some-2
@@ -14,7 +15,7 @@ returns-in_ok-indexed-in-Some-2 c =
     let both : Some c.in-Some.new ≡ Some c.in-Some-2.new = sym c.in-Some.is ∙ c.in-Some-2.is in
     let one : c.in-Some.new ≡ c.in-Some-2.new = cc in
     let stays : new.stays ≡ false = ap (λ n. n.now.stays) (sym one) ∙ c.if-new.false in
-    on_ok c.leave_rows.result _ _
+    on_ok_so c.leave_rows.result _ _
     (λ so e d. so e d ∙ ap (λ b. if b then None else table_of c.args.places.now e d)
     (stale_same c.args.rows.now new (option_copied c.args.made) (λ command. executions_in (row_at c.in_ok-indexed-in-Some-2.field-0.entries command))
     (ap option_copied c.in-Some-2.is) stays (λ k. ap executions_in (c.in_ok-indexed-in-Some-2.ensures k)
