@@ -71,10 +71,11 @@ impl<S> Job<S> {
         self.source.get().as_slice()
     }
 
-    /// Whether the work is likely to take less time than a worker needs to awake: that of a short
-    /// command without a blob, whose state is there. A print may search, so it is none.
+    /// Whether the work is likely to take less time than a worker needs to awake: the evaluation of
+    /// a short command without a blob, whose state is there. A fork checks a proof, and a print may
+    /// search, so they are none.
     pub fn is_small(&self) -> bool {
-        self.part.kind != PartKind::Print
+        self.part.kind == PartKind::Eval
             && self.source().len() < SHORT
             && self.blob.is_none()
             && matches!(self.input, Input::State(_))
