@@ -3,8 +3,9 @@ use std::hint::spin_loop;
 use std::sync::Wait;
 use std::sync::atomic::{AtomicU64, Ordering};
 
-/// So many looks are taken before a caller parks: a turn is short.
-const LOOKS: u32 = 100;
+/// So many looks are taken before a caller parks: they take longer than nearly every turn, and a
+/// wake costs the caller inside more than a turn does.
+const LOOKS: u32 = 5_000;
 
 /// Nobody is inside.
 const FREE: u64 = 0;
