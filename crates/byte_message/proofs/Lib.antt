@@ -1,5 +1,6 @@
 mod Scanning
 mod Headings
+mod Fitting
 mod Newlines
 mod Counting
 mod Cutting
@@ -9,5 +10,6 @@ mod Spelled
 mod Advancing
 pub mod KnownEndings
 mod Numbers
+mod LongChunks
 mod Written
 pub mod KnownLonger

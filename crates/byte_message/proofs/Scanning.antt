@@ -84,7 +84,7 @@ too_long-clamp : (ns : List ℕ) → too_long (map clamp ns) ≡ too_long ns
 too_long-clamp [] = refl
 too_long-clamp (n ∷ ns) = rw (over-clamp n, too_long-clamp ns) refl
 
-first_fine : (q : Bool) (o : Option ℕ) → cond q (Some 0) (option_map (λ chunk. chunk + 1) o) ≡ None → (q ≡ false) × (o ≡ None)
+pub first_fine : (q : Bool) (o : Option ℕ) → cond q (Some 0) (option_map (λ chunk. chunk + 1) o) ≡ None → (q ≡ false) × (o ≡ None)
 first_fine true o e = cc
 first_fine false None e = (refl, refl)
 first_fine false (Some k) e = cc
@@ -113,31 +113,6 @@ judged_fine ns (Some k) e = refl
 pub judge-clamped : (o : Option (List ℕ)) → judge_numbers (clamped o) ≡ judge_numbers o
 judge-clamped None = refl
 judge-clamped (Some ns) = rw (length-map ns clamp, too_long-clamp ns, judged_fine ns (too_long ns) refl) refl
-
--- a fit line names at most 2^28 bytes
-fit_lengths : (ns ls : List ℕ) (o : Option ℕ) → too_long ns ≡ o → judge_lengths ns o ≡ Ok ls → (too_long ns ≡ None) × (ns ≡ ls)
-fit_lengths ns ls None e f = (e, cc)
-fit_lengths ns ls (Some k) e f = cc
-
-fit_few : (q : Bool) (ns ls : List ℕ) → nat_lt 16 (length ns) ≡ q → cond q (Err (TooMany (length ns))) (judge_lengths ns (too_long ns)) ≡ Ok ls → sum ls < 2 ^ 30
-fit_few true ns ls e f = cc
-fit_few false ns ls e f =
-    let p = fit_lengths ns ls (too_long ns) refl f in
-    let few : length ns ≤ 16 = grind (arith, e) in
-    let s = fine-sum ns p.0 in
-    let t : sum ns ≡ sum ls = ap sum p.1 in
-    omega arith
-
-fit_numbers : (o : Option (List ℕ)) (ls : List ℕ) → judge_numbers o ≡ Ok ls → sum ls < 2 ^ 30
-fit_numbers None ls f = cc
-fit_numbers (Some ns) ls f = fit_few (nat_lt 16 (length ns)) ns ls refl f
-
-fit_line : (q : Bool) (o : Option (List ℕ)) (ls : List ℕ) → cond q (Err BadHeader) (judge_numbers o) ≡ Ok ls → sum ls < 2 ^ 30
-fit_line true o ls f = cc
-fit_line false o ls f = fit_numbers o ls f
-
-pub judge-small : (line ls : List ℕ) → judge line ≡ Ok ls → sum ls < 2 ^ 30
-judge-small line ls f = fit_line (nat_lt 200 (length line)) (comma_numbers (without_cr line)) ls f
 
 pub scan_judged : (text : List ℕ)
     → judge_numbers (scan None text) ≡ judge_numbers (comma_numbers text)

@@ -1,4 +1,5 @@
 pub mod Limits
+pub mod Long
 pub mod Line
 pub mod Heading
 pub mod Chunks

@@ -13,7 +13,7 @@ use crate::line_fault::LineFault;
 /// The most bytes before a newline.
 pub(crate) const LONGEST_LINE: usize = 200;
 /// The most bytes of a chunk, 2^24.
-const LONGEST_CHUNK: usize = 16777216;
+pub(crate) const LONGEST_CHUNK: usize = 16777216;
 
 /// The place of the first newline.
 pub(crate) fn newline(bytes: &[u8]) -> Option<usize>

@@ -3,8 +3,8 @@
 use crate::lengths::Lengths;
 use std::marker::Model;
 
-/// A message: its chunks in order. The bytes lie one after the other, as they came, in the only
-/// memory that a message takes.
+/// A message: its chunks in order, within the limits of messages. The bytes lie one after the
+/// other, as they came, in the only memory that a message takes.
 #[derive(Debug, Drop)]
 pub struct Message {
     lengths: Lengths,
@@ -14,25 +14,36 @@ pub struct Message {
 impl Model for Message {
     ghost use Rattle.std.specs.Prelude.{◌≡◌, ℕ, List, length, sum};
     ghost use Rattle.byte_message.specs.Chunks.{cut};
+    ghost use Rattle.byte_message.specs.Stream.{IsMessage};
 
     ghost Value = { List (List ℕ) };
 
     ghost view = { λ m. cut m.lengths m.bytes.items };
 
-    ghost invariant = { λ m. sum m.lengths ≡ length m.bytes.items };
+    ghost invariant = { λ m. (sum m.lengths ≡ length m.bytes.items)
+        × IsMessage (cut m.lengths m.bytes.items) };
 }
 
 impl Message {
     ghost use Rattle.std.specs.Prelude.{◌≡◌, ◌<◌, [], length, sum};
     ghost use Rattle.std.specs.List.{slice_index_or};
     ghost use Rattle.byte_message.specs.Chunks.{cut};
+    ghost use Rattle.byte_message.specs.Stream.{IsMessage};
 
     /// The bytes, cut into chunks of these lengths.
     pub(crate) fn new(lengths: Lengths, bytes: Vec<u8>) -> Message
-        requires { sum lengths ≡ length bytes.items }
+        requires whole { sum lengths ≡ length bytes.items }
+        requires message { IsMessage (cut lengths bytes.items) }
         ensures { result ≡ cut lengths bytes.items }
     {
         Message { lengths, bytes }
+    }
+
+    /// It has some chunks, not too many, and none that is too long.
+    pub fn is_within_limits(&self)
+        ensures { IsMessage self.now }
+    {
+        let _ = &self.lengths;
     }
 
     /// How many chunks there are.

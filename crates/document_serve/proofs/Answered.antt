@@ -77,3 +77,4 @@ module _ {S : Type 0} (l : Lang S) (law : AskedLaw)
       answer_err (Ok done) w = tt
       answer_err (Err halt.WriteFault) w = fails_behind l held then old new came (answer_fails w.0 w.1 w.2 w.3)
       answer_err (Err halt.NoMemory) w = absurd (w)
+      answer_err (Err (halt.BadReply len)) w = absurd (w)

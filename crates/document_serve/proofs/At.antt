@@ -1,12 +1,13 @@
 -- A message that waits while parts are worked on.
-use Rattle.std.proofs.Common.{◌≡◌, ℕ, List, Option, refl, sym, subst, ap, ◌∙◌}
+use Rattle.std.proofs.Common.{◌≡◌, ℕ, List, [], Option, refl, sym, subst, ap, ◌∙◌}
 use Rattle.language.specs.Lang.{Lang}
 use Rattle.core_rules.specs.declared.event.Event.{Event}
 use Rattle.session_rules.specs.declared.service.Service.{Service}
 use Rattle.document_session.specs.keeping_rules_below.Items.{SessionItem, heard_in, session_in}
 use Rattle.document_session.specs.Answers.{IsWaiting, TakenSo}
 use Rattle.document_session.specs.Contents.{SessionState}
-use Rattle.document_serve.specs.Served.{AllSent, WritesOn, calls_in}
+use Rattle.reply_outbox.specs.Items.{entries}
+use Rattle.document_serve.specs.Served.{AllSent, IsWorkedOn, WritesOn, calls_in}
 use Rattle.document_serve.specs.Going.{IsAtRest, IsGoing, awaited_by}
 use Rattle.session_laws.proofs.KnownResting.{IsWorkOn, work_first}
 use Rattle.session_laws.proofs.KnownStays.{may_wait}
@@ -21,6 +22,7 @@ pub record IsAt {S : Type 0} (l : Lang S) (held held' : Option (List ℕ)) (old 
   pub same : message ≡ came
   pub service : s.service ≡ old.service
   pub called : calls_in s.items ≡ calls_in old.items
+  pub grown : IsWorkedOn (entries old.items) (entries s.items)
   pub going : IsGoing l (awaited_by l s.service (heard_in s.service s.items) message) s
   pub sent : AllSent l s.service s.items
   pub writes : WritesOn l held held' old s
@@ -41,6 +43,7 @@ module _ {S : Type 0} (l : Lang S) where
         same = refl;
         service = refl;
         called = refl;
+        grown = record { worked = []; is = refl; none_called = refl };
         going = record {
           legal = g.legal;
           nobody = g.nobody;
@@ -64,6 +67,7 @@ module _ {S : Type 0} (l : Lang S) where
         same = a.same;
         service = a.service;
         called = a.called;
+        grown = a.grown;
         going = record { legal = g.legal; nobody = g.nobody; going = g.going; alone = g.alone; kept = g.kept };
         sent = a.sent;
         writes = a.writes;

@@ -1,11 +1,12 @@
 -- A message was handed back, and a part is worked on for it.
-use Rattle.std.proofs.Common.{◌≡◌, ℕ, ◌+◌, ◌-◌, ◌<◌, false, List, [], ◌∷◌, Option, Err, subst}
+use Rattle.std.proofs.Common.{◌≡◌, ℕ, ◌+◌, ◌-◌, ◌<◌, false, List, [], ◌∷◌, Option, Err, ap, subst, ◌∙◌}
 use Rattle.pide_base.specs.declared.part.Part.{Part}
 use Rattle.language.specs.Lang.{Lang}
 use Rattle.core_rules.specs.declared.event.Event.{Event}
 use Rattle.reply_outbox.specs.declared.item.Item.TheVariants.{Made}
 use Rattle.reply_outbox.specs.Items.{is_lost}
 use Rattle.session_rules.specs.declared.entry.Entry.TheVariants as entry
+use Rattle.session_rules.specs.declared.service.Service.{Service}
 use Rattle.document_session.specs.keeping_rules_below.Legal.{AreLegal}
 use Rattle.session_laws.proofs.KnownResting.{fewer_left, finishes, made}
 use Rattle.document_session.specs.declared.taking.Taken.{Taken}
@@ -15,6 +16,7 @@ use Rattle.document_session.specs.Contents.{SessionState}
 use Rattle.message_input.specs.declared.answering.Halt.{Halt}
 use Rattle.message_input.specs.declared.answering.Halt.TheVariants as halt
 use Rattle.document_serve.specs.Laws.{WorkLaws}
+use Rattle.document_serve.specs.Listening.{replies_sent}
 use Rattle.document_serve.specs.Runs.{IsSame, RunsShort, WrittenSo}
 use Rattle.document_serve.specs.Served.{AllSent, WritesOn}
 use Rattle.document_serve.specs.Steps.{IsLeftOff}
@@ -22,7 +24,7 @@ use Rattle.document_serve.proofs.At.{IsAt, at_waits, events_of, same_events}
 use Rattle.document_serve.proofs.OneMore.{at_next, next_events, work_fails}
 use Rattle.document_serve.proofs.Short.{work_short}
 use Rattle.document_serve.proofs.Stops.{StopsAmong, fails_before}
-use Rattle.document_serve.proofs.Waiting.{may_after}
+use Rattle.document_serve.proofs.Waiting.{may_after, worked_told}
 
 module _ {S : Type 0} (l : Lang S) (laws : WorkLaws l) (held now : Option (List ℕ)) (old before s : SessionState) (came message back : List (List ℕ))
     (at : IsAt l held now old before came message) (service : s.service ≡ before.service) (t : Taken) (is : t ≡ taken.Waits back)
@@ -40,11 +42,17 @@ module _ {S : Type 0} (l : Lang S) (laws : WorkLaws l) (held now : Option (List 
 
   module _ (mid new : SessionState) (then : Option (List ℕ)) (same : mid.service ≡ s.service) (part : Part)
       (items : mid.items ≡ Made (entry.Finished 0 part) ∷ Made (entry.Claimed 0 part) ∷ s.items) (legal : AreLegal l mid.service mid.items) where
+    -- no reply more is sent
+    pub told_still : replies_sent l mid.service mid.items ≡ replies_sent l before.service before.items
+    told_still = worked_told l laws laws.asks s back waits.0.going waits.1 mid part same items legal
+        ∙ ap (λ (v : Service). replies_sent l v s.items) service ∙ ap (replies_sent l before.service) so.1
+
     -- the sink fails
     pub part_fails : (h : Halt) → WrittenSo l now then mid new (Err h) → StopsAmong l held then old (came ∷ []) h new
     part_fails halt.WriteFault w = fails_before l held then old new came
         (work_fails l laws laws.asks held now old s came back waits.0 mid new then same w.0 waits.1 part items legal w.1 w.2 w.3)
     part_fails halt.NoMemory w = absurd (w)
+    part_fails (halt.BadReply len) w = absurd (w)
 
     module _ (written : IsSame l mid new) where
       -- what the part told is written, and the message waits

@@ -14,6 +14,7 @@ use Rattle.document_session.specs.session_replies_below.Spelling.{reply_spelling
 use Rattle.document_session.specs.keeping_rules_below.Items.{SessionItem, heard_in}
 use Rattle.document_session.specs.keeping_rules_below.Pieces.{pieces, AreWaiting}
 use Rattle.document_session.specs.keeping_rules_below.Sent.{IsFrontSent}
+use Rattle.document_serve.specs.Listening.{replies_sent}
 use Rattle.document_serve.specs.Served.{AllSent, replies_in, sent_in}
 
 -- replies, joined
@@ -42,10 +43,12 @@ module _ {S : Type 0} (l : Lang S) (service : Service) (items : List SessionItem
       omega (arith, count, parts)
 
   -- an entry sends nothing
+  pub replies_made : (added : Entry) → IsFrontSent l service items → replies_sent l service (item.Made added ∷ items) ≡ replies_sent l service items
+  replies_made added f = take-append-le (length (lengths_sent items)) all
+      (map reply_spelling (entry_replies l service (heard_in service items) (heard service added))) (few f)
+
   pub sent_made : (added : Entry) → IsFrontSent l service items → sent_in l service (item.Made added ∷ items) ≡ sent_in l service items
-  sent_made added f = ap joined (take-append-le (length (lengths_sent items)) all
-      (map reply_spelling (entry_replies l service (heard_in service items) (heard service
-      added))) (few f))
+  sent_made added f = ap joined (replies_made added f)
 
   module _ (waiting : List (List ℕ)) (w : AreWaiting all items waiting) where
     gone_is : take (length (lengths_sent items)) all ≡ w.gone
@@ -57,13 +60,16 @@ module _ {S : Type 0} (l : Lang S) (service : Service) (items : List SessionItem
         ∙ ap (λ (ts : List (List ℕ)). joined ts ++ joined waiting) (sym gone_is)
 
   -- the reply that waited longest is sent
+  pub reply_next : (writer len : ℕ) (bytes : List ℕ) (behind : List (List ℕ)) → AreWaiting all items (bytes ∷ behind)
+      → replies_sent l service (item.Sent writer len ∷ items) ≡ replies_sent l service items ++ bytes ∷ []
+  reply_next writer len bytes behind w =
+      ap (λ n. take (suc n) all) (sym w.count) ∙ ap (take (suc (length w.gone))) w.replies ∙ take_next w.gone bytes behind
+      ∙ ap (λ (ts : List (List ℕ)). ts ++ bytes ∷ []) (sym (gone_is (bytes ∷ behind) w))
+
   pub sent_next : (writer len : ℕ) (bytes : List ℕ) (behind : List (List ℕ)) → AreWaiting all items (bytes ∷ behind)
       → sent_in l service (item.Sent writer len ∷ items) ≡ sent_in l service items ++ bytes
   sent_next writer len bytes behind w =
-      let next : take (suc (length (lengths_sent items))) all ≡ w.gone ++ bytes ∷ [] =
-      ap (λ n. take (suc n) all) (sym w.count) ∙ ap (take (suc (length w.gone))) w.replies ∙ take_next w.gone bytes behind in
-      ap joined next ∙ flat_map-append (λ (b : List ℕ). b) w.gone (bytes ∷ [])
-      ∙ ap (λ (ts : List (List ℕ)). joined ts ++ (bytes ++ [])) (sym (gone_is (bytes ∷ behind) w))
+      ap joined (reply_next writer len bytes behind w) ∙ flat_map-append (λ (b : List ℕ). b) (replies_sent l service items) (bytes ∷ [])
       ∙ ap (λ (b : List ℕ). sent_in l service items ++ b) (append-nil bytes)
 
   -- none waits

@@ -5,7 +5,8 @@ use Rattle.pide_base.specs.declared.part.Part.{Part}
 use Rattle.language.specs.Lang.{Lang}
 use Rattle.core_rules.specs.declared.event.Event.TheVariants as event
 use Rattle.reply_outbox.specs.declared.item.Item.TheVariants.{Made}
-use Rattle.reply_outbox.specs.Items.{is_lost}
+use Rattle.reply_outbox.specs.Items.{entries, is_lost}
+use Rattle.session_rules.specs.declared.entry.Entry.{Entry}
 use Rattle.session_rules.specs.declared.entry.Entry.TheVariants as entry
 use Rattle.session_rules.specs.declared.service.Service.{Service}
 use Rattle.session_rules.specs.Heard.{all_heard}
@@ -60,6 +61,12 @@ module _ {S : Type 0} (l : Lang S) (laws : WorkLaws l) (law : AskedLaw)
         same = a.same;
         service = same_service;
         called = calls_kept;
+        grown = record {
+          worked = entry.Finished 0 part ∷ entry.Claimed 0 part ∷ a.grown.worked;
+          is = written.entries_are ∙ ap (λ (xs : List SessionItem). entries xs) is
+              ∙ ap (λ (es : List Entry). entry.Finished 0 part ∷ entry.Claimed 0 part ∷ es) a.grown.is;
+          none_called = a.grown.none_called;
+        };
         going = going_same l (λ v h. awaited_by l v h message) mid new written kept mid_worked;
         sent = sent;
         writes = λ first first_held. on first (subst (Appends first now) (sym mid_sent) (a.writes first first_held));

@@ -25,12 +25,13 @@ use Rattle.document_session.specs.keeping_rules_below.Legal.{AreLegal}
 use Rattle.document_session.specs.keeping_rules_below.Sent.{IsFrontSent}
 use Rattle.document_session.specs.Answers.{IsAnswered, is_step}
 use Rattle.document_session.specs.Contents.{SessionState}
-use Rattle.document_serve.specs.Served.{calls_in, sent_in}
+use Rattle.document_serve.specs.Listening.{replies_sent}
+use Rattle.document_serve.specs.Served.{IsWorkedOn, calls, calls_in, sent_in}
 use Rattle.document_serve.specs.Going.{IsGoing}
 use Rattle.document_serve.specs.Runs.{IsSame}
 use Rattle.session_laws.proofs.KnownNamed.{AskedLaw, claims_asked, finishes_asked}
 use Rattle.session_laws.proofs.KnownHolding.{message_goes}
-use Rattle.document_serve.proofs.KnownSent.{sent_made}
+use Rattle.document_serve.proofs.KnownSent.{replies_made, sent_made}
 use Rattle.document_serve.proofs.Worked.{legal_made}
 
 -- nothing of a history has changed
@@ -114,6 +115,8 @@ module _ {S : Type 0} (l : Lang S) (service : Service) (items : List SessionItem
     pub record IsAfter (new : List SessionItem) : Type 0 where
       pub calls_are : calls_in new ≡ calls_in items ++ message ∷ []
       pub sent_is : sent_in l service new ≡ sent_in l service items
+      pub told_is : replies_sent l service new ≡ replies_sent l service items
+      pub done : IsWorkedOn (entry.Call message ∷ entries items) (entries new)
       pub kept : is_lost new ≡ is_lost items
       pub going : has_ended (session_in l service new).events ≡ has_ended now.events
       pub alone : IsAlone l service None (heard_in service new)
@@ -123,6 +126,8 @@ module _ {S : Type 0} (l : Lang S) (service : Service) (items : List SessionItem
     answered new legal sends a before (inl is) = subst IsAfter (sym is) (record {
       calls_are = refl;
       sent_is = sent_made l service items (entry.Call message) (sends items before);
+      told_is = replies_made l service items (entry.Call message) (sends items before);
+      done = record { worked = []; is = refl; none_called = refl };
       kept = refl;
       going = message_goes l service now read;
       alone = a;
@@ -133,6 +138,8 @@ module _ {S : Type 0} (l : Lang S) (service : Service) (items : List SessionItem
         subst IsAfter (sym is) (record {
           calls_are = by_step step stepping;
           sent_is = sent_made l service told step (sends told mid) ∙ sent_made l service items (entry.Call message) (sends items before);
+          told_is = replies_made l service told step (sends told mid) ∙ replies_made l service items (entry.Call message) (sends items before);
+          done = record { worked = step ∷ []; is = refl; none_called = no_call step stepping };
           kept = refl;
           going = step_goes step stepping (Message read ∷ past) ∙ message_goes l service now read;
           alone = step_alone step stepping all called a;
@@ -144,3 +151,10 @@ module _ {S : Type 0} (l : Lang S) (service : Service) (items : List SessionItem
         by_step (entry.Claimed who part) e = refl
         by_step (entry.Finished who part) e = refl
         by_step (entry.Dropped who part) e = refl
+
+        no_call : (e : Entry) → is_step e ≡ true → calls (e ∷ []) ≡ []
+        no_call (entry.Call other) e = absurd (cc)
+        no_call entry.Ended e = absurd (cc)
+        no_call (entry.Claimed who part) e = refl
+        no_call (entry.Finished who part) e = refl
+        no_call (entry.Dropped who part) e = refl

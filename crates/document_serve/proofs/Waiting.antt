@@ -19,11 +19,12 @@ use Rattle.document_session.specs.Answers.{IsWaiting, TakenSo}
 use Rattle.document_session.specs.declared.taking.Taken.TheVariants as taken
 use Rattle.document_session.specs.Contents.{SessionState}
 use Rattle.document_serve.specs.Laws.{WorkLaws}
+use Rattle.document_serve.specs.Listening.{replies_sent}
 use Rattle.document_serve.specs.Served.{calls_in, sent_in}
 use Rattle.document_serve.specs.Going.{IsGoing, awaited_by}
 use Rattle.session_laws.proofs.KnownNamed.{AskedLaw}
 use Rattle.session_laws.proofs.KnownHolding.{reader_idle}
-use Rattle.document_serve.proofs.KnownSent.{sent_made}
+use Rattle.document_serve.proofs.KnownSent.{replies_made, sent_made}
 use Rattle.session_laws.proofs.KnownStays.{awaited_stays}
 use Rattle.session_laws.proofs.KnownWaited.{awaits, some_ready}
 use Rattle.document_serve.proofs.Worked.{MayWork, legal_made}
@@ -71,6 +72,11 @@ module _ {S : Type 0} (l : Lang S) (laws : WorkLaws l) (law : AskedLaw) (s : Ses
       worked_sent = at_new (λ v is. sent_in l v is ≡ sent_in l s.service s.items)
           (sent_made l s.service (Made (entry.Claimed 0 part) ∷ s.items) (entry.Finished 0 part) (laws.lists.sends s.service (Made (entry.Claimed 0 part) ∷ s.items) claimed_legal)
           ∙ sent_made l s.service s.items (entry.Claimed 0 part) (laws.lists.sends s.service s.items g.legal))
+
+      pub worked_told : replies_sent l new.service new.items ≡ replies_sent l s.service s.items
+      worked_told = at_new (λ v is. replies_sent l v is ≡ replies_sent l s.service s.items)
+          (replies_made l s.service (Made (entry.Claimed 0 part) ∷ s.items) (entry.Finished 0 part) (laws.lists.sends s.service (Made (entry.Claimed 0 part) ∷ s.items) claimed_legal)
+          ∙ replies_made l s.service s.items (entry.Claimed 0 part) (laws.lists.sends s.service s.items g.legal))
 
       -- one part more is worked on
       pub worked_going : IsGoing l (awaited_by l new.service (heard_in new.service new.items) message) new

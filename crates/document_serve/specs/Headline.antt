@@ -60,16 +60,17 @@ pub record IsFront (bytes : List ℕ) (messages : List (List (List ℕ)))
   pub read : IsReadAs bytes (messages ++ rest) ending
   pub holds : Holds rest
 
--- these bytes' messages were answered, and the status tells how they end; where writing fails or
--- memory is short, a front of them was
+-- these bytes' messages were answered, and the status tells how they end; where writing fails,
+-- memory is short or a reply is too long, a front of them was
 abbrev pub CallsSo : Status → List ℕ → SessionState → Type 0
 CallsSo status.WriteFault taken s = IsFront taken (calls_in s.items) (λ rest. ⊤)
 CallsSo status.NoMemory taken s = IsFront taken (calls_in s.items) (λ rest. ⊤)
+CallsSo (status.BadReply len) taken s = IsFront taken (calls_in s.items) (λ rest. ⊤)
 CallsSo how taken s =
     (ending : Ending) × IsReadAs taken (calls_in s.items) ending × Tells how ending
 
--- the messages answered are those of the bytes taken, in order; where writing fails or memory is
--- short, a front of them
+-- the messages answered are those of the bytes taken, in order; where writing fails, memory is
+-- short or a reply is too long, a front of them
 abbrev pub MessagesRead : Status → Option (List ℕ) → Option (List ℕ) → SessionState → Type 0
 MessagesRead how old new s = (taken : List ℕ) × Consumes old new taken × CallsSo how taken s
 

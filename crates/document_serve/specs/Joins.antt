@@ -74,6 +74,7 @@ module _ {S : Type 0} (l : Lang S) where
       kept = b.kept;
       all = b.all;
     }
+    stops_later (halt.BadReply len) more rest b = absurd (b)
 
   -- others may wait behind those that wait
   pub more_stops : (h : Halt) (held now : Option (List ℕ)) (old new : SessionState)
@@ -97,6 +98,7 @@ module _ {S : Type 0} (l : Lang S) where
     kept = b.kept;
     all = b.all;
   }
+  more_stops (halt.BadReply len) held now old new first rest more b = absurd (b)
 
 -- a count that doesn't fall doesn't fall later
 pub steady_first : (n : ℕ) → n ≤ n

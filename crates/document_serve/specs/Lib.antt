@@ -1,5 +1,6 @@
 pub mod Laws
 pub mod Served
+pub mod Listening
 pub mod Going
 pub mod Headline
 pub mod Runs

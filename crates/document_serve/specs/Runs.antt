@@ -26,6 +26,7 @@ WrittenSo l held held' old new (Ok done) = IsSame l old new × (is_lost new.item
 WrittenSo l held held' old new (Err halt.WriteFault) = IsSame l old new
     × WritesFront l held held' old new × WritesSome l held held' old new × IsLostLast new
 WrittenSo l held held' old new (Err halt.NoMemory) = ⊥
+WrittenSo l held held' old new (Err (halt.BadReply len)) = ⊥
 
 -- these messages were answered, and their replies are written
 pub record GoesOn {S : Type 0} (l : Lang S) (held held' : Option (List ℕ)) (old new : SessionState)
@@ -59,11 +60,12 @@ pub record RunsShort {S : Type 0} (l : Lang S) (held held' : Option (List ℕ))
   pub kept : is_lost new.items ≡ false
   pub all : AllSent l new.service new.items
 
--- so by the halt
+-- so by the halt; it doesn't halt for a long reply
 abbrev pub StopsSo : {S : Type 0} → Lang S → Halt → Option (List ℕ) → Option (List ℕ)
     → SessionState → SessionState → List (List (List ℕ)) → List (List (List ℕ)) → Type 0
 StopsSo l halt.WriteFault held held' old new first rest = Fails l held held' old new first rest
 StopsSo l halt.NoMemory held held' old new first rest = RunsShort l held held' old new first rest
+StopsSo l (halt.BadReply len) held held' old new first rest = ⊥
 
 -- the session has ended, and nothing else happened
 pub record IsEnded {S : Type 0} (l : Lang S) (old new : SessionState) : Type 0 where

@@ -30,6 +30,18 @@ calls (other ∷ h) = calls h
 abbrev pub calls_in : List SessionItem → List (List (List ℕ))
 calls_in items = calls (entries items)
 
+-- a history is longer by entries that are no calls
+pub record IsWorkedOn (old new : List Entry) : Type 0 where
+  pub worked : List Entry
+  pub is : new ≡ worked ++ old
+  pub none_called : calls worked ≡ []
+
+-- a history is longer by a message, before and behind whose call others may stand that are no calls
+pub record HasAnswered (message : List (List ℕ)) (old new : List Entry) : Type 0 where
+  pub before : List Entry
+  pub works : IsWorkedOn old before
+  pub done : IsWorkedOn (entry.Call message ∷ before) new
+
 -- all that the entries of a list call for
 abbrev pub replies_in : {S : Type 0} → Lang S → Service → List SessionItem → List ℕ
 replies_in l service items = replies l service (heard_in service items)

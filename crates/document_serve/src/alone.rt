@@ -1,5 +1,6 @@
 //! A session and a sink that answer messages on one thread.
 
+use crate::listening::Nobody;
 use crate::serving::serve_message;
 use byte_message::Message;
 use document_session::Session;
@@ -44,6 +45,7 @@ impl<'l, L: Language, P: Past<Service, Entry> + Drop, K: Sink> Answering for Alo
             self.lang,
             &mut self.session,
             &mut self.sink,
+            &mut Nobody,
             message,
         )
     }

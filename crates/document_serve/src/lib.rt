@@ -8,12 +8,15 @@
 
 mod alone;
 mod laws;
+mod listening;
 mod run;
 mod served;
 mod serving;
 mod working;
 mod writing;
 
+pub use listening::Listener;
 pub use run::serve;
 pub use served::Served;
+pub use serving::serve_message;
 pub use writing::write_out;

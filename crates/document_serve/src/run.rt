@@ -32,6 +32,7 @@ fn serve_alone<L: Language, P: Past<Service, Entry> + Drop, S: Source, K: Sink>(
         → Rose (S.faults source.old) (S.faults source.new) }
     ensures write_fault { result.status ≡ Status.WriteFault
         → Rose (K.faults alone.entry.sink) (K.faults result.sink) }
+    ensures no_reply { (len : ℕ) → result.status ≢ Status.BadReply len }
 {
     list_laws::<L>();
     let mut alone = alone;
@@ -89,6 +90,7 @@ pub fn serve<L: Language, P: Past<Service, Entry> + Drop, S: Source, K: Sink>(
     ensures done { result.status ≡ Status.Done → DoneSo (S.left source.old) (S.left source.new) }
     ensures not_usage { result.status ≢ Status.Usage }
     ensures no_text { (at : ℕ) → result.status ≢ Status.BadText at }
+    ensures no_reply { (len : ℕ) → result.status ≢ Status.BadReply len }
     ensures complete { CompleteSo limit (S.left source.old) (S.faults source.old)
         (S.faults source.new) (K.faults sink) (K.faults result.sink) result.status }
 {

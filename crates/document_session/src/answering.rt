@@ -20,8 +20,9 @@ use session_rules::{Entry, Service};
 use std::alloc::{AllocError, Global};
 
 impl<L: Language, P: Past<Service, Entry> + Drop> Session<L, P> {
-    /// Refuses a message for a reason.
-    pub(crate) fn refuse(
+    /// Refuses a message for a reason, which must be the session's own. For want of memory nothing
+    /// has changed, and the message is lost.
+    pub fn refuse(
         &mut self,
         alloc: Global,
         message: Message,

@@ -1,11 +1,13 @@
 //! Messages that only look.
-ghost use Rattle.std.specs.Prelude.{◌≡◌, false, map, IfOk, OnErr, Ok};
+ghost use Rattle.std.specs.Prelude.{◌≡◌, ◌∷◌, false, map, IfOk, OnOk, OnErr, Ok};
 ghost use Rattle.core_rules.specs.Standing.{has_ended};
 ghost use Rattle.message_values.specs.Asked.{asked};
 ghost use Rattle.message_values.specs.declared.editor_message.EditorMessage.TheVariants as asks;
 ghost use Rattle.reply_writing.specs.Forms.{IsRising};
 ghost use Rattle.reply_writing.specs.declared.told.Told.TheVariants as tells;
 ghost use Rattle.exec_lists.specs.Parts.{told_part};
+ghost use Rattle.reply_outbox.specs.declared.item.Item.TheVariants.{Made};
+ghost use Rattle.session_rules.specs.declared.entry.Entry.TheVariants as entry;
 ghost use Rattle.session_rules.specs.Services.{mode_of, is_held_by_script};
 ghost use Rattle.session_rules.specs.Replies.{is_outdated};
 ghost use Rattle.keeping_rules.specs.Items.{session_in};
@@ -183,6 +185,27 @@ impl<L: Language, P: Past<Service, Entry> + Drop> Session<L, P> {
         !self.jobs.is_empty()
     }
 
+    /// Takes note of a message that only looks, and that was answered elsewhere with this reply,
+    /// which must be the session's own: the list is as if it were answered here. For want of memory
+    /// nothing has changed, and both are lost.
+    pub fn noted(&mut self, message: Message, reply: Vec<u8>) -> Result<(), AllocError>
+        requires going { has_ended (session_in L.lang self.old.service self.old.items).events
+            ≡ false }
+        requires told { IsLook L.lang self.old.service
+            (session_in L.lang self.old.service self.old.items)
+            (asked (mode_of self.old.service) message) reply.items }
+        ensures service { self.new.service ≡ self.old.service }
+        ensures items { OnOk result (self.new.items ≡ Made (entry.Call message) ∷ self.old.items) }
+        ensures err { OnErr result (self.new ≡ self.old) }
+        ensures legal { AreLegal L.lang self.new.service self.new.items }
+    {
+        look_laws::<L>();
+        make_room(&mut self.outbox, self.held, 1)?;
+        self.called = true;
+        self.outbox.add(Entry::Call(message), Some(reply));
+        Ok(())
+    }
+
     /// Adds a message that only looks, with its reply.
     fn tell(&mut self, message: Message, reply: Vec<u8>) -> Result<Taken, AllocError>
         requires going { has_ended (session_in L.lang self.old.service self.old.items).events
@@ -196,10 +219,7 @@ impl<L: Language, P: Past<Service, Entry> + Drop> Session<L, P> {
         ensures err { OnErr result (self.new ≡ self.old) }
         ensures legal { AreLegal L.lang self.new.service self.new.items }
     {
-        look_laws::<L>();
-        make_room(&mut self.outbox, self.held, 1)?;
-        self.called = true;
-        self.outbox.add(Entry::Call(message), Some(reply));
+        self.noted(message, reply)?;
         Ok(Taken::Replied)
     }
 }

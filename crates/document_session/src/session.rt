@@ -99,6 +99,13 @@ impl<L: Language, P: Past<Service, Entry> + Drop> Session<L, P> {
         self.service
     }
 
+    /// What places of reports count.
+    pub fn protocol(&self) -> Protocol
+        ensures { result ≡ (session_in L.lang self.now.service self.now.items).protocol }
+    {
+        self.protocol
+    }
+
     /// No message is taken any more. It takes no memory.
     pub fn end(&mut self)
         requires going { has_ended (session_in L.lang self.old.service self.old.items).events

@@ -44,6 +44,16 @@ module _ (limit : ℕ) (left left' : Option (List ℕ)) (taken : List ℕ) (took
     no_words = λ e. cc;
   }
 
+  pub reply_cause : (len : ℕ) → length taken ≤ limit → HasCause limit (status.BadReply len) left left'
+  reply_cause len few = record {
+    bad_frame = λ at e. cc;
+    truncated = λ at e. cc;
+    long_input = (taken, took, few);
+    done = λ e. cc;
+    no_text = λ at e. cc;
+    no_words = λ e. cc;
+  }
+
 module _ {A : Type 0} (Goes : A → List (List (List ℕ)) → A → Type 0) (limit : ℕ) (left left' : Option (List ℕ)) (taken : List ℕ) (took : Consumes left left' taken)
     (old new : A) where
   module _ (ending : Ending) (answers : AnswersAll Goes old taken ending new) where
@@ -58,8 +68,8 @@ module _ {A : Type 0} (Goes : A → List (List (List ℕ)) → A → Type 0) (li
 
     -- an input that was taken to its end
     pub read_of : (how : Status) → Tells how ending → AtEnd how left' → TakesSo limit how taken → ((at : ℕ) → how ≢ status.BadText at) → how ≢ status.Usage
-        → how ≢ status.WriteFault → how ≢ status.NoMemory → IsRead Goes limit how left left' old new
-    read_of how tells ended takes no_text no_words writes has_memory = record {
+        → how ≢ status.WriteFault → how ≢ status.NoMemory → ((len : ℕ) → how ≢ status.BadReply len) → IsRead Goes limit how left left' old new
+    read_of how tells ended takes no_text no_words writes has_memory replies = record {
       taken = taken;
       consumes = took;
       ending = ending;
@@ -75,12 +85,13 @@ module _ {A : Type 0} (Goes : A → List (List (List ℕ)) → A → Type 0) (li
       };
       writes = writes;
       has_memory = has_memory;
+      replies = replies;
     }
 
   -- at a line at fault
   pub bad_read : (fault : FrameFault) (at : ℕ) → at ≡ fault_place fault → AnswersAll Goes old taken (Bad fault) new → length taken ≤ limit
       → IsRead Goes limit (status.BadFrame at) left left' old new
-  bad_read fault at place answers few = read_of (Bad fault) answers (status.BadFrame at) (fault, refl, place) tt few (λ at e. cc) (λ e. cc) (λ e. cc) (λ e. cc)
+  bad_read fault at place answers few = read_of (Bad fault) answers (status.BadFrame at) (fault, refl, place) tt few (λ at e. cc) (λ e. cc) (λ e. cc) (λ e. cc) (λ len e. cc)
 
   module _ (frames : Framing) (k : KeepsUp Goes old taken new frames) where
     read_all : IsReadAs taken k.messages (ending_of frames)
@@ -91,8 +102,8 @@ module _ {A : Type 0} (Goes : A → List (List (List ℕ)) → A → Type 0) (li
 
     -- at the source's end
     pub end_read : (how : Status) → EndsWith how (ending_of frames) → IsAtEnd left' → length taken < limit → IsRead Goes limit how left left' old new
-    end_read status.Done ends at_end few = read_of (ending_of frames) all status.Done ends at_end few (λ at e. cc) (λ e. cc) (λ e. cc) (λ e. cc)
-    end_read (status.Truncated at) ends at_end few = read_of (ending_of frames) all (status.Truncated at) ends at_end few (λ at e. cc) (λ e. cc) (λ e. cc) (λ e. cc)
+    end_read status.Done ends at_end few = read_of (ending_of frames) all status.Done ends at_end few (λ at e. cc) (λ e. cc) (λ e. cc) (λ e. cc) (λ len e. cc)
+    end_read (status.Truncated at) ends at_end few = read_of (ending_of frames) all (status.Truncated at) ends at_end few (λ at e. cc) (λ e. cc) (λ e. cc) (λ e. cc) (λ len e. cc)
     end_read (status.BadFrame at) ends at_end few = absurd (ends)
     end_read status.WriteFault ends at_end few = absurd (ends)
     end_read status.Usage ends at_end few = absurd (ends)
@@ -100,10 +111,11 @@ module _ {A : Type 0} (Goes : A → List (List (List ℕ)) → A → Type 0) (li
     end_read status.LongInput ends at_end few = absurd (ends)
     end_read status.NoMemory ends at_end few = absurd (ends)
     end_read (status.BadText at) ends at_end few = absurd (ends)
+    end_read (status.BadReply len) ends at_end few = absurd (ends)
 
     -- at a fault of the source
     pub fault_read : length taken < limit → IsRead Goes limit status.ReadFault left left' old new
-    fault_read few = read_of (ending_of frames) all status.ReadFault tt tt few (λ at e. cc) (λ e. cc) (λ e. cc) (λ e. cc)
+    fault_read few = read_of (ending_of frames) all status.ReadFault tt tt few (λ at e. cc) (λ e. cc) (λ e. cc) (λ e. cc) (λ len e. cc)
 
     -- where too much came
     fine : (fault : FrameFault) → ending_of frames ≡ Bad fault → ⊥
@@ -111,7 +123,7 @@ module _ {A : Type 0} (Goes : A → List (List (List ℕ)) → A → Type 0) (li
 
     pub long_read : length taken ≡ limit → IsRead Goes limit status.LongInput left left' old new
     long_read many = read_of (ending_of frames) all status.LongInput fine tt
-        (many, λ fault has. fine fault (one-reading taken k.messages has.0 (ending_of frames) (Bad fault) read_all has.1).1) (λ at e. cc) (λ e. cc) (λ e. cc) (λ e. cc)
+        (many, λ fault has. fine fault (one-reading taken k.messages has.0 (ending_of frames) (Bad fault) read_all has.1).1) (λ at e. cc) (λ e. cc) (λ e. cc) (λ e. cc) (λ len e. cc)
 
 -- it halted
 pub halted_of : {A : Type 0} (Halts : A → List (List (List ℕ)) → Halt → List (List (List ℕ)) → A → Type 0) (limit : ℕ) (halt : Halt) (left left' : Option (List ℕ))
@@ -135,3 +147,4 @@ module _ {A : Type 0} (Goes : A → List (List (List ℕ)) → A → Type 0) (Ha
   answered_to_end (status.BadText at) r = (r.taken, r.consumes, to_end (status.BadText at) r)
   answered_to_end status.WriteFault r = absurd (r.writes refl)
   answered_to_end status.NoMemory r = absurd (r.has_memory refl)
+  answered_to_end (status.BadReply len) r = absurd (r.replies len refl)

@@ -1,5 +1,5 @@
 -- An input that nothing hinders is done.
-use Rattle.std.proofs.Common.{◌≡◌, ◌⊎◌, [], ◌++◌, List, ℕ, Option, None, Some, length, refl, sym, ap, ◌∙◌, subst, inl, inr, arith, append-nil, ◌+◌}
+use Rattle.std.proofs.Common.{◌≡◌, ◌≢◌, ◌⊎◌, [], ◌++◌, List, ℕ, Option, None, Some, length, refl, sym, ap, ◌∙◌, subst, inl, inr, arith, append-nil, ◌+◌}
 use Rattle.std.proofs.lemmas.List.{length-append}
 use Rattle.std.specs.Io.KnownBytes.{Consumes, IsAtEnd}
 use Rattle.pide_base.specs.Faults.{Rose}
@@ -36,8 +36,9 @@ never_short bytes taken rest at parts none has short =
 
 -- it is done, or memory is short, where nothing else hinders it
 pub completes : (limit : ℕ) (left left' : Option (List ℕ)) (pulls pulls' pushes pushes' : ℕ) (how : Status) → HasCause limit how left left'
-    → (how ≡ status.ReadFault → Rose pulls pulls') → (how ≡ status.WriteFault → Rose pushes pushes') → CompleteSo limit left pulls pulls' pushes pushes' how
-completes limit left left' pulls pulls' pushes pushes' how cause read write bytes known has few quiet_in quiet_out = by_status how refl
+    → (how ≡ status.ReadFault → Rose pulls pulls') → (how ≡ status.WriteFault → Rose pushes pushes') → ((len : ℕ) → how ≢ status.BadReply len)
+    → CompleteSo limit left pulls pulls' pushes pushes' how
+completes limit left left' pulls pulls' pushes pushes' how cause read write replies bytes known has few quiet_in quiet_out = by_status how refl
   where
     by_status : (s : Status) → how ≡ s → (how ≡ status.Done) ⊎ (how ≡ status.NoMemory)
     by_status status.Done e = inl e
@@ -60,3 +61,4 @@ completes limit left left' pulls pulls' pushes pushes' how cause read write byte
         let all : length bytes ≡ length long.0 + length front.0 = ap length front.1 ∙ length-append long.0 front.0 in
         absurd (omega arith)
     by_status (status.BadText at) e = absurd (cause.no_text at e)
+    by_status (status.BadReply len) e = absurd (replies len e)

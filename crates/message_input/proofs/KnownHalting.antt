@@ -1,6 +1,8 @@
 -- Messages that are answered one after the other, until it halts.
-use Rattle.std.proofs.Common.{◌≡◌, ◌≤◌, [], ◌++◌, List, ℕ, None, Some, Result, Ok, Err, IfErr, refl, sym, ap, ◌∙◌, subst, append-nil, append_assoc, arith}
+use Rattle.std.proofs.Common.{◌≡◌, ◌≤◌, [], ◌++◌, List, ℕ, Option, None, Some, Result, Ok, Err, IfErr, refl, sym, ap, ◌∙◌, subst, append-nil, append_assoc, arith}
 use Rattle.std.specs.Result.{IsErrAnd}
+use Rattle.pide_base.specs.declared.status.Status.{Status}
+use Rattle.pide_base.specs.declared.status.Status.TheVariants as status
 use Rattle.byte_message.proofs.KnownEndings.{reads}
 use Rattle.byte_message.proofs.KnownLonger.{longer-reading}
 use Rattle.byte_message.specs.Feeding.{Continues, ending_of}
@@ -13,6 +15,7 @@ use Rattle.message_input.specs.declared.answering.Halt.TheVariants as halt
 use Rattle.message_input.specs.Answers.{AnswersAll, AnswersSome, HaltsAmong, KeepsUp}
 use Rattle.message_input.proofs.Decoding.{all_out, all_read, ends_bad}
 use Rattle.message_input.specs.Counts.{CountsSo}
+use Rattle.message_input.specs.Inputs.{AnswersSo, IsAnswered}
 
 module _ {A : Type 0} (Goes : A → List (List (List ℕ)) → A → Type 0)
     (on : (a b c : A) (first then : List (List (List ℕ))) → Goes a first b → Goes b then c → Goes a (first ++ then) c)
@@ -102,3 +105,12 @@ pub counts_later : (how : Halt) (before mid now : ℕ) → before ≤ mid
     → CountsSo how mid now → CountsSo how before now
 counts_later halt.WriteFault before mid now first then = omega arith
 counts_later halt.NoMemory before mid now first then = omega arith
+counts_later (halt.BadReply len) before mid now first then = absurd (then)
+
+-- where writing failed it halted so
+pub write_halted : {A : Type 0} (Goes : A → List (List (List ℕ)) → A → Type 0) (Halts : A → List (List (List ℕ)) → Halt → List (List (List ℕ)) → A → Type 0)
+    (Ends : A → A → Type 0) (left left' : Option (List ℕ)) (a b : A) (P : Type 0) → ((first rest : List (List (List ℕ))) → Halts a first halt.WriteFault rest b → P)
+    → (how : Status) → IsAnswered Goes Halts Ends how left left' a b → how ≡ status.WriteFault → P
+write_halted Goes Halts Ends left left' a b P so how answered is =
+    let failed : AnswersSo Goes Halts Ends status.WriteFault a answered.0 b = subst (λ (s : Status). AnswersSo Goes Halts Ends s a answered.0 b) is answered.2 in
+    so failed.halted.first failed.halted.rest failed.halted.halts

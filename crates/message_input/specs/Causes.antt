@@ -45,18 +45,18 @@ BadFrameSo at old new = (taken : List ℕ) × Consumes old new taken
     × ((fault : FrameFault) × HasEnding taken (Bad fault) × (at ≡ fault_place fault))
 
 -- as many bytes as the limit says were taken, none of their lines at fault, or fewer; a run may
--- stop at the last of them too
+-- stop at the last of them too, by a line or by a message's answer
 abbrev pub TakesSo : ℕ → Status → List ℕ → Type 0
 TakesSo limit status.LongInput taken =
     (length taken ≡ limit) × ((fault : FrameFault) → HasEnding taken (Bad fault) → ⊥)
 TakesSo limit (status.BadFrame at) taken = length taken ≤ limit
 TakesSo limit status.WriteFault taken = length taken ≤ limit
 TakesSo limit status.NoMemory taken = length taken ≤ limit
+TakesSo limit (status.BadReply len) taken = length taken ≤ limit
 TakesSo limit _ taken = length taken < limit
 
 -- too long: just where as many bytes without a line at fault were taken as the limit says; else
--- fewer are taken, and never more. Where writing fails or memory is short any number up to that may
--- be
+-- fewer are taken, and never more. Where answering halts any number up to that may be
 abbrev pub LongSo : ℕ → Status → Option (List ℕ) → Option (List ℕ) → Type 0
 LongSo limit s old new = (taken : List ℕ) × Consumes old new taken × TakesSo limit s taken
 

@@ -22,6 +22,7 @@ pub record IsRead {A : Type 0} (Goes : A → List (List (List ℕ)) → A → Ty
   pub cause : HasCause limit how left left'
   pub writes : how ≢ status.WriteFault
   pub has_memory : how ≢ status.NoMemory
+  pub replies : (len : ℕ) → how ≢ status.BadReply len
 
 -- a front of the messages of the bytes taken was answered, and no more
 pub record IsHalted {A : Type 0}
@@ -42,7 +43,7 @@ pub record AnswersToEnd {A : Type 0} (Goes : A → List (List (List ℕ)) → A 
   pub answers : AnswersAll Goes old bytes ending last
   pub ends : Ends last new
 
--- so by the status; where writing fails or memory is short, a front of them was
+-- so by the status; where answering halts, a front of them was
 abbrev pub AnswersSo : {A : Type 0} → (A → List (List (List ℕ)) → A → Type 0)
     → (A → List (List (List ℕ)) → Halt → List (List (List ℕ)) → A → Type 0)
     → (A → A → Type 0) → Status → A → List ℕ → A → Type 0
@@ -50,6 +51,8 @@ AnswersSo Goes Halts Ends status.WriteFault old bytes new =
     AnswersSome Halts old bytes halt.WriteFault new
 AnswersSo Goes Halts Ends status.NoMemory old bytes new =
     AnswersSome Halts old bytes halt.NoMemory new
+AnswersSo Goes Halts Ends (status.BadReply len) old bytes new =
+    AnswersSome Halts old bytes (halt.BadReply len) new
 AnswersSo Goes Halts Ends how old bytes new = AnswersToEnd Goes Ends how old bytes new
 
 -- so for the bytes taken

@@ -11,6 +11,9 @@ pub enum Halt {
     WriteFault,
     /// There is not enough memory.
     NoMemory,
+    /// A reply has a chunk that is too long, of so many bytes. All is written, and the end was taken
+    /// note of.
+    BadReply { len: u64 },
 }
 
 impl From<AllocError> for Halt {

@@ -128,9 +128,9 @@ fn take_input<A: Answering, S: Source>(
 /// pulled, and then has the end taken note of, but where answering halted. At most `limit` bytes
 /// are taken.
 ///
-/// The status is WriteFault or NoMemory where answering halted for that, NoMemory also where there
-/// is none for the bytes of a message; else it tells how the input ended: Done, Truncated,
-/// BadFrame, LongInput or ReadFault.
+/// The status is WriteFault, NoMemory or BadReply where answering halted for that, NoMemory also
+/// where there is none for the bytes of a message; else it tells how the input ended: Done,
+/// Truncated, BadFrame, LongInput or ReadFault.
 pub fn answer_input<A: Answering, S: Source>(
     alloc: Global,
     answering: &mut A,
@@ -151,5 +151,6 @@ pub fn answer_input<A: Answering, S: Source>(
         }
         Err(Halt::WriteFault) => Status::WriteFault,
         Err(Halt::NoMemory) => Status::NoMemory,
+        Err(Halt::BadReply { len }) => Status::BadReply { len },
     }
 }

@@ -27,7 +27,7 @@ use Rattle.mirror_rules.specs.Telling.{IsTold}
 use Rattle.mirror_laws.proofs.Finishing.{finished_image}
 use Rattle.mirror_laws.proofs.Known.{ImageOf}
 use Rattle.mirror_laws.proofs.ReportLaws.{Laws}
-use Rattle.mirror_laws.proofs.Lists.{any_at}
+use Rattle.text_words.proofs.KnownFinds.{any_at}
 use Rattle.mirror_laws.proofs.Mirrors.{AllLive}
 use Rattle.mirror_laws.proofs.Reporting.{belongs, reports_told, source_of}
 use Rattle.mirror_laws.proofs.Spots.{Spot}

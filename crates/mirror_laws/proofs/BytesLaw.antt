@@ -25,8 +25,8 @@ use Rattle.mirror_laws.specs.Shown.{SeesSo}
 use Rattle.mirror_laws.specs.Streams.{CanBeHeard, EndsWith, FollowsBytes, all_replies}
 use Rattle.mirror_laws.proofs.BytesStand.{Stands, replies_are, stands}
 use Rattle.mirror_laws.proofs.HeardReplies.{all_front}
-use Rattle.mirror_laws.proofs.Readings.{StreamLaws, read_all}
-use Rattle.mirror_laws.proofs.Walking.{ahead_of, whole, whole_is}
+use Rattle.mirror_laws.proofs.KnownReadings.{StreamLaws, read_all}
+use Rattle.mirror_laws.proofs.KnownWalking.{ahead_of, whole, whole_is}
 
 -- of two backs of a list one is a back of the other
 comparable : (a b h g : List Entry) → a ++ h ≡ b ++ g → ((x : List Entry) × (h ≡ x ++ g)) ⊎ ((x : List Entry) × (g ≡ x ++ h))

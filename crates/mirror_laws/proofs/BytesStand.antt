@@ -20,11 +20,12 @@ use Rattle.mirror_rules.specs.Events.{AreHeard, AreMoves, MirrorEvent, Given, Fe
 use Rattle.mirror_rules.specs.Moves.{Move, Sent, Heard, Broken}
 use Rattle.mirror_laws.specs.Follows.{calls}
 use Rattle.mirror_laws.specs.Streams.{AreInTime, CanBeHeard, IsInTime, all_replies, reads_given}
-use Rattle.mirror_laws.proofs.HeardMoves.{heard_both, heard_same, next_of}
+use Rattle.mirror_rules.proofs.KnownMoves.{heard_both}
+use Rattle.mirror_laws.proofs.HeardMoves.{heard_same, next_of}
 use Rattle.mirror_laws.proofs.NextReply.{IsLate, walk}
 use Rattle.mirror_laws.proofs.HeardReplies.{HeardTold, heard_told}
-use Rattle.mirror_laws.proofs.Readings.{HeardAs, StreamLaws, first_read, heard_read, never_bad, read_all}
-use Rattle.mirror_laws.proofs.Walking.{StandsAt, ahead_of, calls_both, follows_send, whole_is}
+use Rattle.mirror_laws.proofs.KnownReadings.{HeardAs, StreamLaws, first_read, heard_read, never_bad, read_all}
+use Rattle.mirror_laws.proofs.KnownWalking.{StandsAt, ahead_of, calls_both, follows_send, whole_is}
 
 module _ {S : Type 0} (l : Lang S) (service : Service) where
   -- the bytes of a history's replies

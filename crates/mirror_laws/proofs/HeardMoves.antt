@@ -5,13 +5,7 @@ use Rattle.session_rules.specs.declared.entry.Entry.{Entry}
 use Rattle.mirror_rules.specs.Events.{heard_moves}
 use Rattle.mirror_rules.specs.Moves.{Move, Sent, Heard, Broken}
 use Rattle.mirror_laws.proofs.HeardReplies.{HeardTold}
-use Rattle.mirror_laws.proofs.Walking.{whole}
-
-pub heard_both : (a b : List Move) → heard_moves (a ++ b) ≡ heard_moves a ++ heard_moves b
-heard_both [] b = refl
-heard_both (Sent read ∷ a) b = heard_both a b
-heard_both (Heard at reply ∷ a) b = ap (λ ms. Heard at reply ∷ ms) (heard_both a b)
-heard_both (Broken fault ∷ a) b = ap (λ ms. Broken fault ∷ ms) (heard_both a b)
+use Rattle.mirror_laws.proofs.KnownWalking.{whole}
 
 -- what was heard is one list of replies
 pub heard_same : (moves : List Move) (f g : List Told) → HeardTold moves f → HeardTold moves g → f ≡ g

@@ -7,7 +7,7 @@ use Rattle.reply_writing.specs.Replies.{reply_chunks}
 use Rattle.reply_reading.specs.Replies.{FindsReply}
 use Rattle.mirror_rules.specs.Moves.{Move, Sent, Heard, Broken}
 use Rattle.mirror_laws.specs.Streams.{CanBeHeard}
-use Rattle.mirror_laws.proofs.Readings.{HeardAs, StreamLaws}
+use Rattle.mirror_laws.proofs.KnownReadings.{HeardAs, StreamLaws}
 
 -- what moves heard, in words of what was told
 abbrev pub HeardTold : List Move → List Told → Type 0

@@ -15,14 +15,13 @@ use Rattle.exec_rules.specs.declared.row.Row.{Row}
 use Rattle.exec_rules.specs.declared.version.Version.{Version}
 use Rattle.exec_rules.specs.Assigning.{entries_in, rows_in}
 use Rattle.exec_rules.specs.Listed.{is_other, told_commands, told_commands_in}
-use Rattle.core_rules.proofs.KnownCommands.{ids}
+use Rattle.core_rules.proofs.KnownCommands.{ids, id_there}
 use Rattle.reply_writing.specs.declared.told.CommandRow.{CommandRow}
 use Rattle.session_rules.specs.Replies.{rows_told}
 use Rattle.mirror_rules.specs.Rows.{has_command, is_unknown}
 use Rattle.mirror_laws.proofs.Known.{entries_named}
 use Rattle.mirror_laws.proofs.Listed.{told_rows}
 use Rattle.mirror_laws.proofs.Named.{found_at}
-use Rattle.mirror_laws.proofs.Rows.{id_there}
 
 themselves : (nodes : NodeList) → map (λ (pair : List ℕ × Node). (pair.0, pair.1)) nodes ≡ nodes
 themselves [] = refl

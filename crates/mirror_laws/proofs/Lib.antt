@@ -42,10 +42,10 @@ mod NodeAlike
 mod Seeing
 mod Filled
 mod MirrorLaw
-mod Readings
+pub mod KnownReadings
 mod HeardReplies
-mod OneReply
-mod Walking
+pub mod KnownOneReply
+pub mod KnownWalking
 mod NextReply
 mod HeardMoves
 mod BytesStand

@@ -7,17 +7,6 @@ use Rattle.std.proofs.lemmas.List.Folds.{find-append}
 use Rattle.std.specs.Option.{option_or}
 
 module _ {A : Type 0} where
-  -- what is looked for stays, where all that pass stay
-  pub find_kept : (p g : A → Bool) (xs : List A) → ((x : A) → p x ≡ true → g x ≡ true) → find p (filter g xs) ≡ find p xs
-  find_kept p g [] so = refl
-  find_kept p g (x ∷ xs) so = go (g x) refl (p x) refl (find_kept p g xs so)
-    where
-      go : (a : Bool) → g x ≡ a → (b : Bool) → p x ≡ b → find p (filter g xs) ≡ find p xs
-          → find p (cond a (x ∷ filter g xs) (filter g xs)) ≡ cond b (Some x) (find p xs)
-      go true is b at rest = ap (λ c. cond c (Some x) (find p (filter g xs))) at ∙ ap (λ o. cond b (Some x) o) rest
-      go false is true at rest = let yes = so x at in absurd (cc)
-      go false is false at rest = rest
-
   -- what is not there doesn't come by leaving out
   pub find_gone : (p g : A → Bool) (xs : List A) → find p xs ≡ None → find p (filter g xs) ≡ None
   find_gone p g [] none = refl
@@ -29,19 +18,9 @@ module _ {A : Type 0} where
       go true false at none rest = ap (λ c. cond c (Some x) (find p (filter g xs))) at ∙ rest none
       go false false at none rest = rest none
 
-  -- behind what doesn't have it
-  pub find_behind : (p : A → Bool) (xs ys : List A) → find p xs ≡ None → find p (xs ++ ys) ≡ find p ys
-  find_behind p xs ys none = find-append p xs ys ∙ ap (λ o. option_or o (find p ys)) none
-
   -- before what may have another
   pub find_before : (p : A → Bool) (xs ys : List A) (x : A) → find p xs ≡ Some x → find p (xs ++ ys) ≡ Some x
   find_before p xs ys x at = find-append p xs ys ∙ ap (λ o. option_or o (find p ys)) at
-
-  -- one that passes is enough
-  pub any_at : (p : A → Bool) (xs : List A) (i : ℕ) (x : A) → slice_get xs i ≡ Some x → p x ≡ true → list_any p xs ≡ true
-  any_at p [] i x at is = absurd (cc)
-  any_at p (y ∷ xs) zero x at is = let same : y ≡ x = cc in or_left (p y) (list_any p xs) (ap p same ∙ is)
-  any_at p (y ∷ xs) (suc i) x at is = or_right (p y) (list_any p xs) (any_at p xs i x at is)
 
   -- where none passes
   pub none_at : (p : A → Bool) (xs : List A) → ((i : ℕ) (x : A) → slice_get xs i ≡ Some x → p x ≡ false) → list_any p xs ≡ false
@@ -57,8 +36,3 @@ module _ {A : Type 0} where
 pub map_same : {A B : Type 0} (f g : A → B) (xs : List A) → ((i : ℕ) (x : A) → slice_get xs i ≡ Some x → f x ≡ g x) → map f xs ≡ map g xs
 map_same f g [] each = refl
 map_same f g (x ∷ xs) each = ap (λ y. y ∷ map f xs) (each zero x refl) ∙ ap (λ ys. g x ∷ ys) (map_same f g xs (λ i y at. each (suc i) y at))
-
-pub map_get : {A B : Type 0} (f : A → B) (xs : List A) (i : ℕ) (x : A) → slice_get xs i ≡ Some x → slice_get (map f xs) i ≡ Some (f x)
-map_get f [] i x at = absurd (cc)
-map_get f (y ∷ xs) zero x at = let same : y ≡ x = cc in ap (λ z. Some (f z)) same
-map_get f (y ∷ xs) (suc i) x at = map_get f xs i x at

@@ -1,5 +1,5 @@
 -- An editor that follows a history sees what the session shows.
-use Rattle.std.proofs.Common.{◌≡◌, List, ◌++◌, None}
+use Rattle.std.proofs.Common.{◌≡◌, List, ◌++◌, None, ap, ◌∙◌}
 use Rattle.language.specs.Lang.{Lang}
 use Rattle.session_rules.specs.declared.entry.Entry.{Entry}
 use Rattle.session_rules.specs.declared.service.Service.{Service}
@@ -13,9 +13,10 @@ use Rattle.mirror_rules.specs.Answers.{Read}
 use Rattle.mirror_rules.specs.Moves.{Move}
 use Rattle.mirror_rules.specs.Telling.{IsTold}
 use Rattle.mirror_laws.specs.Follows.{Follows}
-use Rattle.mirror_laws.specs.Shown.{SeesSo}
+use Rattle.mirror_laws.specs.Shown.{SeesSo, WaitsSo}
 use Rattle.mirror_laws.proofs.Facts.{Facts}
 use Rattle.mirror_laws.proofs.Following.{Reached, follow}
+use Rattle.mirror_laws.proofs.Outcomes.{step_called}
 use Rattle.mirror_laws.proofs.ReportLaws.{Laws}
 use Rattle.mirror_laws.proofs.Seeing.{all_seen}
 
@@ -29,4 +30,15 @@ sees_so l laws is_told facts law service ahead h sent moves legal alone follows 
       going = r.going;
       sees = λ version name edits. all_seen l laws is_told facts (session l service (all_heard service h)) r.mirror
           (facts.legal service (all_heard service h) legal) r.is name edits version;
+    }
+
+pub waits_so : {S : Type 0} (l : Lang S) → Laws → IsTold l → Facts l → AskedLaw → (service : Service) (ahead h : List Entry) (sent : List Read) (moves : List Move)
+    → IsLegal l service (all_heard service h) → (service ≡ Script → IsAlone l service None (all_heard service (ahead ++ h)))
+    → Follows l service ahead h sent moves → WaitsSo l service h sent moves
+waits_so l laws is_told facts law service ahead h sent moves legal alone follows =
+    let r : Reached l laws is_told facts law service h sent moves = follow l laws is_told facts law service ahead h sent moves legal alone follows in
+    record {
+      mirror = r.mirror;
+      going = r.going;
+      waits = λ none. r.waits ∙ ap (λ d. step_called d ++ sent) none;
     }

@@ -12,8 +12,8 @@ use Rattle.mirror_rules.specs.Answers.{Read}
 use Rattle.mirror_rules.specs.Moves.{Move, Heard}
 use Rattle.mirror_laws.specs.Follows.{AreHeard, Follows, call_of, calls}
 use Rattle.mirror_laws.specs.Streams.{all_replies}
-use Rattle.mirror_laws.proofs.OneReply.{AtMostOne, one_told}
-use Rattle.mirror_laws.proofs.Walking.{CallFirst, StandsAt, ahead_of, call_first, first_of, follows_entry, whole}
+use Rattle.mirror_laws.proofs.KnownOneReply.{AtMostOne, one_told}
+use Rattle.mirror_laws.proofs.KnownWalking.{CallFirst, StandsAt, ahead_of, call_first, first_of, follows_entry, whole}
 
 module _ {S : Type 0} (l : Lang S) (service : Service) where
   -- later entries only add replies

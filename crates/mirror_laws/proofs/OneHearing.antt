@@ -9,7 +9,7 @@ use Rattle.reply_writing.specs.Replies.{reply_chunks}
 use Rattle.reply_reading.specs.Replies.{FindsReply, IsReply}
 use Rattle.mirror_rules.specs.Events as events
 use Rattle.mirror_rules.specs.Moves.{Move, Sent, Heard, Broken}
-use Rattle.mirror_laws.proofs.Readings.{spelled_moves}
+use Rattle.mirror_laws.proofs.KnownReadings.{spelled_moves}
 
 -- streams have one reading, and each has one; chunks are those of one reply
 pub record HearingLaws : Type 0 where

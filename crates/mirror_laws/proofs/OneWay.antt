@@ -7,9 +7,9 @@ use Rattle.message_values.specs.declared.mode.Mode.{Mode}
 use Rattle.message_values.specs.Asked.{asked}
 use Rattle.mirror_rules.specs.Events.{AreHeard, AreMoves, AreSpelled, MirrorEvent, Given, Fed, heard_moves, stream}
 use Rattle.mirror_rules.specs.Moves.{Move, Sent, Heard, Broken}
-use Rattle.mirror_laws.proofs.HeardMoves.{heard_both}
+use Rattle.mirror_rules.proofs.KnownMoves.{heard_both}
 use Rattle.mirror_laws.proofs.OneHearing.{HearingLaws, one_spelling}
-use Rattle.mirror_laws.proofs.Readings.{ends_short, spelled_moves}
+use Rattle.mirror_laws.proofs.KnownReadings.{ends_short, spelled_moves}
 
 -- a fault as the newest move, where there is one
 abbrev with_fault : Ending → List Move → List Move

@@ -6,7 +6,7 @@ use Rattle.std.specs.List.{range_with_len}
 use Rattle.text_words.specs.Members.{has}
 use Rattle.exec_rules.specs.Assigning.{greater}
 use Rattle.core_rules.specs.Doc.{greatest}
-use Rattle.core_rules.proofs.KnownGreatest.{at_least, greater_both}
+use Rattle.core_rules.proofs.KnownGreatest.{at_most}
 
 pub filter_same : {A : Type 0} (f g : A → Bool) (xs : List A) → ((x : A) → f x ≡ g x) → filter f xs ≡ filter g xs
 filter_same f g [] same = refl
@@ -42,21 +42,10 @@ module _ (test : ℕ → Bool) where
           let e : n + (m - n) ≡ m = omega (arith, le) in
           ap (λ k. filter test (range_with_len 1 k)) (sym e) ∙ range_more 1 n (m - n) (λ x more. behind x (omega (arith, more)))
 
-most : (n : ℕ) (xs : List ℕ) (x : ℕ) → has xs x ≡ true → x ≤ greatest n xs
-most n [] x is = absurd (cc)
-most n (y ∷ xs) x is = go (or_cases (x == y) (has xs x) is) (most (greater n y) xs x)
-  where
-    go : ((x == y) ≡ true) ⊎ (has xs x ≡ true) → (has xs x ≡ true → x ≤ greatest (greater n y) xs) → x ≤ greatest (greater n y) xs
-    go (inl same) rest =
-        let e = eqb-true x y same in
-        let second = (greater_both (nat_lt n y) n y refl).1 in
-        let more = at_least (greater n y) xs in omega (arith, e, second, more)
-    go (inr there) rest = rest there
-
 -- what is above all is not there
 pub past_all : (xs : List ℕ) (x : ℕ) → greatest 0 xs < x → has xs x ≡ false
 past_all xs x lt = go (has xs x) refl
   where
     go : (b : Bool) → has xs x ≡ b → has xs x ≡ false
     go false is = is
-    go true is = let le = most 0 xs x is in absurd (omega (arith, lt, le))
+    go true is = let le = at_most 0 xs x is in absurd (omega (arith, lt, le))

@@ -4,20 +4,13 @@ use Rattle.std.proofs.lemmas.Bool.{eq-eqb, false≢true, or_parts, ne_eqb}
 use Rattle.std.specs.Prelude.{find, slice_get, ◌==◌}
 use Rattle.std.specs.Option.{option_map_or}
 use Rattle.text_words.specs.Members.{has}
-use Rattle.text_words.proofs.KnownMembers.{has_itself, has_tail}
+use Rattle.text_words.proofs.KnownMembers.{apart, has_itself, has_tail}
 use Rattle.doc_nodes.specs.declared.node.Entry.{Entry}
 use Rattle.exec_rules.specs.declared.row.Row.{Row}
 use Rattle.exec_rules.specs.Listed.{Told, executions, told_commands}
 use Rattle.core_rules.specs.Updates.{AllDiffer}
-use Rattle.core_rules.proofs.KnownCommands.{ids}
+use Rattle.core_rules.proofs.KnownCommands.{ids, id_there}
 use Rattle.mirror_rules.specs.Rows.{executions_of, rows_by}
-
--- the id of a command that is there
-pub id_there : (es : List Entry) (i : ℕ) (e : Entry) → slice_get es i ≡ Some e → has (ids es) e.command ≡ true
-id_there [] i e at = absurd (cc)
-id_there (x ∷ es) zero e at =
-    let same : x ≡ e = cc in ap (λ (y : Entry). has (ids (x ∷ es)) y.command) (sym same) ∙ has_itself (ids es) x.command
-id_there (x ∷ es) (suc i) e at = has_tail x.command e.command (ids es) (id_there es i e at)
 
 -- another command's row is passed by
 pub other_row : (c d : ℕ) (es : List ℕ) (rows : List Told) → (c == d) ≡ false → executions_of ((c, es) ∷ rows) d ≡ executions_of rows d
@@ -25,10 +18,6 @@ other_row c d es rows is = ap (λ b. option_map_or (λ (row : Told). row.1) (con
 
 own_row : (c : ℕ) (es : List ℕ) (rows : List Told) → executions_of ((c, es) ∷ rows) c ≡ es
 own_row c es rows = ap (λ b. option_map_or (λ (row : Told). row.1) (cond b (Some (c, es)) (find (λ (row : Told). row.0 == c) rows)) []) (eq-eqb c c refl)
-
--- an id among others differs from one that is not
-pub apart : (xs : List ℕ) (c d : ℕ) → has xs c ≡ false → has xs d ≡ true → (c == d) ≡ false
-apart xs c d out in_ = ne_eqb c d (λ e. false≢true (sym out ∙ ap (λ x. has xs x) e ∙ in_))
 
 abbrev pub row_list : Option Row → List ℕ
 row_list o = option_map_or executions o []

@@ -32,7 +32,7 @@ use Rattle.mirror_rules.specs.Images.{Image, Mirror}
 use Rattle.mirror_rules.specs.Updates.{image_after, buffer_after, with_tip}
 use Rattle.mirror_laws.proofs.Facts.{Facts}
 use Rattle.mirror_laws.proofs.Known.{AreFilled, ImageOf, image_on, reported_on}
-use Rattle.mirror_laws.proofs.Lists.{any_at}
+use Rattle.text_words.proofs.KnownFinds.{any_at}
 use Rattle.mirror_laws.proofs.Mirrors.{Mirrors, live_each, live_long, live_more}
 use Rattle.mirror_laws.proofs.TipScratch.{last_there}
 use Rattle.mirror_laws.proofs.Updating.{updated_image}

@@ -34,16 +34,16 @@ use Rattle.core_rules.proofs.KnownParts.{part_is}
 use Rattle.session_rules.specs.Replies.{rows_told}
 use Rattle.session_laws.specs.Keeping.{KeepsFront}
 use Rattle.mirror_rules.specs.Images.{FinishedPart, Image}
-use Rattle.mirror_rules.specs.Parts.{reports_at}
+use Rattle.mirror_rules.specs.Parts.{is_at, reports_at}
 use Rattle.mirror_rules.specs.Rows.{executions_of, rows_by, rows_of, node_rows}
 use Rattle.mirror_rules.specs.Updates.{image_after, stands}
 use Rattle.mirror_laws.proofs.Known.{AreFilled, ImageOf, SameTold, same_none, entries_named, reported, reported_on, rows_named}
 use Rattle.mirror_laws.proofs.KeptSpots.{KeptLaw, KeptSpot, kept_spot}
 use Rattle.mirror_laws.proofs.Listed.{named, not_listed, listed_none, listed_some}
-use Rattle.mirror_laws.proofs.Lists.{any_at, find_gone, find_kept, map_get, map_same}
+use Rattle.text_words.proofs.KnownFinds.{any_at, find_kept, map_get}
+use Rattle.mirror_laws.proofs.Lists.{find_gone, map_same}
 use Rattle.mirror_laws.proofs.Rows.{row_list, told_by}
 use Rattle.mirror_laws.proofs.Spots.{Spot, spot, told_at}
-use Rattle.mirror_laws.proofs.WithReport.{is_at}
 
 -- what was not reported is not kept
 gone : (fs : List FinishedPart) (kept : FinishedPart → Bool) (c : ℕ) (p : Part) → option_map (λ (f : FinishedPart). f.reports) (find (is_at c p) fs) ≡ None

@@ -4,7 +4,7 @@ use Rattle.std.proofs.lemmas.Bool.{eq-eqb, or_parts}
 use Rattle.std.specs.Prelude.{find, slice_get, flat_map, ◌==◌, ◌&&◌, ◌||◌, if◌then◌else◌}
 use Rattle.std.specs.Option.{option_map}
 use Rattle.text_words.specs.Members.{has}
-use Rattle.text_words.proofs.KnownMembers.{has_both, has_left, has_right}
+use Rattle.text_words.proofs.KnownMembers.{has_both, has_left, has_right, apart}
 use Rattle.text_words.proofs.KnownLists.{differ_turned}
 use Rattle.std.proofs.Math.Bool.{and-false}
 use Rattle.pide_base.specs.declared.part.Part.{Part}
@@ -15,24 +15,14 @@ use Rattle.exec_rules.specs.Listed.{Told}
 use Rattle.core_rules.specs.Assigned.{command_ids}
 use Rattle.core_rules.specs.Parts.{same_part}
 use Rattle.core_rules.specs.Updates.{AllDiffer}
-use Rattle.core_rules.proofs.KnownCommands.{ids, differ_back, differ_front}
+use Rattle.core_rules.proofs.KnownCommands.{ids, command_there, differ_apart, differ_back, differ_front, id_there}
 use Rattle.core_rules.proofs.KnownParts.{part_itself}
 use Rattle.mirror_rules.specs.Images.{FinishedPart, Image}
-use Rattle.mirror_rules.specs.Parts.{reports_at}
+use Rattle.mirror_rules.specs.Parts.{is_at, reports_at}
 use Rattle.mirror_rules.specs.Reports.{PartReport, belongs_to, finished_at, finished_by, with_report}
 use Rattle.mirror_rules.specs.Rows.{rows_of}
-use Rattle.mirror_laws.proofs.Lists.{find_behind, find_before}
-use Rattle.mirror_laws.proofs.Rows.{apart, id_there}
-
-abbrev pub is_at : ℕ → Part → FinishedPart → Bool
-is_at c p f = f.command == c && same_part f.part p
-
--- an id that is in one list is not in another, where all differ
-pub differ_apart : (xs ys : List ℕ) (c : ℕ) → AllDiffer (xs ++ ys) → has ys c ≡ true → has xs c ≡ false
-differ_apart [] ys c differ is = refl
-differ_apart (x ∷ xs) ys c differ is =
-    let out = (or_parts (has xs x) (has ys x) (sym (has_both xs ys x) ∙ differ.0)).1 in
-    ap (λ b. b || has xs c) (differ_turned x c (apart ys x c out is)) ∙ differ_apart xs ys c differ.1 is
+use Rattle.text_words.proofs.KnownFinds.{find_behind}
+use Rattle.mirror_laws.proofs.Lists.{find_before}
 
 module _ (told : PartReport) where
   -- what is finished by a report is found for its own part alone
@@ -97,16 +87,6 @@ module _ (told : PartReport) where
     pub other_stays : (c : ℕ) (p : Part) → same_part told.part p ≡ false → reports_at (with_report told im) c p ≡ reports_at im c p
     other_stays c p other = ap (λ o. option_map (λ (f : FinishedPart). f.reports) o)
         (find_behind (is_at c p) (flat_map node_parts im.nodes) im.finished (others c p im.nodes other))
-
-    command_there : (nodes : NodeList) (q i : ℕ) (pair : List ℕ × Node) (e : Entry) → slice_get nodes q ≡ Some pair
-        → slice_get pair.1.entries i ≡ Some e → has (command_ids nodes) e.command ≡ true
-    command_there [] q i pair e at there = absurd (cc)
-    command_there (n ∷ ns) zero i pair e at there =
-        let same : n ≡ pair = cc in
-        has_left (ids n.1.entries) (command_ids ns) e.command
-        (subst (λ (x : List ℕ × Node). has (ids x.1.entries) e.command ≡ true) (sym same) (id_there pair.1.entries i e there))
-    command_there (n ∷ ns) (suc q) i pair e at there =
-        has_right (ids n.1.entries) (command_ids ns) e.command (command_there ns q i pair e at there)
 
     own : (nodes : NodeList) (q i : ℕ) (pair : List ℕ × Node) (e : Entry) → AllDiffer (command_ids nodes)
         → slice_get nodes q ≡ Some pair → slice_get pair.1.entries i ≡ Some e → belongs_to told pair.1 (rows_of im pair.0) e ≡ true

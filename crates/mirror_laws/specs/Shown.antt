@@ -14,6 +14,8 @@ use Rattle.session_rules.specs.Replies.{is_outdated}
 use Rattle.session_rules.specs.Services.{mode_of}
 use Rattle.session_rules.specs.Session.{Session, document}
 use Rattle.session_rules.specs.Shown.{finished_reports}
+use Rattle.session_rules.specs.Steps.{Nothing, due}
+use Rattle.mirror_rules.specs.Answers.{Read}
 use Rattle.mirror_rules.specs.Images.{Mirror}
 use Rattle.mirror_rules.specs.Looking.{View, view_in}
 use Rattle.mirror_rules.specs.Moves.{Move, Going, mirrored}
@@ -35,3 +37,11 @@ pub record SeesSo {S : Type 0} (l : Lang S) (service : Service) (h : List Entry)
   pub going : mirrored (mode_of service) moves ≡ Going mirror
   pub sees : (version : ℕ) (name : List ℕ) (edits : List Edit) → view_in mirror version name edits
       ≡ view_shown l (session l service (all_heard service h)) version name edits
+
+-- they met no fault, and where nothing is called for, the messages that are unanswered are those
+-- sent ahead
+pub record WaitsSo {S : Type 0} (l : Lang S) (service : Service) (h : List Entry)
+    (sent : List Read) (moves : List Move) : Type 0 where
+  pub mirror : Mirror
+  pub going : mirrored (mode_of service) moves ≡ Going mirror
+  pub waits : due l service (all_heard service h) ≡ Nothing → mirror.unanswered ≡ sent

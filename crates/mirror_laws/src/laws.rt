@@ -14,7 +14,7 @@ ghost use Rattle.mirror_rules.specs.Images.{Mirror};
 ghost use Rattle.mirror_rules.specs.Moves.{Going, Move, mirrored};
 ghost use Rattle.mirror_rules.specs.Telling.{IsTold};
 ghost use Rattle.mirror_laws.specs.Follows.{Follows};
-ghost use Rattle.mirror_laws.specs.Shown.{SeesSo};
+ghost use Rattle.mirror_laws.specs.Shown.{SeesSo, WaitsSo};
 ghost use Rattle.mirror_laws.specs.Streams.{EndsWith, FollowsBytes};
 
 use byte_message::{longer_streams, one_reading, written_is_read};
@@ -31,14 +31,19 @@ use symbol_markup::{places_in_symbols, ranges_are_had_back};
 
 /// An editor that sends a history's messages, each before its reply, and hears the replies, meets
 /// no fault, and sees of each node of each version just what the session shows and lists as pending
-/// after the entries whose replies it has heard. Where messages step the workers, the reader works
-/// before settles alone.
+/// after the entries whose replies it has heard; and what it sent ahead is what is unanswered. Where
+/// messages step the workers, the reader works before settles alone.
 pub fn mirror_law<L: Language>()
-    ensures { (service : Service) (ahead h : List Entry) (sent : List Read) (moves : List Move)
-        → IsTold L.lang → IsLegal L.lang service (all_heard service h)
+    ensures sees { (service : Service) (ahead h : List Entry) (sent : List Read)
+        (moves : List Move) → IsTold L.lang → IsLegal L.lang service (all_heard service h)
         → (service ≡ service_is.Script
         → IsAlone L.lang service None (all_heard service (ahead ++ h)))
         → Follows L.lang service ahead h sent moves → SeesSo L.lang service h moves }
+    ensures waits { (service : Service) (ahead h : List Entry) (sent : List Read)
+        (moves : List Move) → IsTold L.lang → IsLegal L.lang service (all_heard service h)
+        → (service ≡ service_is.Script
+        → IsAlone L.lang service None (all_heard service (ahead ++ h)))
+        → Follows L.lang service ahead h sent moves → WaitsSo L.lang service h sent moves }
 {
     events_law::<L>();
     headline_law::<L>();

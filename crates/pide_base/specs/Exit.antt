@@ -14,3 +14,4 @@ exit_number (status.Truncated at) = 6
 exit_number status.LongInput = 7
 exit_number status.NoMemory = 8
 exit_number (status.BadText at) = 9
+exit_number (status.BadReply len) = 10

@@ -22,6 +22,9 @@ pub enum Status {
     NoMemory,
     /// The first byte that is in no whole character of UTF-8.
     BadText { at: u64 },
+    /// A reply has a chunk that is too long for a byte message; the first such chunk has so many
+    /// bytes.
+    BadReply { len: u64 },
 }
 
 impl Status {
@@ -41,6 +44,7 @@ impl Status {
             Status::LongInput => 7,
             Status::NoMemory => 8,
             Status::BadText { at: _ } => 9,
+            Status::BadReply { len: _ } => 10,
         }
     }
 }

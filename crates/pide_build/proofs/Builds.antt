@@ -1,5 +1,5 @@
 -- What is built behind an input that ends between messages.
-use Rattle.std.proofs.Common.{[], List, ℕ, Option, Result, Ok, Err, OnOk, refl, subst, inr, arith}
+use Rattle.std.proofs.Common.{◌≢◌, [], List, ℕ, Option, Result, Ok, Err, OnOk, IfErr, refl, subst, inr, arith}
 use Rattle.std.specs.Io.KnownBytes.{Appends, IsAtEnd}
 use Rattle.std.proofs.KnownBytes.{Appends-trans}
 use Rattle.pide_base.specs.Moves.{AppendsFront}
@@ -8,6 +8,7 @@ use Rattle.pide_base.specs.declared.status.Status.TheVariants as status
 use Rattle.byte_message.specs.Stream.Ending.{Whole}
 use Rattle.language.specs.Lang.{Lang}
 use Rattle.message_input.specs.Causes.{HasCause}
+use Rattle.message_input.specs.Counts.{CountsSo}
 use Rattle.message_input.specs.declared.answering.Halt.{Halt}
 use Rattle.message_input.specs.declared.answering.Halt.TheVariants as halt
 use Rattle.pide_build.specs.Answers.{status_of}
@@ -31,28 +32,29 @@ module _ {S : Type 0} (l : Lang S) (left left' held mid held' : Option (List ℕ
       AppendsFront-after held mid held' (refusals came.messages []) (build_replies l (theories_after came.messages [])) came.writes
       (subst (λ ts. AppendsFront mid held' (build_replies l ts)) came.theories_are front)
 
-  pub builds : (built : Result (Unit {0}) Halt) → OnOk built (Appends mid held' (build_replies l theories))
-      → IsBuild l (status_of built) left left' held held'
-  builds built ok = record {
+  pub builds : (before now : ℕ) (built : Result (Unit {0}) Halt) → OnOk built (Appends mid held' (build_replies l theories))
+      → IfErr built (λ h. CountsSo h before now) → IsBuild l (status_of built) left left' held held'
+  builds before now built ok counts = record {
     taken = came.taken;
     consumes = came.consumes;
     messages = came.messages;
     ending = Whole;
     read = came.read;
-    writes = written built ok;
+    writes = written built ok counts;
   }
     where
-      written : (r : Result (Unit {0}) Halt) → OnOk r (Appends mid held' (build_replies l theories))
+      written : (r : Result (Unit {0}) Halt) → OnOk r (Appends mid held' (build_replies l theories)) → IfErr r (λ h. CountsSo h before now)
           → WritesSo l (status_of r) came.messages Whole left' held held'
-      written (Ok done) all = all_written all
-      written (Err halt.WriteFault) all = inr (at_end, refl, some_written)
-      written (Err halt.NoMemory) all = inr (at_end, refl, some_written)
+      written (Ok done) all counts = all_written all
+      written (Err halt.WriteFault) all counts = inr (at_end, refl, some_written)
+      written (Err halt.NoMemory) all counts = inr (at_end, refl, some_written)
+      written (Err (halt.BadReply len)) all counts = absurd (counts)
 
 -- the cause of the status behind a build
-pub causes : (limit : ℕ) (left left' : Option (List ℕ)) (built : Result (Unit {0}) Halt) → HasCause limit status.Done left left'
-    → HasCause limit (status_of built) left left'
-causes limit left left' (Ok done) cause = cause
-causes limit left left' (Err halt.WriteFault) cause = record {
+pub causes : (limit : ℕ) (left left' : Option (List ℕ)) (before now : ℕ) (built : Result (Unit {0}) Halt) → IfErr built (λ h. CountsSo h before now)
+    → HasCause limit status.Done left left' → HasCause limit (status_of built) left left'
+causes limit left left' before now (Ok done) counts cause = cause
+causes limit left left' before now (Err halt.WriteFault) counts cause = record {
   bad_frame = λ at e. absurd (cc);
   truncated = λ at e. absurd (cc);
   long_input = (let long = cause.long_input in (long.0, long.1, omega (arith, long.2)));
@@ -60,7 +62,7 @@ causes limit left left' (Err halt.WriteFault) cause = record {
   no_text = λ at e. cc;
   no_words = λ e. cc;
 }
-causes limit left left' (Err halt.NoMemory) cause = record {
+causes limit left left' before now (Err halt.NoMemory) counts cause = record {
   bad_frame = λ at e. absurd (cc);
   truncated = λ at e. absurd (cc);
   long_input = (let long = cause.long_input in (long.0, long.1, omega (arith, long.2)));
@@ -68,3 +70,11 @@ causes limit left left' (Err halt.NoMemory) cause = record {
   no_text = λ at e. cc;
   no_words = λ e. cc;
 }
+causes limit left left' before now (Err (halt.BadReply len)) counts cause = absurd (counts)
+
+-- it isn't that of a long reply
+pub never_long : (before now : ℕ) (built : Result (Unit {0}) Halt) → IfErr built (λ h. CountsSo h before now) → (len : ℕ) → status_of built ≢ status.BadReply len
+never_long before now (Ok done) counts len e = let no : ⊥ = cc in no
+never_long before now (Err halt.WriteFault) counts len e = let no : ⊥ = cc in no
+never_long before now (Err halt.NoMemory) counts len e = let no : ⊥ = cc in no
+never_long before now (Err (halt.BadReply long)) counts len e = absurd (counts)

@@ -120,6 +120,14 @@ module _ {S A : Type 0} (l : Lang S) (theories_of : A → TheoryList) (held_of :
           read = r.answers.read;
           writes = wrote r.last r.answers.messages r.answers.goes r.ends;
         }
+    unbuilt (status.BadReply len) other (taken, consumes, r) = absurd (r.halted.halts.counts)
+
+    -- it never halts for a long reply
+    pub never_long : (how : Status) (len : ℕ) → how ≡ status.BadReply len → IsAnswered Goes Halts Ends how left left' a b → ⊥
+    never_long how len is answered =
+        let long : AnswersSo Goes Halts Ends (status.BadReply len) a answered.0 b =
+        subst (λ (s : Status). AnswersSo Goes Halts Ends s a answered.0 b) is answered.2 in
+        long.halted.halts.counts
 
     -- where writing failed a count rose
     pub fault_rose : (how : Status) → how ≡ status.WriteFault → IsAnswered Goes Halts Ends how left left' a b → Rose (faults_of a) (faults_of b)

@@ -29,3 +29,4 @@ abbrev pub status_of : Result (Unit {0}) Halt → Status
 status_of (Ok done) = status.Done
 status_of (Err halt.WriteFault) = status.WriteFault
 status_of (Err halt.NoMemory) = status.NoMemory
+status_of (Err (halt.BadReply len)) = status.BadReply len

@@ -1,5 +1,5 @@
 //! A run: the messages of a source, taken to its end, and what is built of them.
-ghost use Rattle.std.specs.Prelude.{◌≡◌, ◌≤◌, OnOk, IfErr};
+ghost use Rattle.std.specs.Prelude.{◌≡◌, ◌≢◌, ◌≤◌, ℕ, OnOk, IfErr};
 ghost use Rattle.std.specs.Io.KnownBytes.{Appends};
 ghost use Rattle.pide_base.specs.Faults.{Rose};
 ghost use Rattle.pide_base.specs.Moves.{AppendsFront};
@@ -85,6 +85,7 @@ fn status_of(built: Result<(), Halt>) -> Status
         Ok(()) => Status::Done,
         Err(Halt::WriteFault) => Status::WriteFault,
         Err(Halt::NoMemory) => Status::NoMemory,
+        Err(Halt::BadReply { len }) => Status::BadReply { len },
     }
 }
 
@@ -121,6 +122,7 @@ where
         → Rose (S.faults source.old) (S.faults source.new) }
     ensures write_fault { result.status ≡ Status.WriteFault
         → Rose (K.faults sink) (K.faults result.sink) }
+    ensures no_reply { (len : ℕ) → result.status ≢ Status.BadReply len }
     ensures complete { CompleteSo limit (S.left source.old) (S.faults source.old)
         (S.faults source.new) (K.faults sink) (K.faults result.sink) result.status }
 {

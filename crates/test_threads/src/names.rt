@@ -60,6 +60,7 @@ const EXITS: &[(Status, u8)] = &[
     (Status::LongInput, 7),
     (Status::NoMemory, 8),
     (Status::BadText { at: 0 }, 9),
+    (Status::BadReply { len: 7 }, 10),
 ];
 
 #[test]

@@ -31,19 +31,22 @@ use Rattle.thread_serve.specs.Joins.{calls_append, same_then}
 abbrev pub status_of_halt : Halt → Status
 status_of_halt halt.WriteFault = status.WriteFault
 status_of_halt halt.NoMemory = status.NoMemory
+status_of_halt (halt.BadReply len) = status.BadReply len
 
 module _ {A : Type 0} (Goes : A → List (List (List ℕ)) → A → Type 0) (Halts : A → List (List (List ℕ)) → Halt → List (List (List ℕ)) → A → Type 0)
     (Ends : A → A → Type 0) (old : A) (taken : List ℕ) (new : A) where
-  pub to_end : (how : Status) → how ≢ status.WriteFault → how ≢ status.NoMemory → AnswersSo Goes Halts Ends how old taken new → AnswersToEnd Goes Ends how old taken new
-  to_end status.Done fault short so = so
-  to_end status.Usage fault short so = so
-  to_end status.ReadFault fault short so = so
-  to_end status.WriteFault fault short so = absurd (fault refl)
-  to_end (status.BadFrame at) fault short so = so
-  to_end (status.Truncated at) fault short so = so
-  to_end status.LongInput fault short so = so
-  to_end (status.BadText at) fault short so = so
-  to_end status.NoMemory fault short so = absurd (short refl)
+  pub to_end : (how : Status) → how ≢ status.WriteFault → how ≢ status.NoMemory → ((len : ℕ) → how ≢ status.BadReply len) → AnswersSo Goes Halts Ends how old taken new
+      → AnswersToEnd Goes Ends how old taken new
+  to_end status.Done fault short fine so = so
+  to_end status.Usage fault short fine so = so
+  to_end status.ReadFault fault short fine so = so
+  to_end status.WriteFault fault short fine so = absurd (fault refl)
+  to_end (status.BadFrame at) fault short fine so = so
+  to_end (status.Truncated at) fault short fine so = so
+  to_end status.LongInput fault short fine so = so
+  to_end (status.BadText at) fault short fine so = so
+  to_end status.NoMemory fault short fine so = absurd (short refl)
+  to_end (status.BadReply len) fault short fine so = absurd (fine len refl)
 
   -- where it halted
   pub some_so : (how : Status) → IsHalt how → AnswersSo Goes Halts Ends how old taken new
@@ -51,18 +54,24 @@ module _ {A : Type 0} (Goes : A → List (List (List ℕ)) → A → Type 0) (Ha
   some_so how (inl is) so = (halt.WriteFault, is, subst (λ (h : Status). AnswersSo Goes Halts Ends h old taken new) is so)
   some_so how (inr is) so = (halt.NoMemory, is, subst (λ (h : Status). AnswersSo Goes Halts Ends h old taken new) is so)
 
+  -- it never halts for a long reply, where that has no answers
+  pub long_only : (how : Status) → ((len : ℕ) → AnswersSome Halts old taken (halt.BadReply len) new → ⊥) → AnswersSo Goes Halts Ends how old taken new
+      → (len : ℕ) → how ≢ status.BadReply len
+  long_only how none so len is = none len (subst (λ (h : Status). AnswersSo Goes Halts Ends h old taken new) is so)
+
 -- all messages were answered
 calls_so : (taken : List ℕ) (s : SessionState) (ending : Ending) → IsReadAs taken (calls_in s.items) ending → (how : Status) → how ≢ status.WriteFault → how ≢ status.NoMemory
-    → Tells how ending → CallsSo how taken s
-calls_so taken s ending read status.Done fault short tells = (ending, read, tells)
-calls_so taken s ending read status.Usage fault short tells = (ending, read, tells)
-calls_so taken s ending read status.ReadFault fault short tells = (ending, read, tells)
-calls_so taken s ending read status.WriteFault fault short tells = absurd (fault refl)
-calls_so taken s ending read (status.BadFrame at) fault short tells = (ending, read, tells)
-calls_so taken s ending read (status.Truncated at) fault short tells = (ending, read, tells)
-calls_so taken s ending read status.LongInput fault short tells = (ending, read, tells)
-calls_so taken s ending read (status.BadText at) fault short tells = (ending, read, tells)
-calls_so taken s ending read status.NoMemory fault short tells = absurd (short refl)
+    → ((len : ℕ) → how ≢ status.BadReply len) → Tells how ending → CallsSo how taken s
+calls_so taken s ending read status.Done fault short fine tells = (ending, read, tells)
+calls_so taken s ending read status.Usage fault short fine tells = (ending, read, tells)
+calls_so taken s ending read status.ReadFault fault short fine tells = (ending, read, tells)
+calls_so taken s ending read status.WriteFault fault short fine tells = absurd (fault refl)
+calls_so taken s ending read (status.BadFrame at) fault short fine tells = (ending, read, tells)
+calls_so taken s ending read (status.Truncated at) fault short fine tells = (ending, read, tells)
+calls_so taken s ending read status.LongInput fault short fine tells = (ending, read, tells)
+calls_so taken s ending read (status.BadText at) fault short fine tells = (ending, read, tells)
+calls_so taken s ending read status.NoMemory fault short fine tells = absurd (short refl)
+calls_so taken s ending read (status.BadReply len) fault short fine tells = absurd (fine len refl)
 
 abbrev end : SessionItem
 end = item.Made entry.Ended
@@ -96,18 +105,20 @@ module _ (limit : ℕ) (left left' : Option (List ℕ)) (taken : List ℕ) (cons
   free_still free = held_made says u.mine w.mine end said.Ended refl ends.mine ∙ free
 
   -- to the end of the input
-  pub read_all : (how : Status) → how ≢ status.WriteFault → how ≢ status.NoMemory → (ending : Ending) → IsReadAs taken messages ending → Tells how ending
+  pub read_all : (how : Status) → how ≢ status.WriteFault → how ≢ status.NoMemory → ((len : ℕ) → how ≢ status.BadReply len) → (ending : Ending)
+      → IsReadAs taken messages ending → Tells how ending
       → held_in says u.mine ≡ None → HasCause limit how left left' → HasRead limit how left left' w
-  read_all how fault short ending read tells free causes = record {
+  read_all how fault short fine ending read tells free causes = record {
     reader = caller_is;
     messages = λ s calls. (
       taken,
       consumes,
-      calls_so taken s ending (subst (λ (ms : List (List (List ℕ))). IsReadAs taken ms ending) (sym (calls ∙ calls_are)) read) how fault short tells,
+      calls_so taken s ending (subst (λ (ms : List (List (List ℕ))). IsReadAs taken ms ending) (sym (calls ∙ calls_are)) read) how fault short fine tells,
     );
     ended = has_end;
     free = λ done. free_still free;
     lost = λ is. absurd (fault is);
+    replies = fine;
     causes = causes;
   }
 
@@ -120,6 +131,7 @@ module _ (limit : ℕ) (left left' : Option (List ℕ)) (taken : List ℕ) (cons
     ended = has_end;
     free = λ done. absurd (not_done why done);
     lost = λ is. seen_why why is saw;
+    replies = λ len is. never_long why len is saw;
     causes = causes;
   }
     where
@@ -129,11 +141,19 @@ module _ (limit : ℕ) (left left' : Option (List ℕ)) (taken : List ℕ) (cons
       front : (h : Halt) (s : SessionState) → calls_in s.items ≡ messages → CallsSo (status_of_halt h) taken s
       front halt.WriteFault s are = front_of s are
       front halt.NoMemory s are = front_of s are
+      front (halt.BadReply len) s are = front_of s are
 
       not_done : (h : Halt) → status_of_halt h ≡ status.Done → ⊥
       not_done halt.WriteFault e = absurd (let no : ⊥ = cc in no)
       not_done halt.NoMemory e = absurd (let no : ⊥ = cc in no)
+      not_done (halt.BadReply len) e = absurd (let no : ⊥ = cc in no)
 
       seen_why : (h : Halt) → status_of_halt h ≡ status.WriteFault → SeesWhy h u → HasSeen says w said.Lost
       seen_why halt.WriteFault e has = (has.0, subst (λ (xs : List SessionItem). Contains xs has.0) begins.1 (Contains-append_left u.seen begins.0 has.0 has.1), has.2)
       seen_why halt.NoMemory e has = absurd (let no : ⊥ = cc in no)
+      seen_why (halt.BadReply len) e has = absurd (has)
+
+      never_long : (h : Halt) (len : ℕ) → status_of_halt h ≡ status.BadReply len → SeesWhy h u → ⊥
+      never_long halt.WriteFault len e saw = let no : ⊥ = cc in no
+      never_long halt.NoMemory len e saw = let no : ⊥ = cc in no
+      never_long (halt.BadReply long) len e saw = saw

@@ -31,6 +31,7 @@ module _ {S : Type 0} (l : Lang S) (held now : Option (List ℕ)) (t : SessionSt
     ends_kept status.LongInput other = record { written = written; sent = sent; lost = (kept, all) }
     ends_kept (status.BadText at) other = record { written = written; sent = sent; lost = (kept, all) }
     ends_kept status.NoMemory other = record { written = written; sent = sent; lost = (kept, all) }
+    ends_kept (status.BadReply len) other = record { written = written; sent = sent; lost = (kept, all) }
 
 -- a session that has ended is closed
 pub closed_so : {S : Type 0} (l : Lang S) (t : SessionState) → has_ended (session_in l t.service t.items).events ≡ true → (how : Status) → Closed l how t
@@ -43,3 +44,4 @@ closed_so l t ended (status.Truncated at) = ended
 closed_so l t ended status.LongInput = ended
 closed_so l t ended (status.BadText at) = ended
 closed_so l t ended status.NoMemory = tt
+closed_so l t ended (status.BadReply len) = ended

@@ -26,7 +26,7 @@ use Rattle.thread_serve.specs.Rest.{RestSo}
 use Rattle.thread_serve.specs.Stopped.{HasRead, HasWritten, WroteSo}
 use Rattle.thread_serve.proofs.Bytes.{handed_is_sent, handed_last, sent_is_front}
 use Rattle.thread_serve.proofs.Composed.{closed_so}
-use Rattle.thread_serve.proofs.Statuses.{causes_so, done_only, read_so}
+use Rattle.thread_serve.proofs.Statuses.{causes_so, done_only, never_long, read_so}
 use Rattle.thread_serve.proofs.Told.{all_ended, calls_are, nobody_holds, not_lost, reader_saw_loss, writer_lost}
 use Rattle.thread_serve.proofs.Whole.{ends_so, on_same, rose_so}
 
@@ -95,6 +95,7 @@ module _ {S : Type 0} (l : Lang S) (laws : RunLaws l) (count : ℕ) (held now : 
           };
           read = read_so lost is_short how left left' t (r.messages t (calls_still ∙ calls_are l count reader writer s c));
           free = free_so free;
+          replies = never_long lost is_short how r.replies;
           causes = causes_so limit how left left' r.causes lost is_short;
         }
 

@@ -1,5 +1,5 @@
 -- What holds of how an input ended holds of the run's status.
-use Rattle.std.proofs.Common.{◌≡◌, ℕ, ◌≤◌, Bool, true, false, List, [], length, Option, refl, sym, subst, arith, append-nil}
+use Rattle.std.proofs.Common.{◌≡◌, ◌≢◌, ℕ, ◌≤◌, Bool, true, false, List, [], length, Option, refl, sym, subst, arith, append-nil}
 use Rattle.pide_base.specs.declared.status.Status.{Status}
 use Rattle.pide_base.specs.declared.status.Status.TheVariants as status
 use Rattle.byte_message.specs.Stream.{Ending, IsReadAs}
@@ -21,6 +21,7 @@ kept_status Q true (status.Truncated at) q short = q
 kept_status Q true status.LongInput q short = q
 kept_status Q true (status.BadText at) q short = q
 kept_status Q true status.NoMemory q short = q
+kept_status Q true (status.BadReply len) q short = q
 
 -- a run that is done was never short
 pub done_only : (is_lost is_short : Bool) (how : Status) → status_of is_lost is_short how ≡ status.Done → (is_lost ≡ false) × (is_short ≡ false) × (how ≡ status.Done)
@@ -35,12 +36,18 @@ done_only false true (status.Truncated at) e = absurd (let no : ⊥ = cc in no)
 done_only false true status.LongInput e = absurd (let no : ⊥ = cc in no)
 done_only false true (status.BadText at) e = absurd (let no : ⊥ = cc in no)
 done_only false true status.NoMemory e = absurd (let no : ⊥ = cc in no)
+done_only false true (status.BadReply len) e = absurd (let no : ⊥ = cc in no)
 
 -- a read fault is the input's
 pub read_fault_only : (is_lost is_short : Bool) (how : Status) → status_of is_lost is_short how ≡ status.ReadFault → how ≡ status.ReadFault
 read_fault_only true is_short how e = absurd (let no : ⊥ = cc in no)
 read_fault_only false is_short how e = kept_status (λ s. s ≡ status.ReadFault → how ≡ status.ReadFault) is_short how (λ is. is)
     (λ done is. absurd (let no : ⊥ = cc in no)) e
+
+-- no reply is too long where none was for the reader
+pub never_long : (is_lost is_short : Bool) (how : Status) → ((len : ℕ) → how ≢ status.BadReply len) → (len : ℕ) → status_of is_lost is_short how ≢ status.BadReply len
+never_long true is_short how none len e = absurd (let no : ⊥ = cc in no)
+never_long false is_short how none len e = kept_status (λ s. s ≢ status.BadReply len) is_short how (none len) (λ done no. absurd (let never : ⊥ = cc in never)) e
 
 -- all messages of the bytes are a front of them
 front_of : (taken : List ℕ) (messages : List (List (List ℕ))) (ending : Ending) → IsReadAs taken messages ending → IsFront taken messages (λ rest. Unit {0})
@@ -54,6 +61,7 @@ front_of taken messages ending read = record {
 calls_front : (how : Status) (taken : List ℕ) (s : SessionState) → CallsSo how taken s → IsFront taken (calls_in s.items) (λ rest. Unit {0})
 calls_front status.WriteFault taken s so = so
 calls_front status.NoMemory taken s so = so
+calls_front (status.BadReply len) taken s so = so
 calls_front status.Done taken s so = front_of taken (calls_in s.items) so.0 so.1
 calls_front status.Usage taken s so = front_of taken (calls_in s.items) so.0 so.1
 calls_front status.ReadFault taken s so = front_of taken (calls_in s.items) so.0 so.1
@@ -73,6 +81,7 @@ at_most limit status.LongInput taken so = omega (arith, so.0)
 at_most limit (status.BadFrame at) taken so = so
 at_most limit status.WriteFault taken so = so
 at_most limit status.NoMemory taken so = so
+at_most limit (status.BadReply len) taken so = so
 at_most limit status.Done taken so = omega (arith, so)
 at_most limit status.Usage taken so = omega (arith, so)
 at_most limit status.ReadFault taken so = omega (arith, so)

@@ -37,6 +37,7 @@ module _ {S : Type 0} (l : Lang S) (limit : ℕ) (left held : Option (List ℕ))
     legal = record { legal = history s.service s.items list_legal; list = list_legal; none_due = rests; closed = tt };
     read = ([], Consumes-nil left, record { rest = []; ending = Whole; read = none_read; holds = tt });
     free = λ e. absurd (let no : ⊥ = cc in no);
+    replies = λ len e. absurd (let no : ⊥ = cc in no);
     causes = record {
       bad_frame = λ at e. absurd (let no : ⊥ = cc in no);
       truncated = λ at e. absurd (let no : ⊥ = cc in no);

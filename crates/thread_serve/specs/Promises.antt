@@ -1,6 +1,6 @@
 -- What is promised of a run in threads. `s` is the session after it; the bytes taken are those that
 -- were left before and no more after (this project's own).
-use Rattle.std.specs.Prelude.{◌≡◌, ℕ, Bool, true, false, List, Option, None}
+use Rattle.std.specs.Prelude.{◌≡◌, ◌≢◌, ℕ, Bool, true, false, List, Option, None}
 use Rattle.pide_base.specs.declared.status.Status.{Status}
 use Rattle.pide_base.specs.declared.status.Status.TheVariants as status
 use Rattle.language.specs.Lang.{Lang}
@@ -37,4 +37,5 @@ pub record IsServed {S : Type 0} (l : Lang S) (limit : ℕ) (how : Status)
   pub legal : OneLegalHistory l how s
   pub read : MessagesRead how left left' s
   pub free : how ≡ status.Done → NobodyHolds l s
+  pub replies : (len : ℕ) → how ≢ status.BadReply len
   pub causes : HasCause limit how left left'

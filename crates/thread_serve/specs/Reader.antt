@@ -37,10 +37,12 @@ pub record EndsAll (v w : View SessionItem) : Type 0 where
   pub same : IsSameCaller v w
   pub mine : w.mine ≡ v.mine ++ item.Made entry.Ended ∷ []
 
--- where what is replied can't be written, it has seen that the sink is lost
+-- where what is replied can't be written, it has seen that the sink is lost; it doesn't halt for a
+-- long reply
 abbrev pub SeesWhy : Halt → View SessionItem → Type 0
 SeesWhy halt.WriteFault w = HasSeen says w said.Lost
 SeesWhy halt.NoMemory w = ⊤
+SeesWhy (halt.BadReply len) w = ⊥
 
 module _ {S : Type 0} {g : Ghosts S SessionItem} where
   -- the reader's pass of this lock; it has not ended all

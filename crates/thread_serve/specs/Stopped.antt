@@ -1,5 +1,5 @@
 -- What the writer and the reader bring back (this project's own).
-use Rattle.std.specs.Prelude.{◌≡◌, ◌⊎◌, ℕ, ◌≤◌, List, [], Option, None}
+use Rattle.std.specs.Prelude.{◌≡◌, ◌≢◌, ◌⊎◌, ℕ, ◌≤◌, List, [], Option, None}
 use Rattle.std.specs.List.{Contains}
 use Rattle.std.specs.Io.KnownBytes.{Appends}
 use Rattle.pide_base.specs.Faults.{Rose}
@@ -73,4 +73,5 @@ pub record HasRead (limit : ℕ) (how : Status) (left left' : Option (List ℕ))
   pub ended : Contains w.mine (item.Made entry.Ended)
   pub free : how ≡ status.Done → held_in says w.mine ≡ None
   pub lost : how ≡ status.WriteFault → HasSeen says w said.Lost
+  pub replies : (len : ℕ) → how ≢ status.BadReply len
   pub causes : HasCause limit how left left'

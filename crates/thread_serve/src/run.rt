@@ -166,6 +166,7 @@ where
         → DoneSo (S.left source) (S.left result.source) }
     ensures not_usage { result.status ≢ Status.Usage }
     ensures no_text { (at : ℕ) → result.status ≢ Status.BadText at }
+    ensures no_reply { (len : ℕ) → result.status ≢ Status.BadReply len }
     ensures complete { CompleteSo limit (S.left source) (S.faults source)
         (S.faults result.source) (K.faults sink) (K.faults result.sink) result.status }
 {

@@ -2,7 +2,7 @@
 use Rattle.std.proofs.Common.{◌≡◌, arith, take, drop, ◌∷◌, [], ◌++◌, ◌+◌, Ok, ap, sym, ◌∙◌, append_assoc}
 use Rattle.byte_message.specs.Line.{judge}
 use Rattle.byte_message.proofs.Newlines.{headed, at_fault, line_end}
-use Rattle.byte_message.proofs.Scanning.{judge-small}
+use Rattle.byte_message.proofs.Fitting.{judge-small}
 use Rattle.byte_message.proofs.begin.at_newline.Goals as goal
 
 pub chunks_after-requires-clause-headed : goal.chunks_after-requires-clause-headed

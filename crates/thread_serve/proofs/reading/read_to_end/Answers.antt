@@ -6,7 +6,7 @@ use Rattle.byte_message.specs.Stream.{IsReadAs}
 use Rattle.hist_lock.specs.Passes.{view}
 use Rattle.message_input.specs.Causes.{HasCause}
 use Rattle.thread_serve.specs.Stopped.{HasRead, IsHalt}
-use Rattle.thread_serve.proofs.Brought.{made_first, read_all, read_some, some_so, to_end}
+use Rattle.thread_serve.proofs.Brought.{long_only, made_first, read_all, read_some, some_so, to_end}
 use Rattle.thread_serve.proofs.reading.read_to_end.Goals as goal
 
 pub returns-then-is_halt-clause-mine : goal.returns-then-is_halt-clause-mine
@@ -35,7 +35,7 @@ pub returns-clause-mine : goal.returns-clause-mine
 returns-clause-mine g c =
     let an = c.answer_input-status.ensures.answered in let how = c.answer_input-status.result in
     let none : (how ≢ status.WriteFault) × (how ≢ status.NoMemory) = search rules in
-    let e = to_end _ _ _ _ an.0 _ how none.0 none.1 an.2 in
+    let e = to_end _ _ _ _ an.0 _ how none.0 none.1 (long_only _ _ _ _ an.0 _ how (λ len long. long.halted.halts.why) an.2) an.2 in
     made_first (view c.args.pass) (view e.last.pass)
     (view c.answer_input-status.new.answering.pass) e.answers.messages e.answers.goes.answers
     e.ends.ends
@@ -45,7 +45,7 @@ returns-clause-read g c =
     let an = c.answer_input-status.ensures.answered in let how = c.answer_input-status.result in let limit = c.args.limit in
     let left = g.S.Source.left c.args.source in let left' = g.S.Source.left c.answer_input-status.new.source in
     let none : (how ≢ status.WriteFault) × (how ≢ status.NoMemory) = search rules in
-    let e = to_end _ _ _ _ an.0 _ how none.0 none.1 an.2 in
+    let e = to_end _ _ _ _ an.0 _ how none.0 none.1 (long_only _ _ _ _ an.0 _ how (λ len long. long.halted.halts.why) an.2) an.2 in
     read_all limit left left' an.0 an.1 (view c.args.pass) (view e.last.pass) (view c.answer_input-status.new.answering.pass) e.answers.messages
-    c.requires.rests.stands.reader c.requires.new e.answers.goes.answers e.ends.ends how none.0 none.1 e.ending e.answers.read e.tells e.answers.goes.rests.free
+    c.requires.rests.stands.reader c.requires.new e.answers.goes.answers e.ends.ends how none.0 none.1 (long_only _ _ _ _ an.0 _ how (λ len long. long.halted.halts.why) an.2) e.ending e.answers.read e.tells e.answers.goes.rests.free
     c.answer_input-status.ensures.causes

@@ -45,4 +45,10 @@ returns-in-Ok-new-clause-complete g c =
     completes c.args.limit (g.S.Source.left c.args.source) (g.S.Source.left now.source)
     (g.S.Source.faults c.args.source) (g.S.Source.faults now.source)
     (g.K.Sink.faults c.args.sink) (g.K.Sink.faults now.sink) now.status
-    run.served.causes run.read_fault run.write_fault
+    run.served.causes run.read_fault run.write_fault run.served.replies
+
+pub returns-in_default-clause-no_reply : goal.returns-in_default-clause-no_reply
+returns-in_default-clause-no_reply g c = (c.unbegun.ensures.served c.args.limit).replies
+
+pub returns-in-Err-clause-no_reply : goal.returns-in-Err-clause-no_reply
+returns-in-Err-clause-no_reply g c = (c.unbegun-in-Err.ensures.served c.args.limit).replies

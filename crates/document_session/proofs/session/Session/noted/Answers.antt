@@ -4,7 +4,7 @@ use Rattle.session_rules.specs.Services.{mode_of}
 use Rattle.keeping_rules.specs.Looks.{IsLook}
 use Rattle.document_session.proofs.Inside.{going_on, known_inside}
 use Rattle.document_session.proofs.Rooms.{state_kept, replied_by}
-use Rattle.document_session.proofs.session.Session.tell.Goals as goal
+use Rattle.document_session.proofs.session.Session.noted.Goals as goal
 
 pub invariant_of-self-2 : goal.invariant_of-self-2
 invariant_of-self-2 g c =

@@ -35,13 +35,13 @@ module _ {S : Type 0} (l : Lang S) (old : SessionState) (new : old.items ≡ Ope
   none_called : calls_in old.items ≡ []
   none_called = ap (λ (is : List SessionItem). calls_in is) new
 
-  none_sent : (held : Option (List ℕ)) → Appends held held (sent_in l old.service old.items)
+  pub none_sent : (held : Option (List ℕ)) → Appends held held (sent_in l old.service old.items)
   none_sent held = subst (λ (is : List SessionItem). Appends held held (sent_in l old.service is)) (sym new) (Appends-nil held)
 
 -- a front of the messages was answered
 module _ {S : Type 0} (l : Lang S) (laws : ListLaws l) (old t : SessionState) (new : old.items ≡ Opened old.service ∷ []) (held held' : Option (List ℕ))
     (taken : List ℕ) (rests : due l t.service (heard_in t.service t.items) ≡ Nothing) where
-  front_read : (messages first rest : List (List (List ℕ))) (ending : Ending) → IsReadAs taken messages ending → messages ≡ first ++ rest
+  pub front_read : (messages first rest : List (List (List ℕ))) (ending : Ending) → IsReadAs taken messages ending → messages ≡ first ++ rest
       → calls_in t.items ≡ calls_in old.items ++ first → (P : List (List (List ℕ)) → Type 0) → P rest → IsFront taken (calls_in t.items) P
   front_read messages first rest ending read parts called P holds =
       let same : calls_in t.items ≡ first = called ∙ ap (λ (ms : List (List (List ℕ))). ms ++ first) (none_called l old new) in
@@ -117,13 +117,14 @@ module _ {S : Type 0} (l : Lang S) (laws : ListLaws l) (old s t : SessionState) 
     alone = alone;
   }
 
-  pub came_whole : (how : Status) → Tells how ending → how ≢ status.WriteFault → how ≢ status.NoMemory → Came l how taken held held' old t
-  came_whole status.Done tells w m = came_by status.Done written sent kept closed alone (ending, calls_read, tells)
-  came_whole status.Usage tells w m = came_by status.Usage written sent kept closed alone (ending, calls_read, tells)
-  came_whole status.ReadFault tells w m = came_by status.ReadFault written sent kept closed alone (ending, calls_read, tells)
-  came_whole status.LongInput tells w m = came_by status.LongInput written sent kept closed alone (ending, calls_read, tells)
-  came_whole (status.BadFrame at) tells w m = came_by (status.BadFrame at) written sent kept closed alone (ending, calls_read, tells)
-  came_whole (status.Truncated at) tells w m = came_by (status.Truncated at) written sent kept closed alone (ending, calls_read, tells)
-  came_whole (status.BadText at) tells w m = came_by (status.BadText at) written sent kept closed alone (ending, calls_read, tells)
-  came_whole status.WriteFault tells w m = absurd (w refl)
-  came_whole status.NoMemory tells w m = absurd (m refl)
+  pub came_whole : (how : Status) → Tells how ending → how ≢ status.WriteFault → how ≢ status.NoMemory → ((len : ℕ) → how ≢ status.BadReply len) → Came l how taken held held' old t
+  came_whole status.Done tells w m f = came_by status.Done written sent kept closed alone (ending, calls_read, tells)
+  came_whole status.Usage tells w m f = came_by status.Usage written sent kept closed alone (ending, calls_read, tells)
+  came_whole status.ReadFault tells w m f = came_by status.ReadFault written sent kept closed alone (ending, calls_read, tells)
+  came_whole status.LongInput tells w m f = came_by status.LongInput written sent kept closed alone (ending, calls_read, tells)
+  came_whole (status.BadFrame at) tells w m f = came_by (status.BadFrame at) written sent kept closed alone (ending, calls_read, tells)
+  came_whole (status.Truncated at) tells w m f = came_by (status.Truncated at) written sent kept closed alone (ending, calls_read, tells)
+  came_whole (status.BadText at) tells w m f = came_by (status.BadText at) written sent kept closed alone (ending, calls_read, tells)
+  came_whole status.WriteFault tells w m f = absurd (w refl)
+  came_whole status.NoMemory tells w m f = absurd (m refl)
+  came_whole (status.BadReply len) tells w m f = absurd (f len refl)

@@ -66,6 +66,28 @@ module _ {S : Type 0} (l : Lang S) (service : Service) where
   follows_entry ahead h e sent older newer f hears first =
       (sent, [], older, newer, f, hears, refl, sym (append-nil sent), first)
 
+  -- what is ahead may be more
+  pub follows_ahead : (later : Entry) (ahead h : List Entry) (sent : List Read) (moves : List Move) → Follows l service ahead h sent moves
+      → Follows l service (later ∷ ahead) h sent moves
+  follows_ahead later ahead [] sent moves (is, first) = (is, first_more first)
+    where
+      first_more : AreFirst sent (calls service ahead) → AreFirst sent (calls service (later ∷ ahead))
+      first_more f = (f.0 ++ call_of service later, ap (λ rs. rs ++ call_of service later) f.1 ∙ append_assoc sent f.0 (call_of service later))
+  follows_ahead later ahead (e ∷ h) sent moves (before, after, older, newer, f, hears, is, split, first) = (
+    before,
+    after,
+    older,
+    newer,
+    follows_ahead later (ahead ++ e ∷ []) h (call_of service e ++ before) older f,
+    hears,
+    is,
+    split,
+    first_more first,
+  )
+    where
+      first_more : AreFirst sent (calls service ahead) → AreFirst sent (calls service (later ∷ ahead))
+      first_more f = (f.0 ++ call_of service later, ap (λ rs. rs ++ call_of service later) f.1 ∙ append_assoc sent f.0 (call_of service later))
+
   pub first_of : (ahead h : List Entry) (sent : List Read) (moves : List Move) → Follows l service ahead h sent moves → AreFirst sent (calls service ahead)
   first_of ahead [] sent moves (is, first) = first
   first_of ahead (e ∷ h) sent moves (before, after, older, newer, f, hears, is, split, first) = first

@@ -1,4 +1,4 @@
--- What a front of a history's replies is read as.
+-- What a front of a history's replies is read as, for crates above.
 use Rattle.std.proofs.Common.{◌≡◌, ◌⊎◌, inl, inr, ℕ, List, [], ◌∷◌, ◌++◌, length, map, Option, Some, refl, ap, sym, subst, ◌∙◌, append_assoc, append-nil, arith}
 use Rattle.std.specs.List.{AllByRecursion}
 use Rattle.byte_message.specs.Stream.{AreSpelled, Ending, EndsAs, IsMessage, IsReadAs, IsShort, IsSpelling, plain_spelling, told_place}
