@@ -27,7 +27,7 @@ class Exchange:
 
     @property
     def serves(self) -> bool:
-        return self.words in (["serve"], ["serve", "--workers", "0"], ["replay"])
+        return self.words in (["serve"], ["serve", "--workers", "0"], ["mirror"], ["replay"])
 
 
 def unescaped(shown: str) -> bytes:

@@ -2,7 +2,7 @@
 use Rattle.std.proofs.Common.{◌≡◌, ℕ, zero, suc, ◌≤◌, List, [], ◌∷◌, codes, refl, sym, subst, arith}
 use Rattle.std.specs.Prelude.{decimal, Some}
 use Rattle.clap.proofs.OnLiterals.{clap_on_literals}
-use Rattle.command_words.specs.declared.request.Request.TheVariants.{Serve, Replay, Check, Build, Gen}
+use Rattle.command_words.specs.declared.request.Request.TheVariants.{Serve, Replay, Mirror, Check, Build, Gen}
 use Rattle.command_words.specs.Asked.{words_request}
 use Rattle.command_words.specs.Forms.{AreTaken}
 use Rattle.command_words.proofs.WrittenNumbers.{written_0, written_1, written_2, written_3, written_4, written_5, written_6, written_7, written_8, written_9, written_10, written_11, written_12, written_13, written_14, written_15, written_16}
@@ -14,6 +14,10 @@ serve = refl
 replay : words_request (codes "replay" ∷ []) ≡ Some Replay
 unfolding clap_on_literals
 replay = refl
+
+mirror : words_request (codes "mirror" ∷ []) ≡ Some Mirror
+unfolding clap_on_literals
+mirror = refl
 
 pub check : words_request (codes "check" ∷ []) ≡ Some Check
 unfolding clap_on_literals
@@ -148,6 +152,7 @@ are_taken = record {
   serve = serve;
   workers = workers;
   replay = replay;
+  mirror = mirror;
   check = check;
   build = build;
   build_by = build_by;

@@ -34,6 +34,10 @@ more : words_request (codes "check" ∷ codes "A.thy" ∷ []) ≡ None
 unfolding clap_on_literals
 more = refl
 
+beside : words_request (codes "mirror" ∷ codes "--workers" ∷ codes "1" ∷ []) ≡ None
+unfolding clap_on_literals
+beside = refl
+
 help : words_request (codes "--help" ∷ []) ≡ None
 unfolding clap_on_literals
 help = refl
@@ -83,6 +87,7 @@ are_not_taken = record {
   letters = letters;
   twice = twice;
   more = more;
+  beside = beside;
   help = help;
   zeros = zeros;
   plus = plus;

@@ -8,7 +8,7 @@ use Rattle.clap.specs.Words.{Row, Text, first_of, subcommand_of}
 use Rattle.clap.specs.Kinds.{Kinds}
 use Rattle.clap.specs.Faults.{fault_of}
 use Rattle.command_words.specs.declared.request.Request.{Request}
-use Rattle.command_words.specs.declared.request.Request.TheVariants.{Serve, Replay, Check, Build, Gen}
+use Rattle.command_words.specs.declared.request.Request.TheVariants.{Serve, Replay, Mirror, Check, Build, Gen}
 use Rattle.command_words.specs.Program.{program}
 
 -- a digit
@@ -46,10 +46,11 @@ abbrev pub request_of : Text × List Row → Option Request
 request_of command = if bytes_eq command.0 (codes "serve")
     then option_map (λ n. Serve n) (workers_in command.1)
     else (if bytes_eq command.0 (codes "replay") then Some Replay
+    else (if bytes_eq command.0 (codes "mirror") then Some Mirror
     else (if bytes_eq command.0 (codes "check") then Some Check
     else (if bytes_eq command.0 (codes "build")
     then option_map (λ n. Build n) (workers_in command.1)
-    else (if bytes_eq command.0 (codes "gen") then gen_in command.1 else None))))
+    else (if bytes_eq command.0 (codes "gen") then gen_in command.1 else None)))))
 
 -- what is asked for, where the words have none of the kinds of errors
 abbrev pub unless_faulty : Kinds → Option Request → Option Request

@@ -1,6 +1,6 @@
 -- Words that are taken, and others, computed (this project's own).
 use Rattle.std.specs.Prelude.{◌≡◌, ◌≤◌, ℕ, [], ◌∷◌, codes, decimal, Some, None}
-use Rattle.command_words.specs.declared.request.Request.TheVariants.{Serve, Replay, Check, Build, Gen}
+use Rattle.command_words.specs.declared.request.Request.TheVariants.{Serve, Replay, Mirror, Check, Build, Gen}
 use Rattle.command_words.specs.Asked.{words_request}
 
 -- each form of the words; of the numbers of nodes the least and the greatest
@@ -9,6 +9,7 @@ pub record AreTaken : Type 0 where
   pub workers : (n : ℕ) → n ≤ 16
       → words_request (codes "serve" ∷ codes "--workers" ∷ decimal n ∷ []) ≡ Some (Serve n)
   pub replay : words_request (codes "replay" ∷ []) ≡ Some Replay
+  pub mirror : words_request (codes "mirror" ∷ []) ≡ Some Mirror
   pub check : words_request (codes "check" ∷ []) ≡ Some Check
   pub build : words_request (codes "build" ∷ []) ≡ Some (Build 0)
   pub build_by : words_request (codes "build" ∷ codes "--workers" ∷ codes "16" ∷ []) ≡ Some
@@ -23,7 +24,7 @@ pub record AreTaken : Type 0 where
       (Gen 3 2)
 
 -- some that aren't: none, another name, too many workers, no number, an option twice, a word too
--- many, a call for help; a number that isn't printed so
+-- many, an option too many, a call for help; a number that isn't printed so
 pub record AreNotTaken : Type 0 where
   pub none : words_request [] ≡ None
   pub other : words_request (codes "server" ∷ []) ≡ None
@@ -33,6 +34,7 @@ pub record AreNotTaken : Type 0 where
   pub twice : words_request (codes "serve" ∷ codes "--workers" ∷ codes "1" ∷ codes "--workers"
       ∷ codes "1" ∷ []) ≡ None
   pub more : words_request (codes "check" ∷ codes "A.thy" ∷ []) ≡ None
+  pub beside : words_request (codes "mirror" ∷ codes "--workers" ∷ codes "1" ∷ []) ≡ None
   pub help : words_request (codes "--help" ∷ []) ≡ None
   pub zeros : words_request (codes "serve" ∷ codes "--workers" ∷ codes "00" ∷ []) ≡ None
   pub plus : words_request (codes "serve" ∷ codes "--workers" ∷ codes "+0" ∷ []) ≡ None

@@ -29,9 +29,9 @@ bare = on_top (λ top. record top { no_binary_name = true; subcommand_required =
 
 -- the commands that read messages or a text
 abbrev pub readers : App
-readers = with_subcommand (with_subcommand (with_subcommand bare
+readers = with_subcommand (with_subcommand (with_subcommand (with_subcommand bare
     (with_workers (codes "serve")).top) (new_app (codes "replay")).top)
-    (new_app (codes "check")).top
+    (new_app (codes "mirror")).top) (new_app (codes "check")).top
 
 -- all commands
 abbrev pub program : App

@@ -66,6 +66,7 @@ fn command<'a>(alloc: Global) -> Result<Command<'a>, AllocError>
         .subcommand_required(true);
     bare.subcommand(serve)?
         .subcommand(Command::new(alloc, "replay"))?
+        .subcommand(Command::new(alloc, "mirror"))?
         .subcommand(Command::new(alloc, "check"))?
         .subcommand(build)?
         .subcommand(made)
@@ -81,6 +82,7 @@ fn requested(matches: &ArgMatches<'_>) -> Option<Request>
             workers: workers(options)?,
         }),
         "replay" => Some(Request::Replay),
+        "mirror" => Some(Request::Mirror),
         "check" => Some(Request::Check),
         "build" => Some(Request::Build {
             workers: workers(options)?,

@@ -9,6 +9,9 @@ pub enum Request {
     Serve { workers: u32 },
     /// `replay`: messages are answered that tell the workers each of their steps.
     Replay,
+    /// `mirror`: messages are answered on one thread, and what they ask of versions is told by the
+    /// replies alone, as an editor may.
+    Mirror,
     /// `check`: one text is checked.
     Check,
     /// `build`, perhaps with `--workers`, as above: texts are checked as nodes that may import one

@@ -25,17 +25,18 @@ use Rattle.pide_program.proofs.WholeRuns.{ends, same_called}
 
 -- where neither writing failed nor memory was short
 module _ {S : Type 0} (l : Lang S) (taken : List ℕ) (s : SessionState) where
-  all_calls : (how : Status) → how ≢ status.WriteFault → how ≢ status.NoMemory → CallsSo how taken s
+  all_calls : (how : Status) → how ≢ status.WriteFault → how ≢ status.NoMemory → ((len : ℕ) → how ≢ status.BadReply len) → CallsSo how taken s
       → (ending : Ending) × IsReadAs taken (calls_in s.items) ending
-  all_calls status.WriteFault w m c = absurd (w refl)
-  all_calls status.NoMemory w m c = absurd (m refl)
-  all_calls status.Done w m c = (c.0, c.1)
-  all_calls status.Usage w m c = (c.0, c.1)
-  all_calls status.ReadFault w m c = (c.0, c.1)
-  all_calls (status.BadFrame at) w m c = (c.0, c.1)
-  all_calls (status.Truncated at) w m c = (c.0, c.1)
-  all_calls status.LongInput w m c = (c.0, c.1)
-  all_calls (status.BadText at) w m c = (c.0, c.1)
+  all_calls status.WriteFault w m f c = absurd (w refl)
+  all_calls status.NoMemory w m f c = absurd (m refl)
+  all_calls status.Done w m f c = (c.0, c.1)
+  all_calls status.Usage w m f c = (c.0, c.1)
+  all_calls status.ReadFault w m f c = (c.0, c.1)
+  all_calls (status.BadFrame at) w m f c = (c.0, c.1)
+  all_calls (status.Truncated at) w m f c = (c.0, c.1)
+  all_calls status.LongInput w m f c = (c.0, c.1)
+  all_calls (status.BadText at) w m f c = (c.0, c.1)
+  all_calls (status.BadReply len) w m f c = absurd (f len refl)
 
   all_alone : (how : Status) → how ≢ status.WriteFault → how ≢ status.NoMemory → AloneSo l how taken s
       → IsAlone l s.service None (heard_in s.service s.items)
@@ -48,6 +49,7 @@ module _ {S : Type 0} (l : Lang S) (taken : List ℕ) (s : SessionState) where
   all_alone (status.Truncated at) w m a = a
   all_alone status.LongInput w m a = a
   all_alone (status.BadText at) w m a = a
+  all_alone (status.BadReply len) w m a = a
 
   all_closed : (how : Status) → how ≢ status.WriteFault → how ≢ status.NoMemory → Closed l how s
       → has_ended (session_in l s.service s.items).events ≡ true
@@ -60,6 +62,7 @@ module _ {S : Type 0} (l : Lang S) (taken : List ℕ) (s : SessionState) where
   all_closed (status.Truncated at) w m c = c
   all_closed status.LongInput w m c = c
   all_closed (status.BadText at) w m c = c
+  all_closed (status.BadReply len) w m c = c
 
   all_written : (how : Status) (old new : Option (List ℕ)) → how ≢ status.WriteFault → BytesWritten l how old new s
       → Appends old new (replies_in l s.service s.items)
@@ -72,6 +75,7 @@ module _ {S : Type 0} (l : Lang S) (taken : List ℕ) (s : SessionState) where
   all_written (status.Truncated at) old new w b = b
   all_written status.LongInput old new w b = b
   all_written (status.BadText at) old new w b = b
+  all_written (status.BadReply len) old new w b = b
 
 -- all that is needed of one run
 record IsRead (bytes rest : List ℕ) (held held' : Option (List ℕ)) (s : SessionState) : Type 0 where
@@ -87,7 +91,7 @@ read_of : (how : Status) (bytes rest : List ℕ) (held held' : Option (List ℕ)
 read_of how bytes rest held held' s run =
     let top = run.headline in
     let messages = top.messages_read in
-    let calls = all_calls isar messages.0 s how run.written run.roomy messages.2 in
+    let calls = all_calls isar messages.0 s how run.written run.roomy run.heard messages.2 in
     let made = top.alone run.nobody in
     let alone = all_alone isar made.0 s how run.written run.roomy made.2 in
     let legal = top.one_legal_history.legal in

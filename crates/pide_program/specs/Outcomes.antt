@@ -8,13 +8,15 @@ use Rattle.session_rules.specs.Services.{free_workers}
 use Rattle.thread_serve.specs.document_session_below.Contents.{SessionState}
 use Rattle.pide_program.specs.Headline.{Headline}
 
--- one thread served these bytes but for the rest; neither did writing fail, nor was memory short
+-- one thread served these bytes but for the rest; neither did writing fail, nor was memory short or
+-- a reply too long
 pub record IsServedAlone (how : Status) (bytes rest : List ℕ) (held held' : Option (List ℕ))
     (s : SessionState) : Type 0 where
   pub headline : Headline how (Some bytes) (Some rest) held held' s
   pub nobody : free_workers s.service ≡ 0
   pub written : how ≢ status.WriteFault
   pub roomy : how ≢ status.NoMemory
+  pub heard : (len : ℕ) → how ≢ status.BadReply len
 
 -- two runs made the same history, and wrote the same bytes
 pub record IsSameOutcome (held held' : Option (List ℕ)) (s : SessionState)

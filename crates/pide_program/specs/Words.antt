@@ -9,11 +9,17 @@ use Rattle.session_rules.specs.declared.service.Service.TheVariants as service
 use Rattle.made_document.specs.Texts.{most_nodes}
 use Rattle.message_values.specs.Workers.{most_workers}
 
--- messages are served beside as many workers as there may be, and as a script tells
+-- messages are served beside as many workers as there may be, as a script tells, and with a mirror
 abbrev pub serves : Option Request → Bool
 serves (Some (request.Serve workers)) = nat_le workers most_workers
 serves (Some request.Replay) = true
+serves (Some request.Mirror) = true
 serves _ = false
+
+-- they are served with a mirror where that is asked
+abbrev pub mirrors : Option Request → Bool
+mirrors (Some request.Mirror) = true
+mirrors _ = false
 
 -- a text is checked where that is asked
 abbrev pub checks : Option Request → Bool
@@ -38,15 +44,20 @@ nodes_for _ = 0
 -- how messages are served
 abbrev pub service_for : Option Request → Service
 service_for (Some (request.Serve workers)) = service.Workers workers
+service_for (Some request.Mirror) = service.Workers 0
 service_for _ = service.Script
 
 -- what words that are lent ask for
 abbrev pub request_of : List (Bor (List ℕ)) → Option Request
 request_of words = words_request (map (λ w. w.now) words)
 
--- the words are `serve`, with a number of workers or without, or `replay`
+-- the words are `serve`, with a number of workers or without, `replay` or `mirror`
 abbrev pub is_served : List (Bor (List ℕ)) → Bool
 is_served words = serves (request_of words)
+
+-- the word is `mirror`
+abbrev pub is_mirror : List (Bor (List ℕ)) → Bool
+is_mirror words = mirrors (request_of words)
 
 -- the word is `check`
 abbrev pub is_check : List (Bor (List ℕ)) → Bool

@@ -1,17 +1,20 @@
 //! The one call that the program makes.
-ghost use Rattle.std.specs.Prelude.{◌≡◌, ◌⊎◌, true, false, [], IsOk, IsErr, IfOk, IfErr};
+ghost use Rattle.std.specs.Prelude.{◌≡◌, ◌⊎◌, ℕ, true, false, [], IsOk, IsErr, IfOk, IfErr};
 ghost use Rattle.pide_base.specs.Faults.{Rose};
 ghost use Rattle.pide_check.specs.Checked.{ChecksWhole, IsChecked};
 ghost use Rattle.message_input.specs.Causes.{CompleteSo, HasCause};
 ghost use Rattle.isar_rules.specs.Isar.{isar};
+ghost use Rattle.mirror_serve.specs.LongReplies.{HasShortReplies, LongSoFar};
 ghost use Rattle.pide_build.specs.Runs.{IsBuild};
 ghost use Rattle.pide_program.specs.Generated.{IsGenerated};
 ghost use Rattle.pide_program.specs.Headline.{Headline};
-ghost use Rattle.pide_program.specs.Words.{is_build, is_check, is_gen, is_served, has_request, nodes_of, service_of};
+ghost use Rattle.pide_program.specs.Words.{is_build, is_check, is_gen, is_mirror, is_served, has_request, nodes_of, service_of};
 ghost use Rattle.pide_program.specs.Limit.{input_limit};
 
 use crate::outcome::Outcome;
-use crate::running::{MOST_NODES, build, check, make, serve_alone, serve_beside, unserved};
+use crate::running::{
+    MOST_NODES, build, check, make, serve_alone, serve_beside, serve_mirrored, unserved,
+};
 use command_words::{Request, asked};
 use message_values::MOST_WORKERS;
 use pide_base::{Gate, Sink, Source, Status};
@@ -22,8 +25,9 @@ use std::sync::Wait;
 use std::thread::Threads;
 
 /// Does what the words ask: serves the messages of the source, each when it is whole, on this
-/// thread alone, which writes the replies before more is read, or beside workers and a writer in
-/// threads of their own; or checks the text of the source, and writes its markup by lines; or
+/// thread alone, which writes the replies before more is read, or with an editor's mirror, which
+/// answers what is asked of versions, or beside workers and a writer in threads of their own; or
+/// checks the text of the source, and writes its markup by lines; or
 /// builds the theories that the messages bring, and writes what they report; or makes a document by
 /// messages of its own, and writes what it comes to.
 ///
@@ -42,9 +46,17 @@ pub fn pide<
     ensures service { IfOk result.session (λ s. s.service ≡ service_of words.now) }
     ensures served { is_served words.now ≡ true
         → IsOk result.session ⊎ (result.status ≡ Status.NoMemory) }
-    ensures complete { is_served words.now ≡ true
+    ensures complete { is_served words.now ≡ true → is_mirror words.now ≡ false
         → CompleteSo input_limit (S.left source) (S.faults source) (S.faults result.source)
         (K.faults sink) (K.faults result.sink) result.status }
+
+    ensures long_replies { is_mirror words.now ≡ true
+        → IfOk result.session (λ s. LongSoFar isar result.status s) }
+    ensures bad_reply { (len : ℕ) → result.status ≡ Status.BadReply len
+        → is_mirror words.now ≡ true }
+    ensures mirrors_whole { is_mirror words.now ≡ true → IfOk result.session (λ s.
+        HasShortReplies isar s → CompleteSo input_limit (S.left source) (S.faults source)
+        (S.faults result.source) (K.faults sink) (K.faults result.sink) result.status) }
 
     ensures unserved { is_served words.now ≡ false → IsErr result.session }
     ensures handed_back { IfErr result.session (λ list. P.items list ≡ []) }
@@ -92,6 +104,7 @@ pub fn pide<
             serve_beside(rt, alloc, workers, source, sink, gate, past)
         }
         Ok(Some(Request::Replay)) => serve_alone(alloc, Service::Script, source, sink, past),
+        Ok(Some(Request::Mirror)) => serve_mirrored(alloc, source, sink, past),
         Ok(Some(Request::Check)) => check(alloc, source, sink, past),
         Ok(Some(Request::Build { workers })) if workers <= MOST_WORKERS => {
             build(rt, alloc, workers, source, sink, gate, past)

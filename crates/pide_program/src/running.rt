@@ -7,6 +7,7 @@ ghost use Rattle.pide_build.specs.Runs.{IsBuild};
 ghost use Rattle.pide_program.specs.Generated.{IsGenerated};
 ghost use Rattle.isar_rules.specs.Isar.{isar};
 ghost use Rattle.made_document.specs.Texts.{most_nodes};
+ghost use Rattle.mirror_serve.specs.LongReplies.{HasShortReplies, LongSoFar};
 ghost use Rattle.message_values.specs.Workers.{most_workers};
 ghost use Rattle.session_rules.specs.Services.{free_workers};
 ghost use Rattle.session_rules.specs.declared.service.Service.TheVariants.{Workers};
@@ -15,9 +16,12 @@ ghost use Rattle.pide_program.specs.Limit.{input_limit};
 
 use crate::made::generate;
 use crate::outcome::Outcome;
+use editor_laws::isar_law;
+use message_values::Mode;
 use pide_base::{Gate, Sink, Source, Status};
 use pide_build::{Ended, build_theories};
 use pide_check::check_text;
+use pide_mirror::Mirror;
 use reply_outbox::Past;
 use session_laws::{headline_law, holders_law};
 use session_rules::{Entry, Service};
@@ -75,6 +79,7 @@ pub(crate) fn serve_alone<S: Source, K: Sink, P: Past<Service, Entry> + Drop>(
         → Rose (S.faults source) (S.faults result.source) }
     ensures write_fault { result.status ≡ Status.WriteFault
         → Rose (K.faults sink) (K.faults result.sink) }
+    ensures no_reply { (len : ℕ) → result.status ≢ Status.BadReply len }
     ensures complete { CompleteSo input_limit (S.left source) (S.faults source)
         (S.faults result.source) (K.faults sink) (K.faults result.sink) result.status }
 {
@@ -90,6 +95,58 @@ pub(crate) fn serve_alone<S: Source, K: Sink, P: Past<Service, Entry> + Drop>(
         session,
         sink,
     } = serve(alloc, &Isar, &mut source, sink, session, LIMIT);
+    Outcome {
+        status,
+        source,
+        sink,
+        session: Ok(session),
+    }
+}
+
+/// Serves the messages of the source on one thread, with an editor's mirror that answers snapshots.
+/// No session is begun where there is no memory for one, or for the mirror.
+pub(crate) fn serve_mirrored<S: Source, K: Sink, P: Past<Service, Entry> + Drop>(
+    alloc: Global,
+    source: S,
+    sink: K,
+    past: P,
+) -> Outcome<S, K, P>
+    requires empty { P.items past ≡ [] }
+    ensures headline { IfOk result.session (λ s. Headline result.status (S.left source)
+        (S.left result.source) (K.contents sink) (K.contents result.sink) s) }
+    ensures service { IfOk result.session (λ s. s.service ≡ Workers 0) }
+    ensures begun { IsOk result.session ⊎ (result.status ≡ Status.NoMemory) }
+    ensures handed_back { IfErr result.session (λ list. P.items list ≡ []) }
+    ensures unbegun { IsErr result.session → (result.source ≡ source) × (result.sink ≡ sink) }
+    ensures long_replies { IfOk result.session (λ s. LongSoFar isar result.status s) }
+    ensures read_fault { result.status ≡ Status.ReadFault
+        → Rose (S.faults source) (S.faults result.source) }
+    ensures write_fault { result.status ≡ Status.WriteFault
+        → Rose (K.faults sink) (K.faults result.sink) }
+    ensures complete { IfOk result.session (λ s. HasShortReplies isar s → CompleteSo input_limit
+        (S.left source) (S.faults source) (S.faults result.source) (K.faults sink)
+        (K.faults result.sink) result.status) }
+{
+    headline_law::<Isar>();
+    holders_law::<Isar>();
+    isar_law();
+    let mut source = source;
+    let Ok(mirror) = Mirror::new(alloc, Mode::Serve) else {
+        return unserved(Status::NoMemory, source, sink, past);
+    };
+    let service = Service::Workers { count: 0 };
+    let session = match Session::<Isar, P>::new(alloc, service, past) {
+        Ok(session) => session,
+        Err(AllocFailed { value }) => {
+            drop(mirror);
+            return unserved(Status::NoMemory, source, sink, value);
+        }
+    };
+    let Served {
+        status,
+        session,
+        sink,
+    } = mirror_serve::serve(alloc, &Isar, &mut source, sink, session, mirror, LIMIT);
     Outcome {
         status,
         source,
@@ -120,6 +177,7 @@ pub(crate) fn serve_beside<
         → Rose (S.faults source) (S.faults result.source) }
     ensures write_fault { result.status ≡ Status.WriteFault
         → Rose (K.faults sink) (K.faults result.sink) }
+    ensures no_reply { (len : ℕ) → result.status ≢ Status.BadReply len }
     ensures complete { CompleteSo input_limit (S.left source) (S.faults source)
         (S.faults result.source) (K.faults sink) (K.faults result.sink) result.status }
 {
@@ -151,6 +209,7 @@ pub(crate) fn check<S: Source, K: Sink, P: Past<Service, Entry>>(
         → Rose (S.faults source) (S.faults result.source) }
     ensures write_fault { result.status ≡ Status.WriteFault
         → Rose (K.faults sink) (K.faults result.sink) }
+    ensures no_reply { (len : ℕ) → result.status ≢ Status.BadReply len }
     ensures complete { ChecksWhole (S.left source) (S.faults source) (S.faults result.source)
         (K.faults sink) (K.faults result.sink) result.status }
 {
@@ -182,6 +241,7 @@ pub(crate) fn build<
         → Rose (S.faults source) (S.faults result.source) }
     ensures write_fault { result.status ≡ Status.WriteFault
         → Rose (K.faults sink) (K.faults result.sink) }
+    ensures no_reply { (len : ℕ) → result.status ≢ Status.BadReply len }
     ensures complete { CompleteSo input_limit (S.left source) (S.faults source)
         (S.faults result.source) (K.faults sink) (K.faults result.sink) result.status }
 {
@@ -235,6 +295,7 @@ pub(crate) fn make<
     ensures not_truncated { (at : ℕ) → result.status ≢ Status.Truncated at }
     ensures no_text { (at : ℕ) → result.status ≢ Status.BadText at }
     ensures not_usage { result.status ≢ Status.Usage }
+    ensures no_reply { (len : ℕ) → result.status ≢ Status.BadReply len }
     ensures complete { (Rose (K.faults sink) (K.faults result.sink) → ⊥)
         → (result.status ≡ Status.Done) ⊎ (result.status ≡ Status.NoMemory) }
 {

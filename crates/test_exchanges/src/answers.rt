@@ -87,7 +87,7 @@ fn push_line(alloc: Global, text: &mut String, name: &str, number: u64) -> Resul
     text.push_str(line.as_str())
 }
 
-/// The name of a status, and the place that it tells.
+/// The name of a status, and the number that it tells.
 fn parts_of(status: Status) -> (&'static str, Option<u64>) {
     match status {
         Status::Done => ("Done", None),
@@ -99,14 +99,15 @@ fn parts_of(status: Status) -> (&'static str, Option<u64>) {
         Status::LongInput => ("LongInput", None),
         Status::NoMemory => ("NoMemory", None),
         Status::BadText { at } => ("BadText", Some(at)),
+        Status::BadReply { len } => ("BadReply", Some(len)),
     }
 }
 
 fn add_status(alloc: Global, answer: &mut String, status: Status) -> Result<(), AllocError> {
     let exit = status.exit_number();
-    let (name, place) = parts_of(status);
-    let line = match place {
-        Some(at) => format!(in alloc; "status {exit} {name} {at}\n")?,
+    let (name, number) = parts_of(status);
+    let line = match number {
+        Some(number) => format!(in alloc; "status {exit} {name} {number}\n")?,
         None => format!(in alloc; "status {exit} {name}\n")?,
     };
     answer.push_str(line.as_str())
@@ -122,7 +123,7 @@ fn add_hold(answer: &mut String, let_go: Option<&'static str>) -> Result<(), All
     answer.push('\n')
 }
 
-/// Adds what was written: lines, or messages.
+/// Adds what was written: its length, lines, or messages.
 fn add_written(
     alloc: Global,
     answer: &mut String,
@@ -130,6 +131,9 @@ fn add_written(
     ran: &Ran,
 ) -> Result<(), AllocError> {
     let written = ran.sink.contents();
+    if exchange.tells_length {
+        return push_line(alloc, answer, "length", written.len() as u64);
+    }
     if exchange.writes_lines() {
         return add_lines(answer, written);
     }

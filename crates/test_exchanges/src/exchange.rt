@@ -45,6 +45,8 @@ pub(crate) struct Exchange {
     pub(crate) tells_history: bool,
     /// Whether failed pulls and pushes are counted.
     pub(crate) counts_faults: bool,
+    /// Whether of what is written the length alone is told.
+    pub(crate) tells_length: bool,
 }
 
 impl Exchange {
@@ -63,6 +65,7 @@ impl Exchange {
             counts_entries: false,
             tells_history: false,
             counts_faults: false,
+            tells_length: false,
         }
     }
 

@@ -86,6 +86,7 @@ fn take_count(exchange: &mut Exchange, name: &str, rest: &str) -> bool {
         ("entries", _) => exchange.counts_entries = true,
         ("history", _) => exchange.tells_history = true,
         ("faults", _) => exchange.counts_faults = true,
+        ("length", _) => exchange.tells_length = true,
         _ => return false,
     }
     true

@@ -1,9 +1,9 @@
 //! Runs of exchanges.
-ghost use Rattle.std.specs.Prelude.{◌≡◌, ◌⊎◌, ◌<◌, true, length};
+ghost use Rattle.std.specs.Prelude.{◌≡◌, ◌⊎◌, ◌<◌, true, false, length};
 ghost use Rattle.byte_message.specs.Stream.Ending.{Whole};
 ghost use Rattle.message_input.specs.Causes.{HasEnding};
 ghost use Rattle.pide_program.specs.Limit.{input_limit};
-ghost use Rattle.pide_program.specs.Words.{is_served};
+ghost use Rattle.pide_program.specs.Words.{is_mirror, is_served};
 
 use crate::exchange::{Exchange, Hold};
 use crate::gates::{Progress, SixPoints};
@@ -270,9 +270,9 @@ fn watched<R: Threads + Wait + Sync, G: Gate + Sync>(
     sink: MemSink,
     gate: &G,
 ) -> Looked
-    ensures whole { is_served words.now ≡ true → HasEnding source.left Whole
-        → length source.left < input_limit → source.faults ≡ 0 → sink.faults ≡ 0
-        → result.pulls ≡ 0 → result.pushes ≡ 0
+    ensures whole { is_served words.now ≡ true → is_mirror words.now ≡ false
+        → HasEnding source.left Whole → length source.left < input_limit
+        → source.faults ≡ 0 → sink.faults ≡ 0 → result.pulls ≡ 0 → result.pushes ≡ 0
         → (result.outcome.status ≡ Status.Done) ⊎ (result.outcome.status ≡ Status.NoMemory) }
 {
     let outcome = pide(rt, alloc, words, source, sink, gate, Kept::new(alloc));

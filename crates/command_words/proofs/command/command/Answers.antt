@@ -21,5 +21,6 @@ returns c =
     let one = c.in_ok-subcommand.ensures.shape c.in_ok-serve.ensures.local ∙ ap₂ with_subcommand bare_is (ap (λ (a : App). a.top) c.in_ok-serve.ensures.app) in
     let two = c.in_ok-subcommand-2.ensures.shape (search rules) ∙ ap₂ with_subcommand one (ap (λ (a : App). a.top) c.new-2.ensures.app) in
     let three = c.in_ok-subcommand-3.ensures.shape (search rules) ∙ ap₂ with_subcommand two (ap (λ (a : App). a.top) c.new-3.ensures.app) in
-    let four = c.in_ok-subcommand-4.ensures.shape c.in_ok-build.ensures.local ∙ ap₂ with_subcommand three (ap (λ (a : App). a.top) c.in_ok-build.ensures.app) in
-    IfOk-weaker c.subcommand-5.result _ _ (λ r adds. adds.shape made_local ∙ ap₂ with_subcommand four (ap (λ (a : App). a.top) made_is)) c.subcommand-5.ensures
+    let four = c.in_ok-subcommand-4.ensures.shape (search rules) ∙ ap₂ with_subcommand three (ap (λ (a : App). a.top) c.new-4.ensures.app) in
+    let five = c.in_ok-subcommand-5.ensures.shape c.in_ok-build.ensures.local ∙ ap₂ with_subcommand four (ap (λ (a : App). a.top) c.in_ok-build.ensures.app) in
+    IfOk-weaker c.subcommand-6.result _ _ (λ r adds. adds.shape made_local ∙ ap₂ with_subcommand five (ap (λ (a : App). a.top) made_is)) c.subcommand-6.ensures
