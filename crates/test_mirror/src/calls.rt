@@ -1,4 +1,5 @@
 //! The calls of a script, and the mirror that they are about.
+use crate::client::turn;
 use crate::hearing::answer_heard;
 use crate::looks::look;
 use crate::shapes::message_of;
@@ -45,7 +46,7 @@ impl Calls {
 }
 
 /// A message is sent.
-fn send(mirror: &mut Mirror, message: Message) -> Answer {
+pub(crate) fn send(mirror: &mut Mirror, message: Message) -> Answer {
     let sent = mirror.sent(&message);
     drop(message);
     Ok(sent?)
@@ -67,13 +68,15 @@ impl Script for Calls {
 
     /// `mirror serve` and `mirror replay` begin anew, and `sent` tells messages. `look 1 A` asks what
     /// is seen of a node in a version, behind edits as `insert 0 'text'` or `remove 0 'text'`, and
-    /// `fault` for the first fault. The other calls tell what is heard.
+    /// `fault` for the first fault. `turn` is a turn of a client's loop, and the other calls tell
+    /// what is heard.
     fn answer(&mut self, alloc: Global, words: &[&str], out: &mut String) -> Answer {
         let call = Call::of(words)?;
         match call.verb {
             "mirror" => self.renew_as(alloc, call),
             "sent" => self.send(alloc, call.words),
             "look" => look(alloc, &self.mirror, &call, out),
+            "turn" => turn(alloc, &mut self.mirror, &call, out),
             "fault" => put_fault(out, self.mirror.fault()),
             _ => answer_heard(alloc, &mut self.mirror, call, out),
         }

@@ -7,14 +7,14 @@ use std::alloc::{AllocError, Global};
 
 /// How replies come: with what before each header, and in pieces of at most so many bytes.
 #[derive(Clone, Copy)]
-struct Delivery {
+pub(crate) struct Delivery {
     before: &'static [u8],
     piece: usize,
 }
 
 impl Delivery {
     /// All at once.
-    const WHOLE: Delivery = Delivery {
+    pub(crate) const WHOLE: Delivery = Delivery {
         before: b"",
         piece: usize::MAX,
     };
@@ -43,8 +43,8 @@ pub(crate) fn answer_heard(
     }
 }
 
-/// Has the mirror hear these replies.
-fn hear(
+/// Has the mirror hear these replies, and tells how many they are.
+pub(crate) fn hear(
     alloc: Global,
     mirror: &mut Mirror,
     delivery: Delivery,

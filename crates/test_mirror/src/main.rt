@@ -1,9 +1,11 @@
-//! The editor's mirror under scripts of calls, which it reads from its standard input: messages that
-//! are sent, replies that are heard whole and in pieces, and what is seen of nodes. A line is
-//! answered by a line.
+//! The editor's mirror under scripts of calls, which it reads from its standard input: messages
+//! that are sent, replies that are heard whole and in pieces, and what is seen of nodes; or a
+//! client's loop over a stored exchange, as `examples/client-loop.turns` has one. A line is answered
+//! by a line.
 #![tactic(auto)]
 
 mod calls;
+mod client;
 mod hearing;
 mod looks;
 mod shapes;
