@@ -1,14 +1,14 @@
 //! The names of blobs, and the blob that a command asks for (`doc_blobs`).
-use crate::drawn::{name_of, shared};
+use crate::drawn::{name_of, node};
+use crate::shared::scalars_of;
 use doc_blobs::needs;
-use doc_headers::header;
+use doc_headers::{Header, header};
 use doc_nodes::{Aliases, BlobName, ImportGraph, Node, NodeAliases, aliases_of};
-use script_lines::Fault;
+use script_lines::{Fault, joined};
 use shared_map::SharedMap;
 use sqlite_items::Items;
-use std::alloc::Global;
+use std::alloc::{AllocError, Global};
 use std::mem;
-use text_edits::Text;
 
 /// The aliases that are in force.
 #[derive(Drop)]
@@ -16,23 +16,28 @@ pub(crate) struct Naming {
     aliases: Option<NodeAliases>,
 }
 
-/// A node of this text, uncut.
-fn node(alloc: Global, text: &str) -> Result<Node, Fault> {
-    let scalars: Vec<char> = text.chars().collect(alloc)?;
-    let header = header(alloc, &scalars)?.ok_or(Fault::Line)?;
-    Ok(Node {
-        text: shared(alloc, Text::new(alloc))?,
-        entries: shared(alloc, Items::new(alloc))?,
-        required: false,
-        imports: shared(alloc, header.imports)?,
-        keywords: shared(alloc, header.keywords)?,
-    })
+/// The header of this text.
+fn header_of(alloc: Global, text: &str) -> Result<Header, Fault> {
+    let scalars = scalars_of(alloc, text)?;
+    header(alloc, &scalars)?.ok_or(Fault::Line)
+}
+
+/// A node with the header of this text.
+fn headed(alloc: Global, text: &str) -> Result<Node, Fault> {
+    let Header {
+        name,
+        imports,
+        keywords,
+    } = header_of(alloc, text)?;
+    drop(name);
+    Ok(node(alloc, imports, keywords, Items::new(alloc), false)?)
 }
 
 /// The aliases that are in force in a node of this text.
 fn aliases_in(alloc: Global, text: &str) -> Result<NodeAliases, Fault> {
     let mut nodes = SharedMap::new();
-    nodes.set(alloc, name_of(alloc, "A")?, node(alloc, text)?)?;
+    let (name, node) = joined(name_of(alloc, "A"), headed(alloc, text))?;
+    nodes.set(alloc, name, node)?;
     let graph = ImportGraph::of(alloc, &nodes)?;
     let mut all = aliases_of(alloc, &nodes, &graph)?;
     all.pop().ok_or(Fault::Line)
@@ -45,20 +50,27 @@ fn put_needs(
     aliases: &Aliases,
     out: &mut String,
 ) -> Result<(), Fault> {
-    let scalars: Vec<char> = source.chars().collect(alloc)?;
+    let scalars = scalars_of(alloc, source)?;
     match needs(alloc, &scalars, aliases)? {
         Some(name) => Ok(out.push_str(name.as_str())?),
         None => Ok(out.push_str("none")?),
     }
 }
 
+/// A copy of the name, and whether it is equal.
+fn put_copied(name: &BlobName, out: &mut String) -> Result<(), AllocError> {
+    let copy = name.clone()?;
+    let same = if copy == *name { "equal" } else { "unequal" };
+    write!(out, "{} {same}", copy.as_str())
+}
+
 /// The name, of which a copy is made that is equal.
 fn put_name(alloc: Global, name: &str, out: &mut String) -> Result<(), Fault> {
     match BlobName::new(String::from_str(alloc, name)?) {
         Ok(name) => {
-            let copy = name.clone()?;
-            let same = if copy == name { "equal" } else { "unequal" };
-            Ok(write!(out, "{} {same}", copy.as_str())?)
+            let done = put_copied(&name, out);
+            drop(name);
+            Ok(done?)
         }
         Err(_) => Ok(out.push_str("no name")?),
     }

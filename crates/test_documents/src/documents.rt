@@ -5,9 +5,11 @@ use crate::maps::Maps;
 use crate::nodes::Drawn;
 use crate::queued::Queue;
 use crate::reports::Reporting;
+use crate::text_calls::Texts;
 use crate::trees::Tree;
 use crate::versions::Live;
 use crate::{graphs, limits, pasts, symbol_numbers};
+use joined_results::both;
 use script_lines::{Fault, Script};
 use std::alloc::{AllocError, Global};
 use std::mem;
@@ -23,11 +25,12 @@ pub(crate) struct Documents {
     tree: Tree,
     drawn: Drawn,
     naming: Naming,
+    texts: Texts,
 }
 
 impl Documents {
     pub(crate) fn new(alloc: Global) -> Result<Documents, AllocError> {
-        let live = Live::new(alloc)?;
+        let (live, texts) = both(Live::new(alloc), Texts::new(alloc))?;
         Ok(Documents {
             queue: Queue::new(alloc),
             executions: Executions::new(alloc),
@@ -37,7 +40,26 @@ impl Documents {
             tree: Tree::new(),
             drawn: Drawn::new(),
             naming: Naming::new(),
+            texts,
         })
+    }
+
+    /// The answer to a call of what stands in it alone, or of texts and formats.
+    fn answer_more(
+        &mut self,
+        alloc: Global,
+        subject: &str,
+        words: &[&str],
+        out: &mut String,
+    ) -> Result<(), Fault> {
+        match subject {
+            "rounds" => graphs::answer(alloc, words, out),
+            "marks" => graphs::answer_marks(alloc, out),
+            "past" => pasts::answer(alloc, words, out),
+            "limit" => limits::answer(words, out),
+            "symbol-numbers" => symbol_numbers::answer(alloc, words, out),
+            _ => self.texts.answer(alloc, subject, words, out),
+        }
     }
 }
 
@@ -61,24 +83,7 @@ impl Script for Documents {
             "tree" => self.tree.answer(alloc, words, out),
             "node" => self.drawn.answer(alloc, words, out),
             "blob" => self.naming.answer(alloc, words, out),
-            _ => about_nothing(alloc, *subject, words, out),
+            subject => self.answer_more(alloc, subject, words, out),
         }
-    }
-}
-
-/// The answer to a call that works on what it is given alone.
-fn about_nothing(
-    alloc: Global,
-    subject: &str,
-    words: &[&str],
-    out: &mut String,
-) -> Result<(), Fault> {
-    match subject {
-        "rounds" => graphs::answer(alloc, words, out),
-        "marks" => graphs::answer_marks(alloc, out),
-        "past" => pasts::answer(alloc, words, out),
-        "limit" => limits::answer(words, out),
-        "symbol" => symbol_numbers::answer(alloc, words, out),
-        _ => Err(Fault::Line),
     }
 }

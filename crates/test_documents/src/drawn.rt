@@ -1,7 +1,9 @@
 //! Nodes as scripts draw them: a name, and words as `imports=B,C`, `keywords=claim:lemma`,
 //! `commands=1,2*,3` (a star behind what is visible) and `required`.
+use crate::shared::items_of;
 use doc_headers::KeywordPair;
 use doc_nodes::{Entry, Node, Shared};
+use joined_results::both;
 use pide_base::{CommandId, NodeName, Range};
 use script_lines::{Fault, number};
 use sqlite_items::Items;
@@ -18,13 +20,8 @@ struct Drawing {
     required: bool,
 }
 
-/// The scalars of a word.
-pub(crate) fn scalars(alloc: Global, text: &str) -> Result<Items<char>, AllocError> {
-    Ok(Items::from_vec(text.chars().collect(alloc)?))
-}
-
 /// A value that is shared.
-pub(crate) fn shared<T: Drop>(alloc: Global, value: T) -> Result<Shared<T>, AllocError> {
+fn shared<T: Drop>(alloc: Global, value: T) -> Result<Shared<T>, AllocError> {
     match Shared::new(alloc, value) {
         Ok(shared) => Ok(shared),
         Err(_) => Err(AllocError),
@@ -45,14 +42,13 @@ fn add_imports(
     names: &str,
 ) -> Result<(), AllocError> {
     for name in names.split(',') {
-        imports.push(scalars(alloc, name)?)?;
+        imports.push(items_of(alloc, name)?)?;
     }
     Ok(())
 }
 
 fn pair(alloc: Global, name: &str, target: &str) -> Result<KeywordPair, AllocError> {
-    let name = scalars(alloc, name)?;
-    let target = scalars(alloc, target)?;
+    let (name, target) = both(items_of(alloc, name), items_of(alloc, target))?;
     Ok(KeywordPair { name, target })
 }
 
@@ -126,19 +122,23 @@ fn drawn(alloc: Global, drawing: &mut Drawing) -> Result<Node, AllocError> {
     node(alloc, imports, keywords, entries, drawing.required)
 }
 
-fn node(
+/// A node of no text.
+pub(crate) fn node(
     alloc: Global,
     imports: Items<Items<char>>,
     keywords: Items<KeywordPair>,
     entries: Items<Entry>,
     required: bool,
 ) -> Result<Node, AllocError> {
+    let body = both(shared(alloc, Text::new(alloc)), shared(alloc, entries));
+    let header = both(shared(alloc, imports), shared(alloc, keywords));
+    let ((text, entries), (imports, keywords)) = both(body, header)?;
     Ok(Node {
-        text: shared(alloc, Text::new(alloc))?,
-        entries: shared(alloc, entries)?,
+        text,
+        entries,
         required,
-        imports: shared(alloc, imports)?,
-        keywords: shared(alloc, keywords)?,
+        imports,
+        keywords,
     })
 }
 

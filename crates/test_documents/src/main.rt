@@ -1,7 +1,9 @@
-//! The document's crates under scripts of calls, which it reads from its standard input: the queue
-//! of tasks, the table of executions, the order of imports, aliases, wanted commands, maps that
-//! keep their old versions, live versions, reports and their trees, snapshots, places that count
-//! symbols, and what updates assign. A line is answered by a line.
+//! The document's crates, texts and bytes under scripts of calls, which it reads from its standard
+//! input: the queue of tasks, the table of executions, the order of imports, aliases, wanted
+//! commands, maps that keep their old versions, live versions, reports and their trees, snapshots,
+//! places that count symbols, and what updates assign; edits, places, symbols, tokens, headers and
+//! spans of texts; byte messages, YXML and values in it, what editors ask, and replies. A line is
+//! answered by a line.
 #![tactic(auto)]
 
 mod assigned;
@@ -10,6 +12,7 @@ mod documents;
 mod drawn;
 mod drawn_reports;
 mod executions;
+mod formats;
 mod graphs;
 mod limits;
 mod listed;
@@ -20,8 +23,11 @@ mod pasts;
 mod queued;
 mod readable;
 mod reports;
+mod shared;
 mod symbol_numbers;
 mod taken_snapshots;
+mod text_calls;
+mod texts;
 mod trees;
 mod versions;
 mod walk;

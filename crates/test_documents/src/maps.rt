@@ -1,5 +1,6 @@
 //! A map that keeps its old versions (`shared_map`), of numbers by numbers.
 use crate::listed::put_some;
+use crate::shared::put_number;
 use script_lines::{Fault, number, place};
 use shared_map::{Cut, InsertError, SharedMap};
 use std::alloc::{AllocError, Global};
@@ -62,13 +63,6 @@ fn put_range(out: &mut String, map: &Map, span: &Span) -> Result<(), AllocError>
 fn put_found(out: &mut String, found: Option<(&u64, &u64)>) -> Result<(), AllocError> {
     match found {
         Some((key, value)) => put_pair(out, *key, *value),
-        None => out.push_str("none"),
-    }
-}
-
-fn put_place(out: &mut String, place: Option<usize>) -> Result<(), AllocError> {
-    match place {
-        Some(place) => write!(out, "{place}"),
         None => out.push_str("none"),
     }
 }
@@ -143,7 +137,7 @@ impl Maps {
     fn answer_span(&self, verb: &str, span: &Span, out: &mut String) -> Result<(), Fault> {
         match verb {
             "range" => Ok(put_range(out, &self.map, span)?),
-            "place-in" => Ok(put_place(out, self.map.place_in(span))?),
+            "place-in" => Ok(put_number(out, self.map.place_in(span))?),
             "first-in" => Ok(put_found(out, self.map.first_in(span))?),
             _ => Err(Fault::Line),
         }

@@ -1,19 +1,13 @@
 //! What goes by the imports of nodes (`doc_nodes`): their order, the aliases that are in force, and
 //! how many commands of each are wanted.
 use crate::listed::put_numbers;
+use crate::shared::{put_scalars, scalars_of};
 use doc_nodes::{
     Aliases, ImportGraph, Node, NodeAliases, Nodes, Placed, aliases_of, import_order,
     wanted_counts, wanted_prefix,
 };
 use script_lines::Fault;
 use std::alloc::{AllocError, Global};
-
-fn put_scalars(out: &mut String, scalars: &[char]) -> Result<(), AllocError> {
-    for scalar in scalars {
-        out.push(*scalar)?;
-    }
-    Ok(())
-}
 
 /// A node, and behind `!` its bad import.
 fn put_placed(out: &mut String, placed: &Placed) -> Result<(), AllocError> {
@@ -107,7 +101,7 @@ pub(crate) fn put_first_target(
     let Some(first) = all.first() else {
         return Err(Fault::Line);
     };
-    let name: Vec<char> = name.chars().collect(alloc)?;
+    let name = scalars_of(alloc, name)?;
     Ok(put_target(out, first.pairs.get(), &name)?)
 }
 

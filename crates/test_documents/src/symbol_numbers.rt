@@ -1,4 +1,5 @@
 //! Places and reports that count symbols (`symbol_markup`).
+use crate::shared::scalars_of;
 use crate::taken_snapshots::put_all_shown;
 use report_markup::Report;
 use script_lines::{Fault, place};
@@ -12,7 +13,7 @@ pub(crate) fn put_in_symbols(
     reports: &[Report],
     out: &mut String,
 ) -> Result<(), AllocError> {
-    let text: Vec<char> = text.chars().collect(alloc)?;
+    let text = scalars_of(alloc, text)?;
     put_all_shown(alloc, &reports_in_symbols(alloc, &text, reports)?, out)
 }
 
@@ -28,6 +29,6 @@ pub(crate) fn answer(alloc: Global, words: &[&str], out: &mut String) -> Result<
     let [text, words @ ..] = words else {
         return Err(Fault::Line);
     };
-    let text: Vec<char> = text.chars().collect(alloc)?;
+    let text = scalars_of(alloc, text)?;
     put_places(&SymbolPlaces::of(alloc, &text)?, words, out)
 }

@@ -1,4 +1,4 @@
-//! All that the calls of a script are about.
+//! What the calls of a script about texts and formats work on.
 use crate::formats::{frames, messages, replies, values, yxml_texts};
 use crate::texts::cut_text::{CutText, cut};
 use crate::texts::{
@@ -6,41 +6,38 @@ use crate::texts::{
 };
 use crate::{formats, texts};
 use byte_message::Frames;
-use script_lines::{Answer, Call, Fault, Script};
+use script_lines::{Answer, Call, Fault};
 use std::alloc::{AllocError, Global};
-use std::mem;
 
-/// What the calls of a script work on: a stream that comes in pieces, and a text under edits.
+/// A stream that comes in pieces, and a text under edits.
 #[derive(Drop)]
-pub(crate) struct Subjects {
+pub(crate) struct Texts {
     frames: Frames,
     text: CutText,
 }
 
-impl Subjects {
-    pub(crate) fn new(alloc: Global) -> Result<Subjects, AllocError> {
+impl Texts {
+    pub(crate) fn new(alloc: Global) -> Result<Texts, AllocError> {
         let text = cut(alloc, "", "-")?;
-        Ok(Subjects {
+        Ok(Texts {
             frames: Frames::new(alloc),
             text,
         })
     }
-}
 
-impl Script for Subjects {
-    fn begin(&mut self, alloc: Global) -> Answer {
-        let new = Subjects::new(alloc)?;
-        drop(mem::replace(self, new));
-        Ok(())
-    }
-
-    fn answer(&mut self, alloc: Global, words: &[&str], out: &mut String) -> Answer {
-        let subject = Call::of(words)?;
-        let call = subject.inner()?;
-        match subject.verb {
+    /// Answers a call of this subject.
+    pub(crate) fn answer(
+        &mut self,
+        alloc: Global,
+        subject: &str,
+        words: &[&str],
+        out: &mut String,
+    ) -> Answer {
+        let call = Call::of(words)?;
+        match subject {
             "frames" => frames::answer(alloc, out, &mut self.frames, &call),
             "text" => text_scripts::answer(alloc, out, &mut self.text, &call),
-            subject => of_texts(alloc, out, subject, &call),
+            _ => of_texts(alloc, out, subject, &call),
         }
     }
 }

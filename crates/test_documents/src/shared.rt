@@ -32,8 +32,8 @@ pub(crate) fn put_quoted(out: &mut String, scalars: &[char]) -> Result<(), Alloc
     out.push('\'')
 }
 
-/// A name.
-fn name_of(alloc: Global, name: &str) -> Result<Items<char>, AllocError> {
+/// The scalars of a name.
+pub(crate) fn items_of(alloc: Global, name: &str) -> Result<Items<char>, AllocError> {
     Ok(Items::from_vec(scalars_of(alloc, name)?))
 }
 
@@ -50,7 +50,7 @@ pub(crate) fn names_of(alloc: Global, word: &str) -> Result<Vec<Items<char>>, Al
     let mut names = Vec::new(alloc);
     if word != "-" {
         for name in word.split(',') {
-            push_name(&mut names, name_of(alloc, name))?;
+            push_name(&mut names, items_of(alloc, name))?;
         }
     }
     Ok(names)
