@@ -1,15 +1,15 @@
-//! All that the calls of a script are about.
+//! What the calls of a script on documents are about.
 use crate::asking::Asked;
 use crate::buffers::Edited;
 use crate::orders::{Between, Orders, put_orders};
 use crate::running::Run;
 use crate::{jobs, laws, lengths, long_texts, open_nodes, walk};
 use pide_base::ExecId;
-use script_lines::{Fault, Script, number};
+use script_lines::{Answer, Call, Fault, number};
 use std::alloc::{AllocError, Global};
 use std::mem;
 
-/// What the calls of a script work on: the next update, the update by which documents open whose
+/// What these calls work on: the next update, the update by which documents open whose
 /// orders are counted, a buffer, and a document.
 #[derive(Drop)]
 pub(crate) struct Editor {
@@ -76,20 +76,11 @@ impl Editor {
         };
         put_orders(alloc, &orders, out)
     }
-}
 
-impl Script for Editor {
-    fn begin(&mut self, alloc: Global) -> Result<(), Fault> {
-        let new = Editor::new(alloc)?;
-        drop(mem::replace(self, new));
-        Ok(())
-    }
-
-    fn answer(&mut self, alloc: Global, words: &[&str], out: &mut String) -> Result<(), Fault> {
-        let [verb, words @ ..] = words else {
-            return Err(Fault::Line);
-        };
-        match *verb {
+    /// What a call comes to.
+    pub(crate) fn answer(&mut self, alloc: Global, call: &Call<'_>, out: &mut String) -> Answer {
+        let words = call.words;
+        match call.verb {
             "edit" => self.asked.edit(alloc, words),
             "close" => self.asked.close(alloc, words),
             "blob" => self.asked.blob(alloc, words),
@@ -103,7 +94,7 @@ impl Script for Editor {
             "job" => jobs::answer(alloc, words, out),
             "left" => lengths::answer(alloc, words, out),
             "laws" => laws::answer(out),
-            _ => self.run.answer(alloc, *verb, words, out),
+            _ => self.run.answer(alloc, call.verb, words, out),
         }
     }
 }

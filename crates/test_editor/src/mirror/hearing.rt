@@ -1,6 +1,6 @@
 //! Replies that are heard.
-use crate::shapes::add_message;
-use crate::telling::put_heard;
+use crate::mirror::shapes::add_message;
+use crate::mirror::telling::put_heard;
 use pide_mirror::{Mirror, MirrorError};
 use script_lines::{Answer, Call, Fault, place};
 use std::alloc::{AllocError, Global};

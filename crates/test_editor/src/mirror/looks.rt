@@ -1,6 +1,7 @@
 //! What is seen of nodes.
-use crate::telling::put_look;
-use pide_base::{NodeName, VersionId};
+use crate::asking::named;
+use crate::mirror::telling::put_look;
+use pide_base::VersionId;
 use pide_mirror::Mirror;
 use script_lines::{Answer, Call, Fault, joined, place};
 use std::alloc::Global;
@@ -13,19 +14,11 @@ pub(crate) fn look(alloc: Global, mirror: &Mirror, call: &Call, out: &mut String
     };
     let version = VersionId::new(call.number(0)?).ok_or(Fault::Line)?;
     let name = call.word(1)?;
-    let (node, edits) = joined(node_of(alloc, name), edits_of(alloc, words))?;
+    let (node, edits) = joined(named(alloc, name), edits_of(alloc, words))?;
     put_look(
         out,
         mirror.snapshot(alloc, version, &node, edits.as_slice()),
     )
-}
-
-/// The node of this name.
-fn node_of(alloc: Global, word: &str) -> Result<NodeName, Fault> {
-    match NodeName::new(String::from_str(alloc, word)?) {
-        Ok(name) => Ok(name),
-        Err(_) => Err(Fault::Line),
-    }
 }
 
 /// The edits of these words, three for each.

@@ -1,8 +1,8 @@
 //! A client's loop over a stored exchange.
-use crate::calls::send;
-use crate::hearing::{Delivery, hear};
-use crate::looks::look;
-use crate::shapes::message_of;
+use crate::mirror::calls::send;
+use crate::mirror::hearing::{Delivery, hear};
+use crate::mirror::looks::look;
+use crate::mirror::shapes::message_of;
 use pide_mirror::Mirror;
 use script_lines::{Answer, Call, Fault};
 use std::alloc::Global;

@@ -1,5 +1,5 @@
 use Rattle.std.proofs.Common.{length}
-use Rattle.test_mirror.proofs.looks.edits_of.Given as goal
+use Rattle.test_editor.proofs.mirror.looks.edits_of.Given as goal
 
 abbrev pub decreases-loop-rest : goal.decreases-loop-rest
 decreases-loop-rest l = length l.rest
