@@ -70,9 +70,10 @@ impl Desk {
     /// Nothing has happened.
     pub(crate) fn new(alloc: Global) -> Result<Desk, AllocError> {
         fits_law();
+        let core = Core::new(alloc)?;
         Ok(Desk {
             buffer: Buffer::new(),
-            core: Core::new(alloc)?,
+            core,
             last: 0,
             jobs: HashMap::new(alloc),
         })

@@ -1,9 +1,9 @@
 //! The editor's document and the core behind it under scripts of calls, which it reads from its
 //! standard input: what updates of the editor's buffer come to, what the core assigns, what comes
 //! of claims, cancellations and removals over a small language, all orders of two workers on a
-//! small document, and jobs. What is shown is compared with a check from nothing. An editor's mirror
-//! is under them too, or a client's loop over a stored exchange, as `examples/client-loop.turns` has
-//! one. A line is answered by a line.
+//! small document, and jobs. What is shown is compared with a check from nothing. An editor's
+//! mirror is under scripts as well, or a client's loop over a stored exchange, as
+//! `examples/client-loop.turns` has one. A line is answered by a line.
 #![tactic(auto)]
 
 mod asking;

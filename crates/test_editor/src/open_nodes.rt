@@ -2,7 +2,8 @@
 use crate::sharing::shared;
 use buffer_rules::Sheet;
 use doc_nodes::{Aliases, Entry};
-use node_commands::{OldCommands, command_ranges, entries_of, kept_runs, sources};
+use joined_results::both;
+use node_commands::{OldCommands, Source, command_ranges, entries_of, kept_runs, sources};
 use pide_base::Range;
 use script_lines::Fault;
 use sheet_edits::{OpenNode, uncut};
@@ -80,11 +81,20 @@ fn put_commands(alloc: Global, text: &str, out: &mut String) -> Result<(), Fault
 fn put_commands_of(alloc: Global, node: &OpenNode, out: &mut String) -> Result<(), Fault> {
     write!(out, "{}: ", cut_word(node))?;
     let aliases = Aliases::new(alloc);
-    let ranges = ranges_of(alloc, node, &aliases)?;
-    let entries = new_entries(alloc, node.sheet(), &aliases, &ranges)?;
+    let entries = entries_under(alloc, node, &aliases);
+    drop(aliases);
+    let entries = entries?;
     let put = put_ids(out, entries.as_slice());
     drop(entries);
     Ok(put?)
+}
+
+/// The commands of the node.
+fn entries_under(alloc: Global, node: &OpenNode, aliases: &Aliases) -> Result<Items<Entry>, Fault> {
+    let ranges = ranges_of(alloc, node, aliases)?;
+    let entries = new_entries(alloc, node.sheet(), aliases, &ranges);
+    drop(ranges);
+    entries
 }
 
 /// Where the commands of the node stand.
@@ -134,32 +144,57 @@ fn put_header(alloc: Global, text: &str, out: &mut String) -> Result<(), Fault> 
 }
 
 /// Each scalar of a text as a range.
-fn add_each(ranges: &mut Vec<Range>, count: usize) -> Result<(), AllocError> {
+fn each_of(alloc: Global, count: usize) -> Result<Vec<Range>, AllocError> {
+    let mut ranges = Vec::new(alloc);
     for start in 0..count {
         let stop = start.saturating_add(1);
         ranges.push(Range { start, stop })?;
     }
-    Ok(())
+    Ok(ranges)
 }
 
 /// How many one-scalar commands of a text are kept at its front and at its back, where it had all
 /// but the first before.
 fn put_runs(alloc: Global, text: &str, out: &mut String) -> Result<(), Fault> {
     let text: Vec<char> = text.chars().collect(alloc)?;
-    let mut each = Vec::new(alloc);
-    add_each(&mut each, text.len())?;
-    let [_, others @ ..] = each.as_slice() else {
+    let put = put_runs_of(alloc, text.as_slice(), out);
+    drop(text);
+    put
+}
+
+fn put_runs_of(alloc: Global, text: &[char], out: &mut String) -> Result<(), Fault> {
+    let each = each_of(alloc, text.len())?;
+    let put = put_runs_at(alloc, text, each.as_slice(), out);
+    drop(each);
+    put
+}
+
+/// The same, where these are its scalars as ranges.
+fn put_runs_at(
+    alloc: Global,
+    text: &[char],
+    each: &[Range],
+    out: &mut String,
+) -> Result<(), Fault> {
+    let [_, others @ ..] = each else {
         return Err(Fault::Line);
     };
-    let before = sources(alloc, &text, others)?;
-    let now = sources(alloc, &text, &each)?;
+    let (before, now) = both(sources(alloc, text, others), sources(alloc, text, each))?;
+    let put = put_kept(&before, &now, out);
+    drop(before);
+    drop(now);
+    Ok(put?)
+}
+
+/// The first command of a text, and how many are kept at its front and at its back.
+fn put_kept(before: &[Source<'_>], now: &[Source<'_>], out: &mut String) -> Result<(), AllocError> {
     if let Some(first) = now.first() {
         for scalar in first.as_slice() {
             out.push(*scalar)?;
         }
     }
-    let kept = kept_runs(&before, &now);
-    Ok(write!(out, ": {} {}", kept.front(), kept.back())?)
+    let kept = kept_runs(before, now);
+    write!(out, ": {} {}", kept.front(), kept.back())
 }
 
 pub(crate) fn answer(alloc: Global, words: &[&str], out: &mut String) -> Result<(), Fault> {

@@ -13,12 +13,23 @@ pub(crate) fn turn(alloc: Global, mirror: &mut Mirror, call: &Call, out: &mut St
     let [version, node, message, replies @ ..] = call.words else {
         return Err(Fault::Line);
     };
-    send(mirror, message_of(alloc, *message)?)?;
-    hear(alloc, mirror, Delivery::WHOLE, replies, out)?;
+    exchange(alloc, mirror, *message, replies, out)?;
     out.push_str(": ")?;
     let seen = Call {
         verb: "look",
         words: &[*version, *node],
     };
     look(alloc, mirror, &seen, out)
+}
+
+/// The message is sent, the replies are heard, and it is told how many they are.
+fn exchange(
+    alloc: Global,
+    mirror: &mut Mirror,
+    message: &str,
+    replies: &[&str],
+    out: &mut String,
+) -> Answer {
+    send(mirror, message_of(alloc, message)?)?;
+    hear(alloc, mirror, Delivery::WHOLE, replies, out)
 }
