@@ -40,5 +40,7 @@ fn run<R: Threads + Wait + Sync>(rt: &HostRuntime, threads: &R, args: &Vec<Strin
         &NoGate,
         Unkept::new(),
     );
-    outcome.status
+    let status = outcome.status;
+    drop(outcome);
+    status
 }

@@ -1,7 +1,6 @@
 //! What an exchange is answered.
 use crate::bytes::put_bytes;
 use crate::exchange::Exchange;
-use crate::history::add_history;
 use crate::messages::spelling_of;
 use crate::replies::{Order, Replies};
 use crate::runs::{Ran, run};
@@ -75,10 +74,22 @@ fn add_answer<R: Threads + Wait + Sync>(
         return answer.push_str("a limit goes with the word serve alone\n");
     }
     let ran = run(rt, alloc, exchange, piece)?;
+    let added = add_ran(alloc, answer, exchange, &ran);
+    drop(ran);
+    added
+}
+
+/// Adds what a run comes to.
+fn add_ran(
+    alloc: Global,
+    answer: &mut String,
+    exchange: &Exchange,
+    ran: &Ran,
+) -> Result<(), AllocError> {
     add_status(alloc, answer, ran.status)?;
     add_hold(answer, ran.let_go)?;
-    add_written(alloc, answer, exchange, &ran)?;
-    add_counts(alloc, answer, exchange, &ran)
+    add_written(alloc, answer, exchange, ran)?;
+    add_counts(alloc, answer, exchange, ran)
 }
 
 /// Adds a line with a number.
@@ -211,10 +222,10 @@ fn add_counts(
     ran: &Ran,
 ) -> Result<(), AllocError> {
     if exchange.counts_entries {
-        push_line(alloc, answer, "entries", ran.entries() as u64)?;
+        push_line(alloc, answer, "entries", ran.history.entries)?;
     }
     if exchange.tells_history {
-        add_history(alloc, answer, ran.items())?;
+        answer.push_str(ran.history.lines.as_str())?;
     }
     if exchange.counts_faults {
         push_line(alloc, answer, "pulls", ran.pulls)?;

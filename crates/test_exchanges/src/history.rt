@@ -4,15 +4,37 @@ use reply_outbox::Item;
 use session_rules::{Entry, Service};
 use std::alloc::{AllocError, Global};
 
-/// Adds a line for each entry, the oldest first.
-pub(crate) fn add_history(
+/// The entries of a history, the oldest first.
+#[derive(Drop)]
+pub(crate) struct History {
+    /// How many there are.
+    pub(crate) entries: u64,
+    /// A line for each.
+    pub(crate) lines: String,
+}
+
+/// The history that stands in such a list.
+pub(crate) fn history_of(
     alloc: Global,
-    answer: &mut String,
+    items: &[Item<Service, Entry>],
+) -> Result<History, AllocError> {
+    let mut history = History {
+        entries: 0,
+        lines: String::new(alloc),
+    };
+    add_items(alloc, &mut history, items)?;
+    Ok(history)
+}
+
+fn add_items(
+    alloc: Global,
+    history: &mut History,
     items: &[Item<Service, Entry>],
 ) -> Result<(), AllocError> {
     for item in items {
         if let Item::Made(entry) = item {
-            add_entry(alloc, answer, entry)?;
+            add_entry(alloc, &mut history.lines, entry)?;
+            history.entries = history.entries.saturating_add(1);
         }
     }
     Ok(())

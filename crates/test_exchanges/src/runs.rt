@@ -1,5 +1,5 @@
 //! Runs of exchanges.
-ghost use Rattle.std.specs.Prelude.{◌≡◌, ◌⊎◌, ◌<◌, true, false, length};
+ghost use Rattle.std.specs.Prelude.{◌≡◌, ◌⊎◌, ◌<◌, ℕ, List, Some, true, false, length};
 ghost use Rattle.byte_message.specs.Stream.Ending.{Whole};
 ghost use Rattle.message_input.specs.Causes.{HasEnding};
 ghost use Rattle.pide_program.specs.Limit.{input_limit};
@@ -7,11 +7,13 @@ ghost use Rattle.pide_program.specs.Words.{is_mirror, is_served};
 
 use crate::exchange::{Exchange, Hold};
 use crate::gates::{Progress, SixPoints};
+use crate::history::{History, history_of};
 use crate::removal::{CountingSink, HeldSource, Removal};
 use crate::slow_sink::SlowSink;
 use document_serve::{Served, serve};
 use document_session::Session;
-use pide_base::{Gate, Status};
+use joined_results::both;
+use pide_base::{Gate, Sink, Source, Status};
 use pide_io::{HoldGate, LetGo, MemSink, MemSource, NoGate};
 use pide_program::{Outcome, pide};
 use reply_outbox::{Item, Kept};
@@ -24,6 +26,9 @@ use toplevel::Isar;
 /// The list of what has happened.
 type Past = Kept<Service, Entry>;
 
+/// A session, or the list that it would have kept where none was begun.
+type Begun = Result<Session<Isar, Past>, Past>;
+
 /// The most looks of a gate.
 const LOOKS: u64 = 10_000_000;
 
@@ -32,8 +37,7 @@ const LOOKS: u64 = 10_000_000;
 pub(crate) struct Ran {
     pub(crate) status: Status,
     pub(crate) sink: MemSink,
-    /// The session, or what it would have kept where none was begun.
-    pub(crate) session: Result<Session<Isar, Past>, Past>,
+    pub(crate) history: History,
     /// How many calls of the source and of the sink failed.
     pub(crate) pulls: u64,
     pub(crate) pushes: u64,
@@ -48,8 +52,10 @@ pub(crate) fn run<R: Threads + Wait + Sync>(
     exchange: &Exchange,
     piece: usize,
 ) -> Result<Ran, AllocError> {
-    let source = source_of(alloc, exchange, piece.max(1))?;
-    let sink = sink_of(alloc, exchange)?;
+    let (source, sink) = both(
+        source_of(alloc, exchange, piece.max(1)),
+        sink_of(alloc, exchange),
+    )?;
     match exchange.limit {
         Some(limit) => run_within(alloc, source, sink, limit),
         None => run_held(rt, alloc, exchange, source, sink),
@@ -93,21 +99,21 @@ fn run_held<R: Threads + Wait + Sync>(
     source: MemSource,
     sink: MemSink,
 ) -> Result<Ran, AllocError> {
-    let words = exchange.words.as_str();
+    let line = exchange.words.as_str();
     match exchange.hold {
-        Hold::Nobody => run_program(rt, alloc, words, source, sink, &NoGate),
+        Hold::Nobody => run_freely(rt, alloc, line, source, sink, &NoGate),
         Hold::AtClaim(worker) => {
             let gate = HoldGate::new(worker, LOOKS);
-            let ran = run_program(rt, alloc, words, source, sink, &gate)?;
-            Ok(ran.held_so(name_of(gate.let_go())))
+            let ran = run_freely(rt, alloc, line, source, sink, &gate);
+            held_so(ran, name_of(gate.let_go()))
         }
         Hold::WhenAsked => {
             let gate = SixPoints::new(LOOKS);
-            let ran = run_program(rt, alloc, words, source, sink, &gate)?;
-            Ok(ran.held_so(gate.let_go()))
+            let ran = run_freely(rt, alloc, line, source, sink, &gate);
+            held_so(ran, gate.let_go())
         }
-        Hold::ForPush => run_slowly(rt, alloc, words, source, sink),
-        Hold::UntilRemoved => run_removed(rt, alloc, words, source, sink),
+        Hold::ForPush => run_slowly(rt, alloc, line, source, sink),
+        Hold::UntilRemoved => run_removed(rt, alloc, line, source, sink),
     }
 }
 
@@ -120,34 +126,50 @@ fn name_of(let_go: LetGo) -> &'static str {
     }
 }
 
-impl Ran {
-    /// The items of the session's list: none where no session was begun.
-    pub(crate) fn items(&self) -> &[Item<Service, Entry>] {
-        match &self.session {
-            Ok(session) => session.past().as_slice(),
-            Err(_) => &[],
-        }
-    }
+/// The run, in which a hold of a worker ended so.
+fn held_so(ran: Result<Ran, AllocError>, let_go: &'static str) -> Result<Ran, AllocError> {
+    let mut ran = ran?;
+    ran.let_go = Some(let_go);
+    Ok(ran)
+}
 
-    /// How many entries the history has.
-    pub(crate) fn entries(&self) -> usize {
-        self.items()
-            .iter()
-            .filter(|item| matches!(item, Item::Made(_)))
-            .count()
-    }
+/// Runs the program on the words of a line. Where they ask to serve or to replay, the bytes end
+/// between messages and are fewer than the limit, and no call has failed before or in the run, it is
+/// done, or memory is short.
+fn watched<R: Threads + Wait + Sync, S: Source + Drop, K: Sink + Send + Drop, G: Gate + Sync>(
+    rt: &R,
+    alloc: Global,
+    words: &[&str],
+    source: S,
+    sink: K,
+    gate: &G,
+) -> Outcome<S, K, Past>
+    ensures whole { is_served words.now ≡ true → is_mirror words.now ≡ false
+        → (bytes : List ℕ) → S.left source ≡ Some bytes → HasEnding bytes Whole
+        → length bytes < input_limit → S.faults source ≡ 0 → K.faults sink ≡ 0
+        → S.faults result.source ≡ 0 → K.faults result.sink ≡ 0
+        → (result.status ≡ Status.Done) ⊎ (result.status ≡ Status.NoMemory) }
+{
+    pide(rt, alloc, words, source, sink, gate, Kept::new(alloc))
+}
 
-    /// The run, in which a hold of a worker ended so.
-    fn held_so(self, let_go: &'static str) -> Ran {
-        Ran {
-            let_go: Some(let_go),
-            ..self
-        }
+/// Runs the program on the words of a line.
+fn run_program<R: Threads + Wait + Sync, S: Source + Drop, K: Sink + Send + Drop, G: Gate + Sync>(
+    rt: &R,
+    alloc: Global,
+    line: &str,
+    source: S,
+    sink: K,
+    gate: &G,
+) -> Result<Outcome<S, K, Past>, AllocError> {
+    match words_of(alloc, line) {
+        Ok(words) => Ok(watched(rt, alloc, words.as_slice(), source, sink, gate)),
+        Err(_) => Err(AllocError),
     }
 }
 
-/// Runs the program on these words.
-fn run_program<R: Threads + Wait + Sync, G: Gate + Sync>(
+/// Runs the program on the words of a line, and nothing else.
+fn run_freely<R: Threads + Wait + Sync, G: Gate + Sync>(
     rt: &R,
     alloc: Global,
     line: &str,
@@ -155,13 +177,17 @@ fn run_program<R: Threads + Wait + Sync, G: Gate + Sync>(
     sink: MemSink,
     gate: &G,
 ) -> Result<Ran, AllocError> {
-    match words_of(alloc, line) {
-        Ok(words) => Ok(counted(watched(rt, alloc, words.as_slice(), source, sink, gate))),
-        Err(_) => Err(AllocError),
-    }
+    let Outcome {
+        status,
+        source,
+        sink,
+        session,
+    } = run_program(rt, alloc, line, source, sink, gate)?;
+    ran_of(alloc, status, source, sink, session)
 }
 
-/// Runs the program on these words, with a first push that waits until a worker has finished a part.
+/// Runs the program on the words of a line, with a first push that waits until a worker has finished
+/// a part.
 fn run_slowly<R: Threads + Wait + Sync>(
     rt: &R,
     alloc: Global,
@@ -169,7 +195,6 @@ fn run_slowly<R: Threads + Wait + Sync>(
     source: MemSource,
     sink: MemSink,
 ) -> Result<Ran, AllocError> {
-    let words = words_of(alloc, line)?;
     let progress = Progress::new();
     let slow = SlowSink {
         sink,
@@ -177,36 +202,22 @@ fn run_slowly<R: Threads + Wait + Sync>(
         looks: LOOKS,
         waited: None,
     };
-    let outcome = pide(
-        rt,
-        alloc,
-        words.as_slice(),
+    let Outcome {
+        status,
         source,
-        slow,
-        &progress,
-        Kept::new(alloc),
-    );
-    Ok(slowly(outcome))
-}
-
-/// What a run with such a push comes to.
-fn slowly(outcome: Outcome<MemSource, SlowSink<'_>, Past>) -> Ran {
-    let SlowSink { sink, waited, .. } = outcome.sink;
-    Ran {
-        status: outcome.status,
-        session: outcome.session,
-        pulls: outcome.source.faults(),
-        pushes: sink.faults(),
         sink,
-        let_go: Some(match waited {
-            None => "NotHeld",
-            Some(true) => "ByOther",
-            Some(false) => "ByLimit",
-        }),
-    }
+        session,
+    } = run_program(rt, alloc, line, source, slow, &progress)?;
+    let SlowSink { sink, waited, .. } = sink;
+    let let_go = match waited {
+        None => "NotHeld",
+        Some(true) => "ByOther",
+        Some(false) => "ByLimit",
+    };
+    held_so(ran_of(alloc, status, source, sink, session), let_go)
 }
 
-/// Runs the program on these words, with a worker that is held until its part isn't wanted.
+/// Runs the program on the words of a line, with a worker that is held until its part isn't wanted.
 fn run_removed<R: Threads + Wait + Sync>(
     rt: &R,
     alloc: Global,
@@ -214,7 +225,6 @@ fn run_removed<R: Threads + Wait + Sync>(
     source: MemSource,
     sink: MemSink,
 ) -> Result<Ran, AllocError> {
-    let words = words_of(alloc, line)?;
     let removal = Removal::new(LOOKS);
     let source = HeldSource {
         source,
@@ -225,84 +235,17 @@ fn run_removed<R: Threads + Wait + Sync>(
         sink,
         removal: &removal,
     };
-    let outcome = pide(
-        rt,
-        alloc,
-        words.as_slice(),
+    let Outcome {
+        status,
         source,
         sink,
-        &removal,
-        Kept::new(alloc),
-    );
-    Ok(removed(outcome).held_so(removal.let_go()))
+        session,
+    } = run_program(rt, alloc, line, source, sink, &removal)?;
+    let ran = ran_of(alloc, status, source.source, sink.sink, session);
+    held_so(ran, removal.let_go())
 }
 
-/// What a run with such a worker comes to.
-fn removed(outcome: Outcome<HeldSource<'_>, CountingSink<'_>, Past>) -> Ran {
-    let HeldSource { source, .. } = outcome.source;
-    let CountingSink { sink, .. } = outcome.sink;
-    Ran {
-        status: outcome.status,
-        session: outcome.session,
-        pulls: source.faults(),
-        pushes: sink.faults(),
-        sink,
-        let_go: None,
-    }
-}
-
-/// What a run hands back, and how many calls of its source and of its sink failed.
-#[derive(Drop)]
-struct Looked {
-    outcome: Outcome<MemSource, MemSink, Past>,
-    pulls: u64,
-    pushes: u64,
-}
-
-/// Runs the program, and looks how many calls of the source and of the sink failed. Where the words
-/// ask to serve or to replay, the bytes end between messages and are fewer than the limit, and no
-/// call has failed before or in the run, it is done, or memory is short.
-fn watched<R: Threads + Wait + Sync, G: Gate + Sync>(
-    rt: &R,
-    alloc: Global,
-    words: &[&str],
-    source: MemSource,
-    sink: MemSink,
-    gate: &G,
-) -> Looked
-    ensures whole { is_served words.now ≡ true → is_mirror words.now ≡ false
-        → HasEnding source.left Whole → length source.left < input_limit
-        → source.faults ≡ 0 → sink.faults ≡ 0 → result.pulls ≡ 0 → result.pushes ≡ 0
-        → (result.outcome.status ≡ Status.Done) ⊎ (result.outcome.status ≡ Status.NoMemory) }
-{
-    let outcome = pide(rt, alloc, words, source, sink, gate, Kept::new(alloc));
-    let pulls = outcome.source.faults();
-    let pushes = outcome.sink.faults();
-    Looked {
-        outcome,
-        pulls,
-        pushes,
-    }
-}
-
-/// What a run of the program comes to.
-fn counted(looked: Looked) -> Ran {
-    let Looked {
-        outcome,
-        pulls,
-        pushes,
-    } = looked;
-    Ran {
-        status: outcome.status,
-        sink: outcome.sink,
-        session: outcome.session,
-        pulls,
-        pushes,
-        let_go: None,
-    }
-}
-
-/// Serves the source, of which so many bytes may be taken.
+/// Serves the source, of which so many bytes may be taken, in a session in which nothing happened.
 fn run_within(
     alloc: Global,
     source: MemSource,
@@ -310,34 +253,49 @@ fn run_within(
     limit: usize,
 ) -> Result<Ran, AllocError> {
     let mut source = source;
-    let Served {
-        status,
-        session,
-        sink,
-    } = served(alloc, &mut source, sink, limit)?;
+    let service = Service::Workers { count: 0 };
+    match Session::new(alloc, service, Past::new(alloc)) {
+        Ok(session) => {
+            let Served {
+                status,
+                session,
+                sink,
+            } = serve(alloc, &Isar, &mut source, sink, session, limit);
+            ran_of(alloc, status, source, sink, Ok(session))
+        }
+        Err(_) => Err(AllocError),
+    }
+}
+
+/// What a run comes to that ended so.
+fn ran_of(
+    alloc: Global,
+    status: Status,
+    source: MemSource,
+    sink: MemSink,
+    session: Begun,
+) -> Result<Ran, AllocError> {
+    let history = past_of(alloc, session);
     let pulls = source.faults();
+    drop(source);
     let pushes = sink.faults();
     Ok(Ran {
         status,
+        history: history?,
         sink,
-        session: Ok(session),
         pulls,
         pushes,
         let_go: None,
     })
 }
 
-/// Serves the source up to this limit, into the sink, in a session in which nothing happened.
-fn served(
-    alloc: Global,
-    source: &mut MemSource,
-    sink: MemSink,
-    limit: usize,
-) -> Result<Served<Isar, Past, MemSink>, AllocError> {
-    let service = Service::Workers { count: 0 };
-    let past = Past::new(alloc);
-    match Session::new(alloc, service, past) {
-        Ok(session) => Ok(serve(alloc, &Isar, source, sink, session, limit)),
-        Err(_) => Err(AllocError),
-    }
+/// What has happened in a session: nothing where none was begun.
+fn past_of(alloc: Global, session: Begun) -> Result<History, AllocError> {
+    let items: &[Item<Service, Entry>] = match &session {
+        Ok(session) => session.past().as_slice(),
+        Err(_) => &[],
+    };
+    let history = history_of(alloc, items);
+    drop(session);
+    history
 }
