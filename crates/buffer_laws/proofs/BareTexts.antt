@@ -4,25 +4,25 @@ use Rattle.std.proofs.lemmas.Bool.{false≢true}
 use Rattle.std.proofs.lemmas.List.{take-append-drop}
 use Rattle.std.specs.List.{AllByRecursion, AllWithin}
 use Rattle.text_words.proofs.KnownLists.{each-both}
-use Rattle.outer_tokens.specs.Headings.{Heading, IsHeading, proper, words, words_of}
-use Rattle.outer_tokens.specs.Kinds.{is_proper}
-use Rattle.outer_tokens.specs.Lexing.{tokens_under}
-use Rattle.outer_tokens.specs.Tokens.{AreTokensBetween, AreTokensUnder}
-use Rattle.outer_tokens.specs.Words.{kind_of, is_in_force, is_minor_keyword}
-use Rattle.outer_tokens.specs.declared.bracket.Bracket.TheVariants.{Comment, String, Cartouche}
-use Rattle.outer_tokens.specs.declared.kind.Kind.{Kind}
-use Rattle.outer_tokens.specs.declared.kind.Kind.TheVariants as kind
-use Rattle.outer_tokens.specs.declared.row.Row.{Row}
-use Rattle.outer_tokens.specs.declared.row.Row.TheVariants.{Space, Enclosed, Error, Symbol, LongIdent, Word, Sym}
-use Rattle.outer_tokens.specs.declared.token.Token.{Token}
+use Rattle.outer_syntax.specs.Headings.{Heading, IsHeading, proper, words, words_of}
+use Rattle.outer_syntax.specs.Kinds.{is_proper}
+use Rattle.outer_syntax.specs.Lexing.{tokens_under}
+use Rattle.outer_syntax.specs.Tokens.{AreTokensBetween, AreTokensUnder}
+use Rattle.outer_syntax.specs.Words.{kind_of, is_in_force, is_minor_keyword}
+use Rattle.outer_syntax.specs.declared.bracket.Bracket.TheVariants.{Comment, String, Cartouche}
+use Rattle.outer_syntax.specs.declared.kind.Kind.{Kind}
+use Rattle.outer_syntax.specs.declared.kind.Kind.TheVariants as kind
+use Rattle.outer_syntax.specs.declared.row.Row.{Row}
+use Rattle.outer_syntax.specs.declared.row.Row.TheVariants.{Space, Enclosed, Error, Symbol, LongIdent, Word, Sym}
+use Rattle.outer_syntax.specs.declared.token.Token.{Token}
 use Rattle.command_spans.specs.Spans.{IsSpan, AreSpansOf, AreSpans}
 use Rattle.command_spans.specs.Cutting.{spans_in}
 use Rattle.command_spans.specs.declared.span.Span.{Span}
 use Rattle.command_spans.specs.declared.span.SpanKind.{SpanKind}
 use Rattle.command_spans.specs.declared.span.SpanKind.TheVariants.{Command, Malformed, Ignored}
-use Rattle.doc_headers.specs.Headers.{HasHeader}
-use Rattle.doc_headers.specs.Reading.{header_in}
-use Rattle.doc_headers.specs.declared.parts.Header.{Header}
+use Rattle.outer_syntax.specs.Headers.{HasHeader}
+use Rattle.outer_syntax.specs.Reading.{header_in}
+use Rattle.outer_syntax.specs.declared.parts.Header.{Header}
 use Rattle.buffer_rules.specs.Cuts.{is_command, command_ranges}
 
 -- a token is a space or a comment

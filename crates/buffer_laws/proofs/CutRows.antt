@@ -1,7 +1,7 @@
 -- The first row of the table that fits is the same where the text is cut behind it.
 use Rattle.std.proofs.Common.{◌≡◌, ℕ, zero, suc, ◌≤◌, List, [], ◌∷◌, length, take, refl, sym, ap, subst, arith}
-use Rattle.outer_tokens.specs.Rows.{HasForm, IsFirstRow}
-use Rattle.outer_tokens.specs.declared.row.Row.{Row}
+use Rattle.outer_syntax.specs.Rows.{HasForm, IsFirstRow}
+use Rattle.outer_syntax.specs.declared.row.Row.{Row}
 
 pub take_within : {A : Type 0} (n m : ℕ) (xs : List A) → n ≤ m → take n (take m xs) ≡ take n xs
 take_within zero m xs le = refl

@@ -5,15 +5,15 @@ use Rattle.std.specs.Prelude.{slice_get}
 use Rattle.std.specs.List.{AllByRecursion, AllWithin}
 use Rattle.text_words.proofs.KnownLists.{each-both}
 use Rattle.pide_base.specs.declared.range.Range.{Range}
-use Rattle.outer_tokens.specs.Kinds.{is_proper}
-use Rattle.outer_tokens.specs.Kinds as kinds
-use Rattle.outer_tokens.specs.Stages.{after_token, end_from}
-use Rattle.outer_tokens.specs.declared.stage.Stage.{Stage}
-use Rattle.outer_tokens.specs.declared.stage.Stage.TheVariants.{Start}
-use Rattle.outer_tokens.specs.declared.token.Token.{Token}
-use Rattle.outer_tokens.proofs.KnownProper.{command-proper}
-use Rattle.outer_tokens.proofs.KnownReading.{IsOn}
-use Rattle.outer_tokens.proofs.KnownLexing.{AreStaged, staged-rises}
+use Rattle.outer_syntax.specs.Kinds.{is_proper}
+use Rattle.outer_syntax.specs.Kinds as kinds
+use Rattle.outer_syntax.specs.Stages.{after_token, end_from}
+use Rattle.outer_syntax.specs.declared.stage.Stage.{Stage}
+use Rattle.outer_syntax.specs.declared.stage.Stage.TheVariants.{Start}
+use Rattle.outer_syntax.specs.declared.token.Token.{Token}
+use Rattle.outer_syntax.proofs.KnownProper.{command-proper}
+use Rattle.outer_syntax.proofs.KnownReading.{IsOn}
+use Rattle.outer_syntax.proofs.KnownLexing.{AreStaged, staged-rises}
 use Rattle.command_spans.specs.Spans.{IsSpan, RunsTo, AreSpansOf}
 use Rattle.command_spans.specs.declared.span.Span.{Span}
 use Rattle.command_spans.specs.declared.span.SpanKind.{SpanKind}

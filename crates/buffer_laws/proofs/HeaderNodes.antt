@@ -5,11 +5,11 @@ use Rattle.std.specs.List.{zip, AllByRecursion}
 use Rattle.std.specs.Option.{option_map_or}
 use Rattle.text_words.specs.Pieces.{text_between}
 use Rattle.pide_base.specs.declared.range.Range.{Range}
-use Rattle.doc_headers.specs.Reading.{header_in}
+use Rattle.outer_syntax.specs.Reading.{header_in}
 use Rattle.doc_nodes.specs.declared.node.Entry.{Entry}
 use Rattle.doc_nodes.specs.Imports.{NodeList}
 use Rattle.doc_nodes.specs.Aliases.{aliases_at}
-use Rattle.doc_blobs.specs.Needs.{AliasList}
+use Rattle.doc_nodes.specs.Needs.{AliasList}
 use Rattle.buffer_rules.specs.declared.sheet.Sheet.{Sheet}
 use Rattle.buffer_rules.specs.Cuts.{command_ranges}
 use Rattle.buffer_rules.specs.Numbers.{Command, ids_of, new_count}

@@ -6,21 +6,21 @@ use Rattle.std.proofs.lemmas.List.Elements.{filter-append}
 use Rattle.std.specs.Prelude.{is_some}
 use Rattle.text_words.specs.Pieces.{text_between}
 use Rattle.pide_base.specs.declared.range.Range.{Range}
-use Rattle.outer_tokens.specs.Headings.{Heading, IsHeading, IsHeadingEnd, words, proper}
-use Rattle.outer_tokens.specs.Kinds.{is_proper}
-use Rattle.outer_tokens.specs.Lexing.{tokens_under}
-use Rattle.outer_tokens.specs.Stages.{end_from}
-use Rattle.outer_tokens.specs.Tokens.{AreTokensUnder, text_of}
-use Rattle.outer_tokens.specs.Words.{is_in_force}
-use Rattle.outer_tokens.specs.declared.stage.Stage.TheVariants.{Start}
-use Rattle.outer_tokens.specs.declared.token.Token.{Token}
-use Rattle.outer_tokens.proofs.KnownHeadings.{heading-end}
-use Rattle.outer_tokens.proofs.KnownLexing.{AreStaged, all-tokens, staged-rises, tokens-staged}
+use Rattle.outer_syntax.specs.Headings.{Heading, IsHeading, IsHeadingEnd, words, proper}
+use Rattle.outer_syntax.specs.Kinds.{is_proper}
+use Rattle.outer_syntax.specs.Lexing.{tokens_under}
+use Rattle.outer_syntax.specs.Stages.{end_from}
+use Rattle.outer_syntax.specs.Tokens.{AreTokensUnder, text_of}
+use Rattle.outer_syntax.specs.Words.{is_in_force}
+use Rattle.outer_syntax.specs.declared.stage.Stage.TheVariants.{Start}
+use Rattle.outer_syntax.specs.declared.token.Token.{Token}
+use Rattle.outer_syntax.proofs.KnownHeadings.{heading-end}
+use Rattle.outer_syntax.proofs.KnownLexing.{AreStaged, all-tokens, staged-rises, tokens-staged}
 use Rattle.command_spans.specs.Spans.{AreSpans}
 use Rattle.command_spans.specs.Cutting.{spans_in}
-use Rattle.doc_headers.specs.Headers.{HasHeader, header_of}
-use Rattle.doc_headers.specs.Reading.{header_in}
-use Rattle.doc_headers.specs.declared.parts.Header.{Header}
+use Rattle.outer_syntax.specs.Headers.{HasHeader, header_of}
+use Rattle.outer_syntax.specs.Reading.{header_in}
+use Rattle.outer_syntax.specs.declared.parts.Header.{Header}
 use Rattle.buffer_rules.specs.Cuts.{command_ranges}
 use Rattle.buffer_laws.proofs.FirstCommands.{FirstCommand, find_first}
 use Rattle.buffer_laws.proofs.HeaderWords.{none_based, heading_on}

@@ -2,13 +2,13 @@
 use Rattle.std.proofs.Common.{◌≡◌, ℕ, zero, suc, ◌<◌, ◌≤◌, Bool, true, false, List, [], ◌∷◌, ◌++◌, length, get_or, Some, None, refl, ap, ◌∙◌, arith}
 use Rattle.std.specs.Prelude.{if◌then◌else◌}
 use Rattle.std.specs.List.{AllByRecursion}
-use Rattle.outer_tokens.specs.Kinds.{is_proper, is_command}
-use Rattle.outer_tokens.specs.Stages.{after_word, after_token, is_ended, end_from}
-use Rattle.outer_tokens.specs.Tokens.{text_of}
-use Rattle.outer_tokens.specs.declared.stage.Stage.{Stage}
-use Rattle.outer_tokens.specs.declared.stage.Stage.TheVariants.{Start, Absent}
-use Rattle.outer_tokens.specs.declared.token.Token.{Token}
-use Rattle.outer_tokens.proofs.KnownReading.{is_start, started, IsOn, no-header, absent-stays}
+use Rattle.outer_syntax.specs.Kinds.{is_proper, is_command}
+use Rattle.outer_syntax.specs.Stages.{after_word, after_token, is_ended, end_from}
+use Rattle.outer_syntax.specs.Tokens.{text_of}
+use Rattle.outer_syntax.specs.declared.stage.Stage.{Stage}
+use Rattle.outer_syntax.specs.declared.stage.Stage.TheVariants.{Start, Absent}
+use Rattle.outer_syntax.specs.declared.token.Token.{Token}
+use Rattle.outer_syntax.proofs.KnownReading.{is_start, started, IsOn, no-header, absent-stays}
 
 module _ (text : List ℕ) where
   -- an improper token changes nothing

@@ -2,20 +2,20 @@
 use Rattle.std.proofs.Common.{◌≡◌, ℕ, Bool, true, false, List, [], ◌∷◌, length, map, Some, refl, sym, ap, subst, ◌∙◌}
 use Rattle.std.proofs.lemmas.Bool.{false≢true}
 use Rattle.std.specs.Prelude.{if◌then◌else◌}
-use Rattle.outer_tokens.specs.Renaming.{is_word, renamed}
-use Rattle.outer_tokens.specs.Stages.{after_token, is_ended, given, end_from}
-use Rattle.outer_tokens.specs.Lexing.{tokens_under}
-use Rattle.outer_tokens.specs.Tokens.{text_of, IsToken, AreTokensBetween}
-use Rattle.outer_tokens.specs.Words.{kind_of, is_in_force}
-use Rattle.outer_tokens.specs.declared.bracket.Bracket.TheVariants.{Comment, String, Cartouche}
-use Rattle.outer_tokens.specs.declared.kind.Kind.{Kind}
-use Rattle.outer_tokens.specs.declared.row.Row.{Row}
-use Rattle.outer_tokens.specs.declared.row.Row.TheVariants.{Space, Enclosed, Error, Symbol, LongIdent, Word, Sym}
-use Rattle.outer_tokens.specs.declared.stage.Stage.{Stage}
-use Rattle.outer_tokens.specs.declared.stage.Stage.TheVariants.{Start}
-use Rattle.outer_tokens.specs.declared.token.Token.{Token}
-use Rattle.outer_tokens.proofs.KnownKept.{renamed-token, renamed-range}
-use Rattle.outer_tokens.proofs.KnownLexing.{AreStaged, all-tokens, same-tokens, given-none}
+use Rattle.outer_syntax.specs.Renaming.{is_word, renamed}
+use Rattle.outer_syntax.specs.Stages.{after_token, is_ended, given, end_from}
+use Rattle.outer_syntax.specs.Lexing.{tokens_under}
+use Rattle.outer_syntax.specs.Tokens.{text_of, IsToken, AreTokensBetween}
+use Rattle.outer_syntax.specs.Words.{kind_of, is_in_force}
+use Rattle.outer_syntax.specs.declared.bracket.Bracket.TheVariants.{Comment, String, Cartouche}
+use Rattle.outer_syntax.specs.declared.kind.Kind.{Kind}
+use Rattle.outer_syntax.specs.declared.row.Row.{Row}
+use Rattle.outer_syntax.specs.declared.row.Row.TheVariants.{Space, Enclosed, Error, Symbol, LongIdent, Word, Sym}
+use Rattle.outer_syntax.specs.declared.stage.Stage.{Stage}
+use Rattle.outer_syntax.specs.declared.stage.Stage.TheVariants.{Start}
+use Rattle.outer_syntax.specs.declared.token.Token.{Token}
+use Rattle.outer_syntax.proofs.KnownKept.{renamed-token, renamed-range}
+use Rattle.outer_syntax.proofs.KnownLexing.{AreStaged, all-tokens, same-tokens, given-none}
 
 -- a word's kind is that of a word
 word_kind : (names : List ℕ → Bool) (row : Row) (s : List ℕ) (k : Kind) → k ≡ kind_of names row s → is_word k ≡ true → kind_of names Word s ≡ k

@@ -4,15 +4,15 @@ use Rattle.std.proofs.lemmas.Bool.{false≢true}
 use Rattle.std.proofs.lemmas.List.{length-append, length-map, take-append-le}
 use Rattle.std.specs.Prelude.{if◌then◌else◌}
 use Rattle.std.specs.List.{AllByRecursion, take-map}
-use Rattle.outer_tokens.specs.Headings.{Heading, IsHeading, Word, words, proper}
-use Rattle.outer_tokens.specs.Kinds.{is_proper}
-use Rattle.outer_tokens.specs.Renaming.{is_word}
-use Rattle.outer_tokens.specs.Tokens.{text_of}
-use Rattle.outer_tokens.specs.Words.{is_in_force, kind_of}
-use Rattle.outer_tokens.specs.declared.kind.Kind.{Kind}
-use Rattle.outer_tokens.specs.declared.kind.Kind.TheVariants as kind
-use Rattle.outer_tokens.specs.declared.row.Row.TheVariants as row
-use Rattle.outer_tokens.specs.declared.token.Token.{Token}
+use Rattle.outer_syntax.specs.Headings.{Heading, IsHeading, Word, words, proper}
+use Rattle.outer_syntax.specs.Kinds.{is_proper}
+use Rattle.outer_syntax.specs.Renaming.{is_word}
+use Rattle.outer_syntax.specs.Tokens.{text_of}
+use Rattle.outer_syntax.specs.Words.{is_in_force, kind_of}
+use Rattle.outer_syntax.specs.declared.kind.Kind.{Kind}
+use Rattle.outer_syntax.specs.declared.kind.Kind.TheVariants as kind
+use Rattle.outer_syntax.specs.declared.row.Row.TheVariants as row
+use Rattle.outer_syntax.specs.declared.token.Token.{Token}
 use Rattle.buffer_laws.proofs.BareTexts.{IsImproper}
 use Rattle.buffer_laws.proofs.HeaderTokens.{base}
 

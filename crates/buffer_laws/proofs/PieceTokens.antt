@@ -3,17 +3,17 @@ use Rattle.std.proofs.Common.{◌≡◌, ℕ, ◌+◌, ◌-◌, ◌<◌, ◌≤�
 use Rattle.std.proofs.lemmas.List.{drop-drop, drop-take}
 use Rattle.std.specs.Prelude.{if◌then◌else◌, is_some}
 use Rattle.text_words.specs.Pieces.{text_between}
-use Rattle.outer_tokens.specs.Kinds.{is_proper}
-use Rattle.outer_tokens.specs.Headings.{proper, words}
-use Rattle.outer_tokens.specs.Renaming.{is_word, renamed}
-use Rattle.outer_tokens.specs.Rows.{IsFirstRow}
-use Rattle.outer_tokens.specs.Stages.{after_word, after_token, is_ended, given, end_from}
-use Rattle.outer_tokens.specs.Tokens.{text_of, IsToken}
-use Rattle.outer_tokens.specs.Words.{kind_of, is_in_force}
-use Rattle.outer_tokens.specs.declared.row.Row.TheVariants.{Word}
-use Rattle.outer_tokens.specs.declared.stage.Stage.{Stage}
-use Rattle.outer_tokens.specs.declared.token.Token.{Token}
-use Rattle.outer_tokens.proofs.KnownLexing.{AreStaged, staged-rises}
+use Rattle.outer_syntax.specs.Kinds.{is_proper}
+use Rattle.outer_syntax.specs.Headings.{proper, words}
+use Rattle.outer_syntax.specs.Renaming.{is_word, renamed}
+use Rattle.outer_syntax.specs.Rows.{IsFirstRow}
+use Rattle.outer_syntax.specs.Stages.{after_word, after_token, is_ended, given, end_from}
+use Rattle.outer_syntax.specs.Tokens.{text_of, IsToken}
+use Rattle.outer_syntax.specs.Words.{kind_of, is_in_force}
+use Rattle.outer_syntax.specs.declared.row.Row.TheVariants.{Word}
+use Rattle.outer_syntax.specs.declared.stage.Stage.{Stage}
+use Rattle.outer_syntax.specs.declared.token.Token.{Token}
+use Rattle.outer_syntax.proofs.KnownLexing.{AreStaged, staged-rises}
 use Rattle.buffer_laws.proofs.CutRows.{take_within, cut_row}
 
 module _ (text : List ℕ) (a b : ℕ) where

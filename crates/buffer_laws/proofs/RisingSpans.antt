@@ -3,15 +3,15 @@ use Rattle.std.proofs.Common.{◌≡◌, ℕ, zero, suc, ◌+◌, ◌-◌, ◌<�
 use Rattle.std.specs.Prelude.{slice_get}
 use Rattle.std.specs.List.{zip, AllByRecursion}
 use Rattle.pide_base.specs.declared.range.Range.{Range}
-use Rattle.outer_tokens.specs.Tokens.{AreTokensBetween}
-use Rattle.outer_tokens.specs.declared.token.Token.{Token}
+use Rattle.outer_syntax.specs.Tokens.{AreTokensBetween}
+use Rattle.outer_syntax.specs.declared.token.Token.{Token}
 use Rattle.command_spans.specs.Spans.{AreSpansOf, AreSpans}
 use Rattle.command_spans.specs.Cutting.{spans_in}
 use Rattle.command_spans.specs.declared.span.Span.{Span}
 use Rattle.command_spans.proofs.KnownEnds.{ends, starts, some_tokens}
 use Rattle.doc_nodes.specs.Imports.{NodeList}
 use Rattle.doc_nodes.specs.Aliases.{aliases_at}
-use Rattle.doc_blobs.specs.Needs.{AliasList}
+use Rattle.doc_nodes.specs.Needs.{AliasList}
 use Rattle.core_rules.specs.Updates.{AreRising}
 use Rattle.buffer_rules.specs.declared.sheet.Sheet.{Sheet}
 use Rattle.buffer_rules.specs.Cuts.{is_command, command_ranges}

@@ -2,8 +2,8 @@
 use Rattle.std.specs.Prelude.{◌≡◌, ℕ, ◌<◌, ◌≤◌, ◌⊎◌, List, [], slice_get, Some}
 use Rattle.std.specs.List.{AllByRecursion}
 use Rattle.std.specs.Option.{option_map_or}
-use Rattle.doc_headers.specs.Reading.{header_in}
-use Rattle.doc_headers.specs.declared.parts.KeywordPair.{KeywordPair}
+use Rattle.outer_syntax.specs.Reading.{header_in}
+use Rattle.outer_syntax.specs.declared.parts.KeywordPair.{KeywordPair}
 use Rattle.doc_nodes.specs.declared.node.Entry.{Entry}
 use Rattle.doc_nodes.specs.declared.node.Node.{Node}
 use Rattle.doc_nodes.specs.Imports.{NodeList}

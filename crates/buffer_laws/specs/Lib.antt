@@ -1,4 +1,3 @@
 pub mod Known
 pub mod Fitting
 pub use Rattle.buffer_rules.specs as buffer_rules_below
-pub use Rattle.core_rules.specs as core_rules_below

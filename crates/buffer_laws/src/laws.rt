@@ -18,7 +18,7 @@ ghost use Rattle.buffer_laws.specs.Known.{AreBelow, AreKnown, HasOwnHeader, IsBa
 
 use buffer_rules::{ids_law, kept_law};
 use command_spans::one_list;
-use doc_headers::one_header;
+use outer_syntax::one_header;
 
 /// The nodes have the names of the sheets, in their order.
 pub fn names_law()
@@ -67,7 +67,7 @@ pub fn bare_law()
 {
     ids_law();
     one_list();
-    outer_tokens::one_list();
+    outer_syntax::one_list();
     one_header();
 }
 
@@ -78,7 +78,7 @@ pub fn header_law()
         → AllByRecursion (λ pair. HasOwnHeader pair.1) (nodes_after tip sheets next).nodes }
 {
     one_list();
-    outer_tokens::one_list();
+    outer_syntax::one_list();
     one_header();
 }
 

@@ -8,4 +8,5 @@
 
 mod laws;
 
+pub use buffer_rules as buffer_rules_below;
 pub use laws::{bare_law, fits_law, header_law, known_law, names_law, numbers_law, places_law};

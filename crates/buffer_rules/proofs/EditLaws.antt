@@ -6,7 +6,7 @@ use Rattle.std.proofs.Math.Seq.{take-append_seam, drop-append_seam}
 use Rattle.text_edits.specs.declared.edit.Edit.{Edit}
 use Rattle.text_edits.specs.declared.edit.Edit.TheVariants.{Insert, Remove}
 use Rattle.text_edits.specs.Edits.{Applies, AppliesList}
-use Rattle.message_values.specs.doc_nodes_below.Names.{equal}
+use Rattle.doc_nodes.specs.Names.{equal}
 use Rattle.doc_nodes.proofs.KnownNames.{name_is, name_itself}
 use Rattle.message_values.specs.declared.refusal.Refusal.{Refusal}
 use Rattle.message_values.specs.declared.refusal.Refusal.TheVariants.{EditOutOfRange, RemoveDiffers}

@@ -1,7 +1,7 @@
 -- How many commands keep their ids, and which ids there are.
 use Rattle.std.proofs.Common.{◌≡◌, ℕ, zero, suc, ◌≤◌, Bool, true, false, List, [], ◌∷◌, length, take, drop, reverse, sym, refl, ap, ◌∙◌, subst, arith}
 use Rattle.std.proofs.lemmas.Bool.{both_ways, cond-true, cond-false}
-use Rattle.message_values.specs.doc_nodes_below.Names.{equal}
+use Rattle.doc_nodes.specs.Names.{equal}
 use Rattle.doc_nodes.proofs.KnownNames.{name_is, name_itself}
 use Rattle.buffer_rules.specs.Numbers.{equal_front, kept_runs, IsLongestFront, IsLongestKept}
 

@@ -6,7 +6,7 @@ use Rattle.pide_base.specs.declared.range.Range.{Range}
 use Rattle.command_spans.specs.declared.span.SpanKind.{SpanKind}
 use Rattle.command_spans.specs.declared.span.SpanKind.TheVariants.{Ignored}
 use Rattle.command_spans.specs.Cutting.{spans_in}
-use Rattle.message_values.specs.doc_nodes_below.declared.node.Node.{Node}
+use Rattle.doc_nodes.specs.declared.node.Node.{Node}
 
 -- a span is a command unless it is ignored
 abbrev pub is_command : SpanKind → Bool

@@ -4,13 +4,13 @@ use Rattle.std.specs.Option.{option_map_or}
 use Rattle.std.specs.List.{zip}
 use Rattle.shared_map.specs.Pairs.{found}
 use Rattle.pide_base.specs.declared.range.Range.{Range}
-use Rattle.doc_headers.specs.Reading.{header_in}
-use Rattle.message_values.specs.doc_nodes_below.declared.node.Entry.{Entry}
-use Rattle.message_values.specs.doc_nodes_below.declared.node.Node.{Node}
-use Rattle.message_values.specs.doc_nodes_below.Names.{in_order}
-use Rattle.message_values.specs.doc_nodes_below.Imports.{NodeList}
-use Rattle.message_values.specs.doc_nodes_below.Aliases.{aliases_at}
-use Rattle.doc_blobs.specs.Needs.{AliasList, needs}
+use Rattle.outer_syntax.specs.Reading.{header_in}
+use Rattle.doc_nodes.specs.declared.node.Entry.{Entry}
+use Rattle.doc_nodes.specs.declared.node.Node.{Node}
+use Rattle.doc_nodes.specs.Names.{in_order}
+use Rattle.doc_nodes.specs.Imports.{NodeList}
+use Rattle.doc_nodes.specs.Aliases.{aliases_at}
+use Rattle.doc_nodes.specs.Needs.{AliasList, needs}
 use Rattle.buffer_rules.specs.declared.sheet.Sheet.{Sheet}
 use Rattle.buffer_rules.specs.Sheets.{SheetList}
 use Rattle.buffer_rules.specs.Cuts.{command_ranges, source, is_seen, commands_of}

@@ -1,7 +1,7 @@
 -- Which commands keep their ids (Wenzel, ITP 2014; the rule is this project's own).
 use Rattle.std.specs.Prelude.{◌≡◌, ℕ, suc, ◌-◌, ◌≤◌, if◌then◌else◌, List, ◌∷◌, ◌++◌, length, map, take, drop, reverse}
 use Rattle.std.specs.List.{range_with_len}
-use Rattle.message_values.specs.doc_nodes_below.Names.{equal}
+use Rattle.doc_nodes.specs.Names.{equal}
 
 -- a command: its id and its source
 abbrev pub Command : Type 0

@@ -3,7 +3,7 @@ use Rattle.std.specs.Prelude.{ℕ, ◌+◌, Bool, ◌||◌, nat_lt, if◌then◌
 use Rattle.std.specs.List.{list_any}
 use Rattle.pide_base.specs.Ids.{id_end}
 use Rattle.pide_base.specs.Limits.{most_nodes, most_scalars, most_live}
-use Rattle.message_values.specs.doc_nodes_below.Imports.{NodeList}
+use Rattle.doc_nodes.specs.Imports.{NodeList}
 use Rattle.message_values.specs.declared.refusal.Refusal.{Refusal}
 use Rattle.message_values.specs.declared.refusal.Refusal.TheVariants.{Limit}
 use Rattle.buffer_rules.specs.declared.sheet.Document.{Document}

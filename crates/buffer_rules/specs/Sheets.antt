@@ -8,7 +8,7 @@ use Rattle.shared_map.specs.Changes.{put, without}
 use Rattle.pide_base.specs.declared.range.Range.{Range}
 use Rattle.text_edits.specs.declared.edit.Edit.{Edit}
 use Rattle.text_edits.specs.Offsets.{convert_list}
-use Rattle.message_values.specs.doc_nodes_below.Names.{in_order}
+use Rattle.doc_nodes.specs.Names.{in_order}
 use Rattle.message_values.specs.declared.item.Perspective.{Perspective}
 use Rattle.message_values.specs.declared.item.Change.{Change}
 use Rattle.message_values.specs.declared.item.Change.TheVariants as change

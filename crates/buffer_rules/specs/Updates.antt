@@ -4,7 +4,7 @@ use Rattle.std.specs.Option.{is_none}
 use Rattle.std.specs.List.{list_any}
 use Rattle.shared_map.specs.Pairs.{found}
 use Rattle.shared_map.specs.Changes.{put, without}
-use Rattle.message_values.specs.doc_nodes_below.Names.{in_order, equal}
+use Rattle.doc_nodes.specs.Names.{in_order, equal}
 use Rattle.message_values.specs.declared.item.Item.{Item}
 use Rattle.message_values.specs.declared.item.BlobChange.{BlobChange}
 use Rattle.message_values.specs.declared.refusal.Refusal.{Refusal}

@@ -1,6 +1,6 @@
 //! What an editor has of a document.
 
-use message_values::doc_nodes_below::{BlobName, Shared};
+use doc_nodes::{BlobName, Shared};
 use pide_base::{NodeName, Range};
 use shared_map::SharedMap;
 use sqlite_items::Items;

@@ -2,10 +2,10 @@
 use Rattle.std.proofs.Common.{◌≡◌, ℕ, Bool, true, false, List, [], ◌∷◌, ◌≤◌, length, get_or, arith, Option, Some, None, refl, ap, sym, ◌∙◌}
 use Rattle.std.specs.Prelude.{if◌then◌else◌}
 use Rattle.std.specs.Option.{option_and_then}
-use Rattle.outer_tokens.specs.Kinds.{is_command}
-use Rattle.outer_tokens.specs.Tokens.{text_of}
-use Rattle.outer_tokens.specs.declared.token.Token.{Token}
-use Rattle.doc_blobs.specs.Needs.{AliasList, meant}
+use Rattle.outer_syntax.specs.Kinds.{is_command}
+use Rattle.outer_syntax.specs.Tokens.{text_of}
+use Rattle.outer_syntax.specs.declared.token.Token.{Token}
+use Rattle.doc_nodes.specs.Needs.{AliasList, meant}
 use Rattle.isar_rules.specs.declared.shape.Shape.TheVariants as shape
 use Rattle.isar_rules.specs.declared.verb.Verb.{Verb}
 use Rattle.isar_rules.specs.declared.verb.Verb.TheVariants as verb

@@ -1,11 +1,11 @@
 -- Which command a word or a token begins (this project's own).
 use Rattle.std.specs.Prelude.{ℕ, Bool, true, false, if◌then◌else◌, List, drop, Option, Some, None}
 use Rattle.shared_map.specs.Pairs.{found}
-use Rattle.outer_tokens.specs.Kinds.{is_command}
-use Rattle.outer_tokens.specs.Tokens.{text_of}
-use Rattle.outer_tokens.specs.declared.token.Token.{Token}
+use Rattle.outer_syntax.specs.Kinds.{is_command}
+use Rattle.outer_syntax.specs.Tokens.{text_of}
+use Rattle.outer_syntax.specs.declared.token.Token.{Token}
 use Rattle.doc_nodes.specs.Names.{in_order}
-use Rattle.doc_blobs.specs.Needs.{AliasList, meant}
+use Rattle.doc_nodes.specs.Needs.{AliasList, meant}
 use Rattle.isar_rules.specs.declared.verb.Verb.{Verb}
 use Rattle.isar_rules.specs.declared.verb.Verb.TheVariants as verb
 use Rattle.isar_rules.specs.Verbs.{verbs, verb_of}

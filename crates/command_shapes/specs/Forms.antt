@@ -1,6 +1,6 @@
 -- The forms that shapes are made of: names and quoted formulas (this project's own).
 use Rattle.std.specs.Prelude.{List, [], ◌∷◌, Option, Some, None}
-use Rattle.outer_tokens.specs.declared.token.Token.{Token}
+use Rattle.outer_syntax.specs.declared.token.Token.{Token}
 use Rattle.isar_rules.specs.declared.shape.Shape.{Shape}
 use Rattle.isar_rules.specs.declared.shape.Spot.{Spot}
 use Rattle.isar_rules.specs.Words.{Word, name, quoted, colon}

@@ -10,7 +10,7 @@ ghost use Rattle.command_shapes.specs.Forms.{lone_name, lone_formula, named_form
 use crate::word::{Word, word_of};
 use isar_rules::{Shape, Spot, Verb};
 use joined_results::each_of_three;
-use outer_tokens::Token;
+use outer_syntax::Token;
 use std::alloc::{AllocError, Global};
 
 /// NAME

@@ -1,14 +1,13 @@
 //! The shape of a header.
 ghost use Rattle.std.specs.Prelude.{◌≡◌, IfOk, length, map, take, option_map};
-ghost use Rattle.doc_headers.specs.Reading.{header_in};
+ghost use Rattle.outer_syntax.specs.Reading.{header_in};
 ghost use Rattle.isar_rules.specs.Words.{spot_of};
 ghost use Rattle.isar_rules.specs.Shapes.{last_stop, is_header, headed, header_shape};
 
 use crate::word::spot_of;
-use doc_headers::{header, header_stop, one_header};
 use isar_rules::{Shape, Spot};
 use joined_results::both;
-use outer_tokens::Token;
+use outer_syntax::{Token, header, header_stop, one_header};
 use sqlite_items::Items;
 use std::alloc::{AllocError, Global};
 

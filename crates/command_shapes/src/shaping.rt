@@ -2,18 +2,17 @@
 ghost use Rattle.std.specs.Prelude.{◌≡◌, ◌∷◌, ◌<◌, IsTrue, IfOk, List, Some, length};
 ghost use Rattle.isar_rules.specs.declared.shape.Shape.TheVariants as shape;
 ghost use Rattle.isar_rules.specs.Shapes.{load_shape, shape_by, shape_of};
-ghost use Rattle.doc_blobs.specs.Needs.{needs};
-ghost use Rattle.outer_tokens.specs.Kinds.{is_command};
-ghost use Rattle.outer_tokens.specs.declared.token.Token.{Token};
+ghost use Rattle.doc_nodes.specs.Needs.{needs};
+ghost use Rattle.outer_syntax.specs.Kinds.{is_command};
+ghost use Rattle.outer_syntax.specs.declared.token.Token.{Token};
 ghost use Rattle.command_shapes.specs.Commands.{verb_in, begins_by};
 
 use crate::forms::worded;
 use crate::header::header_shape;
 use crate::verbs::verb_of;
-use doc_blobs::{meant, needs};
-use doc_nodes::Aliases;
+use doc_nodes::{Aliases, meant, needs};
 use isar_rules::{Shape, Spot, Verb};
-use outer_tokens::{Kind, Token, scalars};
+use outer_syntax::{Kind, Token, scalars};
 use sqlite_items::Items;
 use std::alloc::{AllocError, Global};
 

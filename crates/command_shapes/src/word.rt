@@ -1,13 +1,13 @@
 //! What a token is to a command's shape.
 ghost use Rattle.std.specs.Prelude.{◌≡◌, ◌∷◌, [], IfOk};
 ghost use Rattle.doc_nodes.specs.Names.{equal};
-ghost use Rattle.outer_tokens.specs.Contents.{content_of};
-ghost use Rattle.outer_tokens.specs.Tokens.{text_of};
+ghost use Rattle.outer_syntax.specs.Contents.{content_of};
+ghost use Rattle.outer_syntax.specs.Tokens.{text_of};
 ghost use Rattle.isar_rules.specs.Words.{word, sign, spot, spot_of};
 ghost use Rattle.command_shapes.specs.Seen.{seen};
 
 use isar_rules::Spot;
-use outer_tokens::{Kind, Token, content, scalars};
+use outer_syntax::{Kind, Token, content, scalars};
 use sqlite_items::Items;
 use std::alloc::{AllocError, Global};
 use std::cmp::Ordering;

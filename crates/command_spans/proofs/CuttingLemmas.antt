@@ -1,9 +1,9 @@
 -- The function gives the list of spans.
 use Rattle.std.proofs.Common.{◌≡◌, ℕ, zero, suc, ◌-◌, ◌≤◌, List, [], ◌∷◌, length, get_or, drop, sym, refl, ap, ◌∙◌, subst, arith}
 use Rattle.std.specs.Prelude.{slice_get}
-use Rattle.outer_tokens.specs.Lexing.{tokens_of}
-use Rattle.outer_tokens.specs.declared.token.Token.{Token}
-use Rattle.outer_tokens.proofs.KnownLexing.{are-tokens, same-lexed}
+use Rattle.outer_syntax.specs.Lexing.{tokens_of}
+use Rattle.outer_syntax.specs.declared.token.Token.{Token}
+use Rattle.outer_syntax.proofs.KnownLexing.{are-tokens, same-lexed}
 use Rattle.command_spans.specs.Spans.{proper_token, command_token, IsSpan, AreSpansOf, AreSpans}
 use Rattle.command_spans.specs.Cutting.{rest_size, kind_from, spans_from, spans_of, spans_in}
 use Rattle.command_spans.specs.declared.span.Span.{Span}

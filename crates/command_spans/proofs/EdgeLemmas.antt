@@ -4,16 +4,16 @@ use Rattle.std.specs.Prelude.{nat_lt}
 use Rattle.std.proofs.lemmas.Bool.{both_ways, and_parts, ltb-true}
 use Rattle.std.proofs.Math.Seq.{drop-cons}
 use Rattle.text_words.specs.Blanks.{is_blank}
-use Rattle.outer_tokens.specs.Tokens.{AreTokensBetween}
-use Rattle.outer_tokens.specs.Headings.{names_at}
-use Rattle.outer_tokens.specs.Lexing.{tokens_of}
-use Rattle.outer_tokens.specs.Stages.{after_tokens}
-use Rattle.outer_tokens.specs.declared.kind.Kind.TheVariants as kind
-use Rattle.outer_tokens.specs.declared.stage.Stage.{Stage}
-use Rattle.outer_tokens.specs.declared.stage.Stage.TheVariants.{Start}
-use Rattle.outer_tokens.specs.declared.token.Token.{Token}
-use Rattle.outer_tokens.proofs.KnownLexing.{AreStaged, are-tokens, tokens-staged}
-use Rattle.outer_tokens.proofs.KnownKept.{SameUpTo}
+use Rattle.outer_syntax.specs.Tokens.{AreTokensBetween}
+use Rattle.outer_syntax.specs.Headings.{names_at}
+use Rattle.outer_syntax.specs.Lexing.{tokens_of}
+use Rattle.outer_syntax.specs.Stages.{after_tokens}
+use Rattle.outer_syntax.specs.declared.kind.Kind.TheVariants as kind
+use Rattle.outer_syntax.specs.declared.stage.Stage.{Stage}
+use Rattle.outer_syntax.specs.declared.stage.Stage.TheVariants.{Start}
+use Rattle.outer_syntax.specs.declared.token.Token.{Token}
+use Rattle.outer_syntax.proofs.KnownLexing.{AreStaged, are-tokens, tokens-staged}
+use Rattle.outer_syntax.proofs.KnownKept.{SameUpTo}
 use Rattle.command_spans.specs.Spans.{Is}
 use Rattle.command_spans.specs.CutTexts.{boundary_at}
 use Rattle.command_spans.specs.Reparsing.{is_space, is_space_below, moved}

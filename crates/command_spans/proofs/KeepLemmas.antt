@@ -4,20 +4,20 @@ use Rattle.std.specs.Prelude.{if◌then◌else◌}
 use Rattle.std.proofs.lemmas.Bool.{both_ways}
 use Rattle.std.proofs.lemmas.List.{take-append-drop, take-take, drop-drop}
 use Rattle.text_words.specs.Blanks.{is_blank}
-use Rattle.outer_tokens.specs.Kinds.{is_proper}
-use Rattle.outer_tokens.specs.Rows.{IsFirstRow}
-use Rattle.outer_tokens.specs.Words.{is_in_force, is_minor_keyword, kind_of}
-use Rattle.outer_tokens.specs.Tokens.{text_of, IsToken, AreTokensBetween}
-use Rattle.outer_tokens.specs.Renaming.{renamed}
-use Rattle.outer_tokens.specs.Stages.{after_word, after_token, given}
-use Rattle.outer_tokens.specs.declared.bracket.Bracket.TheVariants.{Comment, String, Cartouche}
-use Rattle.outer_tokens.specs.declared.kind.Kind.TheVariants as kind
-use Rattle.outer_tokens.specs.declared.row.Row.{Row}
-use Rattle.outer_tokens.specs.declared.row.Row.TheVariants.{Space, Enclosed, Error, Symbol, LongIdent, Word, Sym}
-use Rattle.outer_tokens.specs.declared.stage.Stage.{Stage}
-use Rattle.outer_tokens.specs.declared.token.Token.{Token}
-use Rattle.outer_tokens.proofs.KnownLexing.{AreStaged}
-use Rattle.outer_tokens.proofs.KnownKept.{SameUpTo, kept-token, moved-token, renamed-token, renamed-range}
+use Rattle.outer_syntax.specs.Kinds.{is_proper}
+use Rattle.outer_syntax.specs.Rows.{IsFirstRow}
+use Rattle.outer_syntax.specs.Words.{is_in_force, is_minor_keyword, kind_of}
+use Rattle.outer_syntax.specs.Tokens.{text_of, IsToken, AreTokensBetween}
+use Rattle.outer_syntax.specs.Renaming.{renamed}
+use Rattle.outer_syntax.specs.Stages.{after_word, after_token, given}
+use Rattle.outer_syntax.specs.declared.bracket.Bracket.TheVariants.{Comment, String, Cartouche}
+use Rattle.outer_syntax.specs.declared.kind.Kind.TheVariants as kind
+use Rattle.outer_syntax.specs.declared.row.Row.{Row}
+use Rattle.outer_syntax.specs.declared.row.Row.TheVariants.{Space, Enclosed, Error, Symbol, LongIdent, Word, Sym}
+use Rattle.outer_syntax.specs.declared.stage.Stage.{Stage}
+use Rattle.outer_syntax.specs.declared.token.Token.{Token}
+use Rattle.outer_syntax.proofs.KnownLexing.{AreStaged}
+use Rattle.outer_syntax.proofs.KnownKept.{SameUpTo, kept-token, moved-token, renamed-token, renamed-range}
 use Rattle.command_spans.specs.Reparsing.{is_space, moved}
 use Rattle.command_spans.specs.Keeping.{moved_token, IsChange, restaged}
 use Rattle.command_spans.proofs.PlaceLemmas.{rising-order, between-rising, staged-rising}

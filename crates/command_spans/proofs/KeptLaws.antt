@@ -8,17 +8,17 @@ use Rattle.text_edits.specs.declared.edit.Edit.{Edit}
 use Rattle.text_edits.specs.declared.edit.Edit.TheVariants.{Insert, Remove}
 use Rattle.text_edits.specs.Edits.{Applies}
 use Rattle.text_edits.specs.Offsets.{convert}
-use Rattle.outer_tokens.specs.Words.{is_in_force}
-use Rattle.outer_tokens.specs.Tokens.{AreTokensBetween}
-use Rattle.outer_tokens.specs.Headings.{names_at}
-use Rattle.outer_tokens.specs.Lexing.{tokens_from, tokens_of}
-use Rattle.outer_tokens.specs.Renaming.{renamed}
-use Rattle.outer_tokens.specs.Stages.{after_token, after_tokens, given}
-use Rattle.outer_tokens.specs.declared.stage.Stage.{Stage}
-use Rattle.outer_tokens.specs.declared.stage.Stage.TheVariants.{Start}
-use Rattle.outer_tokens.specs.declared.token.Token.{Token}
-use Rattle.outer_tokens.proofs.KnownLexing.{AreStaged, rest-tokens}
-use Rattle.outer_tokens.proofs.KnownKept.{renamed-token, renamed-range, renamed-kind}
+use Rattle.outer_syntax.specs.Words.{is_in_force}
+use Rattle.outer_syntax.specs.Tokens.{AreTokensBetween}
+use Rattle.outer_syntax.specs.Headings.{names_at}
+use Rattle.outer_syntax.specs.Lexing.{tokens_from, tokens_of}
+use Rattle.outer_syntax.specs.Renaming.{renamed}
+use Rattle.outer_syntax.specs.Stages.{after_token, after_tokens, given}
+use Rattle.outer_syntax.specs.declared.stage.Stage.{Stage}
+use Rattle.outer_syntax.specs.declared.stage.Stage.TheVariants.{Start}
+use Rattle.outer_syntax.specs.declared.token.Token.{Token}
+use Rattle.outer_syntax.proofs.KnownLexing.{AreStaged, rest-tokens}
+use Rattle.outer_syntax.proofs.KnownKept.{renamed-token, renamed-range, renamed-kind}
 use Rattle.command_spans.specs.CutTexts.{CutText, tokens_in, boundaries, boundary_at}
 use Rattle.command_spans.specs.Reparsing.{start_of, old_end_of, new_end_of, before, front_of, moved, is_meeting, past, back_of}
 use Rattle.command_spans.specs.Keeping.{moved_token, IsKept, KeepsTokens, IsChange, restaged}

@@ -3,7 +3,7 @@ use Rattle.std.proofs.Common.{◌≡◌, ℕ, zero, suc, ◌<◌, ◌≤◌, ◌
 use Rattle.std.specs.Prelude.{nat_le}
 use Rattle.std.specs.List.{list_any}
 use Rattle.std.proofs.lemmas.Bool.{both_ways, cases_lt, and_parts, or_left, or_right, eqb-true, eq-eqb, le-leb, leb-true}
-use Rattle.outer_tokens.specs.declared.token.Token.{Token}
+use Rattle.outer_syntax.specs.declared.token.Token.{Token}
 use Rattle.command_spans.specs.CutTexts.{Rising, boundaries, boundary_at}
 use Rattle.command_spans.specs.Reparsing.{moved, is_meeting}
 use Rattle.command_spans.specs.Keeping.{ArePassed}

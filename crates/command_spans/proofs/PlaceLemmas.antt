@@ -4,13 +4,13 @@ use Rattle.std.specs.Prelude.{All, nat_lt, nat_le, find}
 use Rattle.std.proofs.lemmas.Bool.{cond-true, cond-false, lt-ltb, le-ltb, le-leb, lt-leb}
 use Rattle.std.proofs.lemmas.List.Sums.{sum_by-cons}
 use Rattle.std.proofs.lemmas.List.Elements.{All-head, All-tail}
-use Rattle.outer_tokens.specs.Tokens.{IsToken, AreTokensBetween}
-use Rattle.outer_tokens.specs.Headings.{names_at}
-use Rattle.outer_tokens.specs.Lexing.{tokens_of}
-use Rattle.outer_tokens.specs.Stages.{after_token, after_tokens}
-use Rattle.outer_tokens.specs.declared.stage.Stage.{Stage}
-use Rattle.outer_tokens.specs.declared.token.Token.{Token}
-use Rattle.outer_tokens.proofs.KnownLexing.{AreStaged, are-tokens}
+use Rattle.outer_syntax.specs.Tokens.{IsToken, AreTokensBetween}
+use Rattle.outer_syntax.specs.Headings.{names_at}
+use Rattle.outer_syntax.specs.Lexing.{tokens_of}
+use Rattle.outer_syntax.specs.Stages.{after_token, after_tokens}
+use Rattle.outer_syntax.specs.declared.stage.Stage.{Stage}
+use Rattle.outer_syntax.specs.declared.token.Token.{Token}
+use Rattle.outer_syntax.proofs.KnownLexing.{AreStaged, are-tokens}
 use Rattle.command_spans.specs.CutTexts.{Rising, boundaries, boundary_at}
 use Rattle.command_spans.specs.Reparsing.{before, past}
 

@@ -2,12 +2,12 @@
 use Rattle.std.proofs.Common.{◌≡◌, ◌⊎◌, ℕ, ◌<◌, ◌≤◌, ◌-◌, ◌^◌, true, false, List, length, take, drop, map, sym, ◌∙◌, subst, arith, length-drop}
 use Rattle.std.specs.Prelude.{All, find}
 use Rattle.std.proofs.lemmas.List.{length-map}
-use Rattle.outer_tokens.specs.Lexing.{tokens_of}
-use Rattle.outer_tokens.specs.Stages.{after_tokens}
-use Rattle.outer_tokens.specs.declared.stage.Stage.{Stage}
-use Rattle.outer_tokens.specs.declared.stage.Stage.TheVariants.{Start}
-use Rattle.outer_tokens.specs.declared.token.Token.{Token}
-use Rattle.outer_tokens.proofs.KnownLexing.{AreStaged}
+use Rattle.outer_syntax.specs.Lexing.{tokens_of}
+use Rattle.outer_syntax.specs.Stages.{after_tokens}
+use Rattle.outer_syntax.specs.declared.stage.Stage.{Stage}
+use Rattle.outer_syntax.specs.declared.stage.Stage.TheVariants.{Start}
+use Rattle.outer_syntax.specs.declared.token.Token.{Token}
+use Rattle.outer_syntax.proofs.KnownLexing.{AreStaged}
 use Rattle.command_spans.specs.declared.change.Change.{Change}
 use Rattle.command_spans.specs.Spans.{Is}
 use Rattle.command_spans.specs.CutTexts.{CutText, Rising, tokens_in, boundaries, boundary_at}

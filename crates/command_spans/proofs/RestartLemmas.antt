@@ -4,7 +4,7 @@ use Rattle.std.proofs.Math.Seq.{drop-cons}
 use Rattle.std.proofs.lemmas.List.{drop_all}
 use Rattle.std.specs.Prelude.{fold, if◌then◌else◌, nat_lt, ◌&&◌}
 use Rattle.std.proofs.lemmas.Bool.{cond-true, cond-false, le-ltb}
-use Rattle.outer_tokens.specs.declared.token.Token.{Token}
+use Rattle.outer_syntax.specs.declared.token.Token.{Token}
 use Rattle.command_spans.specs.Spans.{Is}
 use Rattle.command_spans.specs.CutTexts.{Rising, boundary_at}
 use Rattle.command_spans.specs.Reparsing.{is_space, is_space_below, restart}

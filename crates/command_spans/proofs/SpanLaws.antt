@@ -6,11 +6,11 @@ use Rattle.std.proofs.lemmas.Bool.{both_ways, cases_lt}
 use Rattle.std.proofs.lemmas.List.Concat.{flat_map-cons}
 use Rattle.text_words.specs.Pieces.{text_between, joined, Tiles}
 use Rattle.text_words.proofs.KnownPieces.{tiles-whole}
-use Rattle.outer_tokens.specs.Headings.{names_at}
-use Rattle.outer_tokens.specs.Tokens.{AreTokensBetween}
-use Rattle.outer_tokens.specs.declared.kind.Kind.TheVariants as kind
-use Rattle.outer_tokens.specs.declared.token.Token.{Token}
-use Rattle.outer_tokens.proofs.KnownProper.{command-proper}
+use Rattle.outer_syntax.specs.Headings.{names_at}
+use Rattle.outer_syntax.specs.Tokens.{AreTokensBetween}
+use Rattle.outer_syntax.specs.declared.kind.Kind.TheVariants as kind
+use Rattle.outer_syntax.specs.declared.token.Token.{Token}
+use Rattle.outer_syntax.proofs.KnownProper.{command-proper}
 use Rattle.command_spans.specs.Spans.{Is, proper_token, command_token, RunsTo, IsSpan, Covers, AreSpansOf, AreSpans}
 use Rattle.command_spans.specs.declared.span.SpanKind.{SpanKind}
 use Rattle.command_spans.specs.declared.span.SpanKind.TheVariants.{Command, Malformed, Ignored}

@@ -1,7 +1,7 @@
 -- A text under aliases, as one value (this project's own).
 use Rattle.std.specs.Prelude.{◌≡◌, ℕ, zero, suc, ◌<◌, ◌++◌, List, [], ◌∷◌, map}
-use Rattle.outer_tokens.specs.Lexing.{tokens_of}
-use Rattle.outer_tokens.specs.declared.token.Token.{Token}
+use Rattle.outer_syntax.specs.Lexing.{tokens_of}
+use Rattle.outer_syntax.specs.declared.token.Token.{Token}
 use Rattle.command_spans.specs.Cutting.{spans_in}
 use Rattle.command_spans.specs.declared.span.Span.{Span}
 

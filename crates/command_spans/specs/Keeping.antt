@@ -1,14 +1,14 @@
 -- What stays of tokens where a text is edited or read under other names (this project's own).
 use Rattle.std.specs.Prelude.{◌≡◌, ◌⊎◌, ℕ, ◌-◌, ◌<◌, ◌≤◌, List, [], ◌∷◌, length, take, drop, map, IsTrue}
 use Rattle.std.specs.List.{AllWithin, AllZip}
-use Rattle.outer_tokens.specs.Words.{is_in_force}
+use Rattle.outer_syntax.specs.Words.{is_in_force}
 use Rattle.text_edits.specs.declared.edit.Edit.{Edit}
 use Rattle.text_edits.specs.Edits.{Applies}
-use Rattle.outer_tokens.specs.Stages.{after_token, after_tokens, given}
-use Rattle.outer_tokens.specs.Renaming.{is_word, renamed}
-use Rattle.outer_tokens.specs.declared.stage.Stage.{Stage}
-use Rattle.outer_tokens.specs.declared.stage.Stage.TheVariants.{Start}
-use Rattle.outer_tokens.specs.declared.token.Token.{Token}
+use Rattle.outer_syntax.specs.Stages.{after_token, after_tokens, given}
+use Rattle.outer_syntax.specs.Renaming.{is_word, renamed}
+use Rattle.outer_syntax.specs.declared.stage.Stage.{Stage}
+use Rattle.outer_syntax.specs.declared.stage.Stage.TheVariants.{Start}
+use Rattle.outer_syntax.specs.declared.token.Token.{Token}
 use Rattle.command_spans.specs.CutTexts.{Cuts, AreCutsOf}
 use Rattle.command_spans.specs.Reparsing.{moved}
 

@@ -1,9 +1,9 @@
 -- The spans of a text: how its tokens are cut (after Isabelle's command spans).
 use Rattle.std.specs.Prelude.{◌≡◌, ℕ, ◌-◌, ◌<◌, ◌≤◌, Bool, true, false, List, [], ◌∷◌, length, drop, Some, slice_get}
 use Rattle.std.specs.List.{AllWithin, slice_index_or}
-use Rattle.outer_tokens.specs.Kinds.{is_proper, is_command}
-use Rattle.outer_tokens.specs.Headings.{AreTokens}
-use Rattle.outer_tokens.specs.declared.token.Token.{Token}
+use Rattle.outer_syntax.specs.Kinds.{is_proper, is_command}
+use Rattle.outer_syntax.specs.Headings.{AreTokens}
+use Rattle.outer_syntax.specs.declared.token.Token.{Token}
 use Rattle.command_spans.specs.declared.span.SpanKind.{SpanKind}
 use Rattle.command_spans.specs.declared.span.SpanKind.TheVariants.{Command, Malformed, Ignored}
 use Rattle.command_spans.specs.declared.span.Span.{Span}

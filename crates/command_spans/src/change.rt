@@ -4,7 +4,7 @@ ghost use Rattle.std.specs.Prelude.{◌≡◌, ◌≤◌, ◌<◌, ◌^◌};
 ghost use Rattle.command_spans.specs.Reparsing.{start_of, old_end_of, new_end_of, moved};
 ghost use Rattle.command_spans.specs.Keeping.{moved_token};
 
-use outer_tokens::Token;
+use outer_syntax::Token;
 use pide_base::Range;
 use text_edits::Edit;
 

@@ -2,11 +2,11 @@
 
 ghost use Rattle.std.specs.Prelude.{◌≡◌, ◌<◌, ◌≤◌, ℕ, true, false, IfOk, length};
 ghost use Rattle.std.specs.List.{AllWithin};
-ghost use Rattle.outer_tokens.specs.Kinds.{is_command};
+ghost use Rattle.outer_syntax.specs.Kinds.{is_command};
 ghost use Rattle.command_spans.specs.Spans.{Is, proper_token, RunsTo, IsSpan, AreSpansOf, AreSpans};
 
 use crate::span::{Span, SpanKind};
-use outer_tokens::{Kind, Token, is_proper, lex};
+use outer_syntax::{Kind, Token, is_proper, lex};
 use pide_base::Range;
 use sqlite_items::Items;
 use std::alloc::{AllocError, Global};

@@ -6,7 +6,7 @@ ghost use Rattle.text_words.specs.Pieces.{text_between};
 ghost use Rattle.text_edits.specs.declared.edit.Edit.{Edit};
 ghost use Rattle.text_edits.specs.Edits.{Applies};
 ghost use Rattle.text_edits.specs.Offsets.{convert};
-ghost use Rattle.outer_tokens.specs.declared.token.Token.{Token};
+ghost use Rattle.outer_syntax.specs.declared.token.Token.{Token};
 ghost use Rattle.command_spans.specs.Spans.{AreSpansOf, AreSpans};
 ghost use Rattle.command_spans.specs.Cutting.{spans_of, spans_in};
 ghost use Rattle.command_spans.specs.CutTexts.{CutText, tokens_in};

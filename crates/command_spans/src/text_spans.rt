@@ -3,7 +3,7 @@
 use crate::cut::spans_of;
 use crate::names::Names;
 use crate::span::Span;
-use outer_tokens::{Token, lex};
+use outer_syntax::{Token, lex};
 use sqlite_items::Items;
 use std::alloc::{AllocError, Global};
 use std::marker::Model;

@@ -1,0 +1,2 @@
+mod CalledNode
+mod KnownRows

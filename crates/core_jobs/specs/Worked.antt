@@ -3,7 +3,7 @@ use Rattle.std.specs.Prelude.{◌≡◌, ℕ, true, List, [], ◌∷◌, codes, 
 use Rattle.pide_base.specs.declared.part.PartKind.{PartKind}
 use Rattle.pide_base.specs.declared.part.PartKind.TheVariants as kind
 use Rattle.report_markup.specs.declared.kind.ReportKind.TheVariants as report
-use Rattle.core_rules.specs.doc_nodes_below.Aliases.{no_aliases}
+use Rattle.doc_nodes.specs.Aliases.{no_aliases}
 use Rattle.core_rules.specs.exec_rules_below.declared.key.Key.TheVariants.{Lasts}
 use Rattle.core_rules.specs.exec_rules_below.declared.key.Last.TheVariants.{Made}
 use Rattle.core_rules.specs.exec_rules_below.declared.home.Home.{Home}

@@ -1,6 +1,6 @@
 //! What comes of a part.
 
-use core_rules::doc_nodes_below::Shared;
+use doc_nodes::Shared;
 use pide_base::Part;
 use report_markup::Report;
 use sqlite_items::Items;

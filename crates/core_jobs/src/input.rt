@@ -1,9 +1,9 @@
 //! What jobs take up.
 ghost use Rattle.std.specs.Prelude.{◌≡◌, IfOk};
 
-use core_rules::doc_nodes_below::Shared;
 use core_rules::exec_rules_below::Head;
 use core_rules::language_below::Imports;
+use doc_nodes::Shared;
 use std::alloc::AllocError;
 
 /// The state that a job takes up: an evaluation and its fork take up the state before the command,

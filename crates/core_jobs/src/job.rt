@@ -6,8 +6,8 @@ ghost use Rattle.core_jobs.specs.Runs.{RanSo};
 
 use crate::input::Input;
 use crate::ran::Ran;
-use core_rules::doc_nodes_below::Shared;
 use core_rules::language_below::{Answer, Language};
+use doc_nodes::Shared;
 use pide_base::{Part, PartKind, Stop};
 use std::alloc::Global;
 use std::marker::Model;

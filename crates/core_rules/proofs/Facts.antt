@@ -3,7 +3,7 @@ use Rattle.std.proofs.Common.{◌≡◌, ℕ, ◌<◌, ◌≤◌, ◌↔◌, tru
 use Rattle.std.specs.Prelude.{slice_get}
 use Rattle.std.specs.List.{list_all}
 use Rattle.text_words.specs.Members.{has}
-use Rattle.import_rounds.specs.Rounds.{is_known}
+use Rattle.doc_nodes.specs.Rounds.{is_known}
 use Rattle.doc_nodes.specs.declared.node.Entry.{Entry}
 use Rattle.doc_nodes.specs.declared.node.Node.{Node}
 use Rattle.doc_nodes.specs.Imports.{NodeList, place_of, is_ordered, order, placed_node}

@@ -15,7 +15,7 @@ use Rattle.exec_rules.specs.declared.home.Home.{Home}
 use Rattle.exec_rules.specs.declared.home.Input.TheVariants as input
 use Rattle.exec_rules.specs.declared.version.Version.{Version}
 use Rattle.exec_rules.specs.Keys.{key_by}
-use Rattle.import_rounds.specs.Rounds.{is_known}
+use Rattle.doc_nodes.specs.Rounds.{is_known}
 use Rattle.doc_nodes.specs.Imports.{ordered_places}
 use Rattle.core_rules.specs.Numbered.{numbered}
 use Rattle.core_rules.specs.Parts.{sources_of}

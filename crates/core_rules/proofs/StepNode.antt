@@ -5,7 +5,7 @@ use Rattle.std.specs.Prelude.{slice_get, nat_lt}
 use Rattle.std.specs.List.{list_all, AllByRecursion}
 use Rattle.std.specs.Option.{option_map_or}
 use Rattle.text_words.specs.Members.{has}
-use Rattle.import_rounds.specs.Rounds.{is_known}
+use Rattle.doc_nodes.specs.Rounds.{is_known}
 use Rattle.doc_nodes.specs.declared.node.Node.{Node}
 use Rattle.doc_nodes.specs.Imports.{NodeList, place_of, is_bad, order}
 use Rattle.doc_nodes.specs.Prefix.{wanted_prefix, own_wanted}

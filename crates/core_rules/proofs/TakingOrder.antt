@@ -5,8 +5,8 @@ use Rattle.std.specs.Prelude.{◌==◌, nat_lt}
 use Rattle.pide_base.specs.declared.part.Part.{Part}
 use Rattle.pide_base.specs.declared.part.PartKind.{PartKind}
 use Rattle.pide_base.specs.declared.part.PartKind.TheVariants as kind
-use Rattle.task_queue.specs.declared.priority.Priority.{Priority}
-use Rattle.task_queue.specs.Order.{height, goes_before}
+use Rattle.core_tables.specs.declared.priority.Priority.{Priority}
+use Rattle.core_tables.specs.Order.{height, goes_before}
 use Rattle.exec_rules.specs.declared.version.Version.{Version}
 use Rattle.core_rules.specs.Assigned.{is_visible}
 use Rattle.core_rules.specs.Ready.{priority_by, priority_of, comes_before}

@@ -18,6 +18,5 @@ pub mod Small
 pub mod Worked
 pub mod WorkedNodes
 pub mod WorkedVersions
-pub use Rattle.doc_nodes.specs as doc_nodes_below
 pub use Rattle.exec_rules.specs as exec_rules_below
 pub use Rattle.language.specs as language_below

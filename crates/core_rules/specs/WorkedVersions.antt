@@ -1,6 +1,6 @@
 -- What events come to in small documents of several versions (this project's own).
 use Rattle.std.specs.Prelude.{◌≡◌, ℕ, ◌+◌, true, false, List, [], ◌∷◌, map, codes, Option, Some, None}
-use Rattle.doc_nodes.specs.doc_headers_below.declared.parts.KeywordPair.{KeywordPair}
+use Rattle.doc_nodes.specs.outer_syntax_below.declared.parts.KeywordPair.{KeywordPair}
 use Rattle.doc_nodes.specs.declared.node.Entry.{Entry}
 use Rattle.doc_nodes.specs.Imports.{NodeList}
 use Rattle.exec_rules.specs.Listed.{told_commands_in}

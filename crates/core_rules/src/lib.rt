@@ -13,7 +13,6 @@ mod event;
 mod laws;
 mod worked;
 
-pub use doc_nodes as doc_nodes_below;
 pub use event::Event;
 pub use exec_rules as exec_rules_below;
 pub use language as language_below;

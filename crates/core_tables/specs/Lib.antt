@@ -3,3 +3,10 @@ pub mod Removal
 pub mod Progress
 pub mod Rows
 pub mod Finish
+pub mod Deque
+pub mod Order
+pub mod Tasks
+pub mod Waiters
+pub mod Ready
+pub mod Changes
+pub mod Kept

@@ -6,8 +6,8 @@ use Rattle.std.specs.List.{list_all, flat_map}
 use Rattle.std.proofs.lemmas.Bool.{false≢true}
 use Rattle.std.proofs.lemmas.Bool.Decides.{nat_tests}
 use Rattle.text_words.specs.Members.{has}
-use Rattle.import_rounds.specs.Rounds.{is_known}
-use Rattle.import_rounds.specs.Looks.{aims_at}
+use Rattle.doc_nodes.specs.Rounds.{is_known}
+use Rattle.doc_nodes.specs.Looks.{aims_at}
 use Rattle.text_words.proofs.KnownMembers.{has_both, cut_at, has_middle}
 use Rattle.doc_nodes.specs.declared.inherited.NodeAliases.{NodeAliases}
 use Rattle.doc_nodes.specs.Imports.{NodeList, aims, is_ordered, order}

@@ -7,8 +7,8 @@ use Rattle.std.proofs.lemmas.List.{length-map}
 use Rattle.std.proofs.lemmas.Option.{slice_get-map}
 use Rattle.text_words.specs.Members.{has}
 use Rattle.text_words.proofs.KnownLists.{map_alike}
-use Rattle.import_rounds.specs.Rounds.{in_rounds, is_known}
-use Rattle.import_rounds.specs.Looks.{aims_at}
+use Rattle.doc_nodes.specs.Rounds.{in_rounds, is_known}
+use Rattle.doc_nodes.specs.Looks.{aims_at}
 use Rattle.doc_nodes.specs.declared.node.Node.{Node}
 use Rattle.doc_nodes.specs.declared.inherited.NodeAliases.{NodeAliases}
 use Rattle.doc_nodes.specs.Names.{equal}

@@ -1,3 +1,10 @@
+mod Counts
+pub mod KnownRising
+pub mod KnownFiltered
+pub mod KnownSteps
+mod RoundLemmas
+pub mod KnownRounds
+pub mod KnownOrdered
 pub mod KnownNames
 pub mod KnownPlaces
 mod Lists
@@ -12,3 +19,4 @@ mod PrefixLaws
 mod TidyAliases
 mod AliasLaws
 pub mod KnownHeads
+mod BlobNames

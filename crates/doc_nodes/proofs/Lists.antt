@@ -5,7 +5,7 @@ use Rattle.std.specs.List.{zip, filter_map, cons_option, flat_map, range_with_le
 use Rattle.std.proofs.lemmas.List.{take_more}
 use Rattle.std.proofs.lemmas.List.Concat.{flat_map-append}
 use Rattle.std.proofs.lemmas.List.Elements.{filter-append, filter_map-append}
-use Rattle.import_rounds.proofs.KnownFiltered.{range_next}
+use Rattle.doc_nodes.proofs.KnownFiltered.{range_next}
 
 drop_next : {X : Type 0} (xs : List X) (k : ℕ) (x : X) → slice_get xs k ≡ Some x → drop k xs ≡ x ∷ drop (suc k) xs
 drop_next [] k x e = absurd (cc)

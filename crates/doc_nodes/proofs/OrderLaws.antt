@@ -6,12 +6,12 @@ use Rattle.std.proofs.lemmas.Bool.{false≢true}
 use Rattle.std.proofs.lemmas.List.{length-map}
 use Rattle.std.proofs.lemmas.Option.{slice_get_within}
 use Rattle.text_words.specs.Members.{has}
-use Rattle.import_rounds.specs.Rounds.{is_known}
-use Rattle.import_rounds.specs.Looks.{aims_at}
+use Rattle.doc_nodes.specs.Rounds.{is_known}
+use Rattle.doc_nodes.specs.Looks.{aims_at}
 use Rattle.text_words.proofs.KnownMembers.{has_both, has_middle}
-use Rattle.import_rounds.proofs.KnownFiltered.{has_passes, once_in, filtered_within, filtered_has}
-use Rattle.import_rounds.proofs.KnownRounds.{cut, is_order}
-use Rattle.import_rounds.proofs.KnownOrdered.{all_ordered, ordered_known}
+use Rattle.doc_nodes.proofs.KnownFiltered.{has_passes, once_in, filtered_within, filtered_has}
+use Rattle.doc_nodes.proofs.KnownRounds.{cut, is_order}
+use Rattle.doc_nodes.proofs.KnownOrdered.{all_ordered, ordered_known}
 use Rattle.doc_nodes.specs.declared.node.Node.{Node}
 use Rattle.doc_nodes.specs.Imports.{NodeList, place_of, aims_of, aims, ordered_places, is_ordered, other_places, order, placed_node}
 use Rattle.doc_nodes.proofs.WantedLemmas.{placed_within}

@@ -3,7 +3,7 @@ use Rattle.std.proofs.Common.{◌≡◌, inl, inr, ℕ, eqb, Bool, true, false, 
 use Rattle.std.specs.Prelude.{find}
 use Rattle.std.specs.Option.{option_map_or}
 use Rattle.shared_map.specs.Pairs.{found}
-use Rattle.import_rounds.proofs.KnownRounds.{cut}
+use Rattle.doc_nodes.proofs.KnownRounds.{cut}
 use Rattle.doc_nodes.specs.declared.inherited.NodeAliases.{NodeAliases}
 use Rattle.doc_nodes.specs.Names.{in_order, equal}
 use Rattle.doc_nodes.specs.Imports.{NodeList, order}

@@ -6,10 +6,10 @@ use Rattle.std.proofs.lemmas.Bool.Decides.{nat_tests}
 use Rattle.std.proofs.lemmas.List.Folds.{list_any-append}
 use Rattle.std.proofs.Math.Bool.{or-true}
 use Rattle.text_words.specs.Members.{has}
-use Rattle.import_rounds.specs.Rounds.{is_known}
-use Rattle.import_rounds.specs.Looks.{aims_at}
+use Rattle.doc_nodes.specs.Rounds.{is_known}
+use Rattle.doc_nodes.specs.Looks.{aims_at}
 use Rattle.text_words.proofs.KnownMembers.{has_both, cut_at}
-use Rattle.import_rounds.proofs.KnownOrdered.{ordered_known}
+use Rattle.doc_nodes.proofs.KnownOrdered.{ordered_known}
 use Rattle.doc_nodes.specs.Imports.{NodeList, aims, is_ordered, ordered_places, order}
 use Rattle.doc_nodes.specs.Wanted.{is_at, is_aimed, wants, hands_on, reached, is_reached}
 use Rattle.doc_nodes.specs.Reached.{Reached}

@@ -5,9 +5,9 @@ use Rattle.doc_nodes.specs.declared.node.Node.{Node}
 use Rattle.std.proofs.Math.Seq.{drop-cons}
 use Rattle.std.proofs.lemmas.List.Folds.{list_any-append, list_any_at}
 use Rattle.text_words.specs.Members.{has}
-use Rattle.import_rounds.specs.Looks.{marked, aims_at}
-use Rattle.import_rounds.proofs.KnownFiltered.{filtered_within}
-use Rattle.import_rounds.proofs.KnownRounds.{is_order}
+use Rattle.doc_nodes.specs.Looks.{marked, aims_at}
+use Rattle.doc_nodes.proofs.KnownFiltered.{filtered_within}
+use Rattle.doc_nodes.proofs.KnownRounds.{is_order}
 use Rattle.doc_nodes.specs.Imports.{NodeList, aims, aims_of, ordered_places, is_ordered, other_places, order}
 use Rattle.doc_nodes.specs.Wanted.{is_at, is_aimed, wants, hands_on, reached}
 use Rattle.doc_nodes.specs.Reach.{AreReached}

@@ -4,8 +4,8 @@ use Rattle.std.specs.Prelude.{ℕ, ◌==◌, Bool, if◌then◌else◌, List, []
 use Rattle.std.specs.Option.{option_or, option_map_or}
 use Rattle.std.specs.List.{flat_map}
 use Rattle.shared_map.specs.Pairs.{found}
-use Rattle.doc_headers.specs.outer_tokens_below.Words.{is_inner_command}
-use Rattle.import_rounds.specs.Looks.{aims_at}
+use Rattle.outer_syntax.specs.Words.{is_inner_command}
+use Rattle.doc_nodes.specs.Looks.{aims_at}
 use Rattle.doc_nodes.specs.declared.node.Node.{Node}
 use Rattle.doc_nodes.specs.declared.inherited.NodeAliases.{NodeAliases}
 use Rattle.doc_nodes.specs.Names.{in_order, equal}

@@ -1,6 +1,6 @@
 -- The graph of a version's nodes.
 use Rattle.std.specs.Prelude.{◌≡◌}
-use Rattle.import_rounds.specs.Looks.{AreMarks}
+use Rattle.doc_nodes.specs.Looks.{AreMarks}
 use Rattle.doc_nodes.specs.Graph.{Graph}
 use Rattle.doc_nodes.specs.Imports.{NodeList, aims, ordered_places, order}
 

@@ -1,7 +1,7 @@
 -- What a node has from its imports, once the aliases of all nodes are known.
 use Rattle.std.specs.Prelude.{ℕ, if◌then◌else◌, List, [], Option, Some, None}
 use Rattle.std.specs.List.{flat_map}
-use Rattle.import_rounds.specs.Looks.{aims_at}
+use Rattle.doc_nodes.specs.Looks.{aims_at}
 use Rattle.doc_nodes.specs.Imports.{NodeList, aims, is_ordered}
 use Rattle.doc_nodes.specs.Aliases.{aliases_at}
 

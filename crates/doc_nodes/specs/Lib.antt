@@ -1,3 +1,6 @@
+pub mod Rounds
+pub mod Looks
+pub mod Importers
 pub mod Names
 pub mod Imports
 pub mod Graph
@@ -11,5 +14,5 @@ pub mod Known
 pub mod Reached
 pub mod HandedDown
 pub mod Heads
-pub use Rattle.doc_headers.specs as doc_headers_below
-pub use Rattle.doc_headers.specs.outer_tokens_below as outer_tokens_below
+pub mod Needs
+pub use Rattle.outer_syntax.specs as outer_syntax_below

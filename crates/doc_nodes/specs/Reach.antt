@@ -1,6 +1,6 @@
 -- Marks of what is reached.
 use Rattle.std.specs.Prelude.{◌≡◌, ℕ, ◌<◌, Bool, List, length, Option}
-use Rattle.import_rounds.specs.Looks.{marked}
+use Rattle.doc_nodes.specs.Looks.{marked}
 use Rattle.doc_nodes.specs.Imports.{NodeList}
 use Rattle.doc_nodes.specs.Wanted.{is_aimed}
 

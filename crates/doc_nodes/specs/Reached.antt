@@ -1,6 +1,6 @@
 -- Which nodes are wanted as a whole for the sake of others (this project's own).
 use Rattle.std.specs.Prelude.{◌≡◌, ℕ, true}
-use Rattle.import_rounds.specs.Looks.{aims_at}
+use Rattle.doc_nodes.specs.Looks.{aims_at}
 use Rattle.doc_nodes.specs.Imports.{NodeList, aims, is_ordered}
 use Rattle.doc_nodes.specs.Wanted.{is_aimed, wants}
 

@@ -6,8 +6,8 @@ ghost use Rattle.doc_nodes.specs.Names.{in_order, equal};
 ghost use Rattle.doc_nodes.specs.Aliases.{is_target};
 ghost use Rattle.doc_nodes.specs.Lent.{lent};
 
-use doc_headers::outer_tokens_below::is_inner_command;
 use joined_results::both;
+use outer_syntax::is_inner_command;
 use sqlite_items::Items;
 use std::alloc::{AllocError, Global};
 use std::cmp::Ordering;

@@ -6,8 +6,8 @@ ghost use Rattle.doc_nodes.specs.Aliases.{no_aliases, left_out, extended_aliases
 
 use crate::alias::{Aliases, equal, is_target};
 use crate::word::Word;
-use doc_headers::KeywordPair;
 use joined_results::each_of_three;
+use outer_syntax::KeywordPair;
 use shared_map::SharedMap;
 use sqlite_items::Items;
 use std::alloc::{AllocError, Global};

@@ -1,14 +1,14 @@
 //! The imports of a version's nodes, by place.
 ghost use Rattle.std.specs.Prelude.{◌≡◌, ◌++◌, length, filter, not, map, IfOk, OnOk};
 ghost use Rattle.std.specs.List.{range_with_len};
-ghost use Rattle.import_rounds.specs.Looks.{AreMarks, marked, aims_at};
-ghost use Rattle.import_rounds.specs.Rounds.{in_rounds};
+ghost use Rattle.doc_nodes.specs.Looks.{AreMarks, marked, aims_at};
+ghost use Rattle.doc_nodes.specs.Rounds.{in_rounds};
 ghost use Rattle.doc_nodes.specs.Imports.{place_of, aims_of, aims};
 ghost use Rattle.doc_nodes.specs.Graphs.{IsGraphOf};
 
 use crate::called::Called;
 use crate::node::{Node, Nodes};
-use import_rounds::{in_rounds, marks_of};
+use crate::rounds::{in_rounds, marks_of};
 use joined_results::both;
 use sqlite_items::Items;
 use std::alloc::{AllocError, Global};

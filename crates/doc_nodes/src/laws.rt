@@ -3,7 +3,7 @@
 ghost use Rattle.std.specs.Prelude.{◌≡◌, ◌↔◌, ℕ, ◌<◌, true, false, List, ◌∷◌, ◌++◌, length, slice_get, Some, None};
 ghost use Rattle.std.specs.List.{list_all};
 ghost use Rattle.text_words.specs.Members.{has};
-ghost use Rattle.import_rounds.specs.Rounds.{is_known};
+ghost use Rattle.doc_nodes.specs.Rounds.{is_known};
 ghost use Rattle.doc_nodes.specs.declared.node.Node.{Node};
 ghost use Rattle.doc_nodes.specs.declared.node.Entry.{Entry};
 ghost use Rattle.doc_nodes.specs.Imports.{place_of, is_ordered, order, placed_node};

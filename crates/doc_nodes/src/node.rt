@@ -3,8 +3,8 @@ ghost use Rattle.std.specs.Prelude.{◌≡◌, IfOk};
 
 use crate::blob_name::BlobName;
 use crate::shared::Shared;
-use doc_headers::KeywordPair;
 use joined_results::both;
+use outer_syntax::KeywordPair;
 use shared_map::SharedMap;
 use sqlite_items::Items;
 use std::alloc::AllocError;

@@ -1,6 +1,6 @@
 //! How many of each node's commands are wanted.
 ghost use Rattle.std.specs.Prelude.{◌≡◌, ℕ, ◌<◌, ◌||◌, [], List, Option, length, IfOk};
-ghost use Rattle.import_rounds.specs.Looks.{marked};
+ghost use Rattle.doc_nodes.specs.Looks.{marked};
 ghost use Rattle.doc_nodes.specs.Graphs.{IsGraphOf};
 ghost use Rattle.doc_nodes.specs.Imports.{order};
 ghost use Rattle.doc_nodes.specs.Wanted.{is_at, is_aimed, wants, hands_on, reached, wanted_at, wanted_counts};

@@ -16,7 +16,7 @@ use Rattle.document_serve.specs.Going.{IsGoing}
 use Rattle.message_input.specs.declared.answering.Halt.{Halt}
 use Rattle.message_input.specs.declared.answering.Halt.TheVariants as halt
 use Rattle.document_serve.specs.Runs.{Fails, GoesOn, IsSame, WrittenSo}
-use Rattle.session_laws.proofs.KnownNamed.{AskedLaw}
+use Rattle.session_rules.proofs.KnownNamed.{AskedLaw}
 use Rattle.document_serve.proofs.Stepping.{IsAfter, going_same, same_in}
 use Rattle.document_serve.proofs.At.{IsAt}
 use Rattle.document_serve.proofs.Stops.{StopsAmong, fails_behind}

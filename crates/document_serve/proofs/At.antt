@@ -9,8 +9,8 @@ use Rattle.document_session.specs.Contents.{SessionState}
 use Rattle.reply_outbox.specs.Items.{entries}
 use Rattle.document_serve.specs.Served.{AllSent, IsWorkedOn, WritesOn, calls_in}
 use Rattle.document_serve.specs.Going.{IsAtRest, IsGoing, awaited_by}
-use Rattle.session_laws.proofs.KnownResting.{IsWorkOn, work_first}
-use Rattle.session_laws.proofs.KnownStays.{may_wait}
+use Rattle.session_rules.proofs.KnownResting.{IsWorkOn, work_first}
+use Rattle.session_rules.proofs.KnownStays.{may_wait}
 use Rattle.document_session.specs.declared.taking.Taken.TheVariants as taken
 
 -- the events of a session

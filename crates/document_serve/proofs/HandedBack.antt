@@ -8,7 +8,7 @@ use Rattle.reply_outbox.specs.Items.{is_lost}
 use Rattle.session_rules.specs.declared.entry.Entry.TheVariants as entry
 use Rattle.session_rules.specs.declared.service.Service.{Service}
 use Rattle.document_session.specs.keeping_rules_below.Legal.{AreLegal}
-use Rattle.session_laws.proofs.KnownResting.{fewer_left, finishes, made}
+use Rattle.session_rules.proofs.KnownResting.{fewer_left, finishes, made}
 use Rattle.document_session.specs.declared.taking.Taken.{Taken}
 use Rattle.document_session.specs.declared.taking.Taken.TheVariants as taken
 use Rattle.document_session.specs.Answers.{IsWaiting, TakenSo}

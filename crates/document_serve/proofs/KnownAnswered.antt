@@ -2,7 +2,7 @@
 use Rattle.std.proofs.Common.{◌≡◌, ℕ, List, [], ◌∷◌, Option, Result, OnOk, IfErr, subst}
 use Rattle.language.specs.Lang.{Lang}
 use Rattle.session_rules.specs.declared.service.Service.{Service}
-use Rattle.session_laws.proofs.KnownNamed.{AskedLaw}
+use Rattle.session_rules.proofs.KnownNamed.{AskedLaw}
 use Rattle.document_session.specs.keeping_rules_below.Legal.{AreLegal}
 use Rattle.document_session.specs.Answers.{IsAnswered}
 use Rattle.document_session.specs.Contents.{SessionState}

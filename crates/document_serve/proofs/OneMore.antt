@@ -19,8 +19,8 @@ use Rattle.document_session.specs.Contents.{SessionState}
 use Rattle.document_serve.specs.Served.{AllSent, IsLostLast, WritesFront, WritesOn, WritesSome, calls, calls_in, sent_in}
 use Rattle.document_serve.specs.Going.{IsGoing, awaited_by}
 use Rattle.document_serve.specs.Runs.{Fails, IsSame}
-use Rattle.session_laws.proofs.KnownNamed.{AskedLaw}
-use Rattle.session_laws.proofs.KnownResting.{work_next}
+use Rattle.session_rules.proofs.KnownNamed.{AskedLaw}
+use Rattle.session_rules.proofs.KnownResting.{work_next}
 use Rattle.document_serve.specs.Laws.{WorkLaws}
 use Rattle.document_serve.proofs.Waiting.{was_first, worked_calls, worked_going, worked_sent}
 use Rattle.document_serve.proofs.Stepping.{going_same, same_in}

@@ -21,7 +21,7 @@ use Rattle.document_session.specs.Contents.{SessionState}
 use Rattle.document_serve.specs.Served.{AllSent, calls_in, sent_in}
 use Rattle.document_serve.specs.Going.{IsBegunFor, IsTaken, awaited_by}
 use Rattle.document_serve.specs.Runs.{RunsShort}
-use Rattle.session_laws.proofs.KnownNamed.{AskedLaw, due_named}
+use Rattle.session_rules.proofs.KnownNamed.{AskedLaw, due_named}
 use Rattle.document_serve.proofs.KnownSent.{sent_made}
 use Rattle.document_serve.specs.Laws.{WorkLaws}
 use Rattle.document_serve.proofs.Waiting.{waiting_alone}

@@ -29,8 +29,8 @@ use Rattle.document_serve.specs.Listening.{replies_sent}
 use Rattle.document_serve.specs.Served.{IsWorkedOn, calls, calls_in, sent_in}
 use Rattle.document_serve.specs.Going.{IsGoing}
 use Rattle.document_serve.specs.Runs.{IsSame}
-use Rattle.session_laws.proofs.KnownNamed.{AskedLaw, claims_asked, finishes_asked}
-use Rattle.session_laws.proofs.KnownHolding.{message_goes}
+use Rattle.session_rules.proofs.KnownNamed.{AskedLaw, claims_asked, finishes_asked}
+use Rattle.session_rules.proofs.KnownHolding.{message_goes}
 use Rattle.document_serve.proofs.KnownSent.{replies_made, sent_made}
 use Rattle.document_serve.proofs.Worked.{legal_made}
 

@@ -22,11 +22,11 @@ use Rattle.document_serve.specs.Laws.{WorkLaws}
 use Rattle.document_serve.specs.Listening.{replies_sent}
 use Rattle.document_serve.specs.Served.{calls_in, sent_in}
 use Rattle.document_serve.specs.Going.{IsGoing, awaited_by}
-use Rattle.session_laws.proofs.KnownNamed.{AskedLaw}
-use Rattle.session_laws.proofs.KnownHolding.{reader_idle}
+use Rattle.session_rules.proofs.KnownNamed.{AskedLaw}
+use Rattle.session_rules.proofs.KnownHolding.{reader_idle}
 use Rattle.document_serve.proofs.KnownSent.{replies_made, sent_made}
-use Rattle.session_laws.proofs.KnownStays.{awaited_stays}
-use Rattle.session_laws.proofs.KnownWaited.{awaits, some_ready}
+use Rattle.session_rules.proofs.KnownStays.{awaited_stays}
+use Rattle.session_rules.proofs.KnownWaited.{awaits, some_ready}
 use Rattle.document_serve.proofs.Worked.{MayWork, legal_made}
 
 module _ {S : Type 0} (l : Lang S) (laws : WorkLaws l) (law : AskedLaw) (s : SessionState) (message : List (List ℕ)) where

@@ -4,7 +4,7 @@ use Rattle.std.proofs.Common.{inl, inr}
 use Rattle.language.specs.Lang.{Lang}
 use Rattle.session_rules.specs.declared.service.Service.{Service}
 use Rattle.session_rules.specs.Heard.{Heard, Message, Claimed, Finished, Dropped, Ended}
-use Rattle.session_laws.proofs.KnownStays.{may_wait}
+use Rattle.session_rules.proofs.KnownStays.{may_wait}
 use Rattle.document_serve.specs.Going.{IsBegunFor, IsLeftFor, IsWorkedFor, awaited_by}
 
 module _ {S : Type 0} (l : Lang S) (service : Service) where

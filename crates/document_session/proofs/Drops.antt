@@ -11,7 +11,7 @@ use Rattle.prover_core.specs.declared.finishing.GiveUp.TheVariants as giving
 use Rattle.prover_core.specs.Answers.{GivenUpSo as CoreGivenUpSo}
 use Rattle.reply_outbox.specs.declared.item.Item.TheVariants.{Made}
 use Rattle.reply_outbox.specs.Waiting.{Log}
-use Rattle.reply_writing.specs.declared.told.Told.TheVariants as tells
+use Rattle.reply_messages.specs.declared.told.Told.TheVariants as tells
 use Rattle.session_rules.specs.declared.entry.Entry.{Entry}
 use Rattle.session_rules.specs.declared.entry.Entry.TheVariants as entry
 use Rattle.session_rules.specs.declared.service.Service.{Service}

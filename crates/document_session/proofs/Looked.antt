@@ -17,11 +17,11 @@ use Rattle.message_values.specs.declared.refusal.Refusal.TheVariants.{UnknownVer
 use Rattle.message_values.specs.Asked.{or_refused}
 use Rattle.buffer_rules.specs.Trying.{◌>>=◌}
 use Rattle.buffer_rules.specs.Texts.{edit_all}
-use Rattle.sheet_edits.specs.declared.fault.PrepareError.{PrepareError}
-use Rattle.sheet_edits.specs.declared.fault.PrepareError.TheVariants.{Refused, NoMemory}
-use Rattle.sheet_edits.specs.Telling.{TellsError}
+use Rattle.editor_buffer.specs.declared.fault.PrepareError.{PrepareError}
+use Rattle.editor_buffer.specs.declared.fault.PrepareError.TheVariants.{Refused, NoMemory}
+use Rattle.editor_buffer.specs.Telling.{TellsError}
 use Rattle.core_rules.specs.Updates.{node_in}
-use Rattle.reply_writing.specs.declared.told.Told.{Told}
+use Rattle.reply_messages.specs.declared.told.Told.{Told}
 use Rattle.session_rules.specs.declared.service.Service.{Service}
 use Rattle.session_rules.specs.Session.{Session, document}
 use Rattle.session_rules.specs.Accepting.{taken}

@@ -13,8 +13,8 @@ use Rattle.message_values.specs.Asked.{asked}
 use Rattle.buffer_rules.specs.Updates.{Asked}
 use Rattle.buffer_rules.specs.Preparing.{Buffer, prepared}
 use Rattle.buffer_laws.specs.Fitting.{Agrees}
-use Rattle.reply_writing.specs.declared.told.NodeRows.{NodeRows}
-use Rattle.reply_writing.specs.declared.told.Told.TheVariants as tells
+use Rattle.reply_messages.specs.declared.told.NodeRows.{NodeRows}
+use Rattle.reply_messages.specs.declared.told.Told.TheVariants as tells
 use Rattle.core_rules.specs.declared.event.Event.{Event}
 use Rattle.core_rules.specs.declared.event.Event.TheVariants as event
 use Rattle.core_rules.specs.Doc.{Doc, assignment_of}
@@ -22,8 +22,8 @@ use Rattle.core_rules.specs.Standing.{has_ended}
 use Rattle.core_rules.specs.Updates.{FitsUpdate}
 use Rattle.exec_assign.specs.Untouched.{AreChanged}
 use Rattle.update_plans.specs.Alive.{HaveCommands}
-use Rattle.editor_buffer.specs.document_edits_below.NameSets.{NameSet}
-use Rattle.editor_buffer.specs.document_edits_below.NameSets.{AreChanged as AreOthers}
+use Rattle.editor_buffer.specs.NameSets.{NameSet}
+use Rattle.editor_buffer.specs.NameSets.{AreChanged as AreOthers}
 use Rattle.buffer_rules.specs.Nodes.{AreKept}
 use Rattle.editor_buffer.specs.Preparation.{Preparation}
 use Rattle.prover_core.specs.Plans.{PlanState, IsPlanOf}

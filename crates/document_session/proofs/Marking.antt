@@ -4,7 +4,7 @@ use Rattle.text_edits.specs.declared.edit.Edit.{Edit}
 use Rattle.doc_nodes.specs.Imports.{place_of}
 use Rattle.core_tables.specs.Live.{version_of}
 use Rattle.exec_rules.specs.declared.version.Version.{Version}
-use Rattle.exec_lists.specs.declared.results.NodeResults.{NodeResults}
+use Rattle.core_jobs.specs.declared.results.NodeResults.{NodeResults}
 use Rattle.language.specs.Lang.{Lang}
 use Rattle.buffer_rules.specs.Texts.{edit_all}
 use Rattle.core_rules.specs.declared.event.Event.{Event}

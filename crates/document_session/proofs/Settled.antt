@@ -20,7 +20,7 @@ use Rattle.core_rules.specs.Standing.{is_finished}
 use Rattle.core_rules.specs.Stuck.{is_stuck, is_over, is_settled, stuck_in}
 use Rattle.core_rules.proofs.KnownParts.{part_is}
 use Rattle.prover_core.specs.Settling.{IsLeft}
-use Rattle.reply_writing.specs.declared.told.Told.TheVariants as tells
+use Rattle.reply_messages.specs.declared.told.Told.TheVariants as tells
 use Rattle.session_rules.specs.declared.service.Service.{Service}
 use Rattle.session_rules.specs.Services.{is_held_by_script}
 use Rattle.session_rules.specs.Session.{Session, document}

@@ -21,7 +21,7 @@ use Rattle.prover_core.specs.Answers.{FinishedSo as CoreFinishedSo}
 use Rattle.prover_core.specs.Claims.{IsClaimed as CoreIsClaimed}
 use Rattle.reply_outbox.specs.declared.item.Item.TheVariants.{Made}
 use Rattle.reply_outbox.specs.Waiting.{Log}
-use Rattle.reply_writing.specs.declared.told.Told.TheVariants as tells
+use Rattle.reply_messages.specs.declared.told.Told.TheVariants as tells
 use Rattle.session_rules.specs.declared.entry.Entry.{Entry}
 use Rattle.session_rules.specs.declared.entry.Entry.TheVariants as entry
 use Rattle.session_rules.specs.declared.service.Service.{Service}

@@ -6,7 +6,7 @@ use Rattle.message_values.specs.declared.editor_message.EditorMessage.TheVariant
 use Rattle.message_values.specs.declared.refusal.Refusal.{Refusal}
 use Rattle.buffer_rules.specs.Updates.{Asked}
 use Rattle.buffer_rules.specs.Preparing.{prepared}
-use Rattle.editor_buffer.specs.document_edits_below.NameSets.{AreChanged}
+use Rattle.editor_buffer.specs.NameSets.{AreChanged}
 use Rattle.buffer_rules.specs.Nodes.{AreKept}
 use Rattle.editor_buffer.specs.Preparation.{Preparation}
 use Rattle.session_rules.specs.Session.{Session, document}

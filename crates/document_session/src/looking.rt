@@ -3,9 +3,9 @@ ghost use Rattle.std.specs.Prelude.{◌≡◌, ◌∷◌, false, map, IfOk, OnOk
 ghost use Rattle.core_rules.specs.Standing.{has_ended};
 ghost use Rattle.message_values.specs.Asked.{asked};
 ghost use Rattle.message_values.specs.declared.editor_message.EditorMessage.TheVariants as asks;
-ghost use Rattle.reply_writing.specs.Forms.{IsRising};
-ghost use Rattle.reply_writing.specs.declared.told.Told.TheVariants as tells;
-ghost use Rattle.exec_lists.specs.Parts.{told_part};
+ghost use Rattle.reply_messages.specs.Forms.{IsRising};
+ghost use Rattle.reply_messages.specs.declared.told.Told.TheVariants as tells;
+ghost use Rattle.core_jobs.specs.Parts.{told_part};
 ghost use Rattle.reply_outbox.specs.declared.item.Item.TheVariants.{Made};
 ghost use Rattle.session_rules.specs.declared.entry.Entry.TheVariants as entry;
 ghost use Rattle.session_rules.specs.Services.{mode_of, is_held_by_script};
@@ -22,7 +22,8 @@ use crate::answering::make_room;
 use crate::session::Session;
 use crate::taking::Taken;
 use byte_message::Message;
-use exec_lists::NodeResults;
+use core_jobs::NodeResults;
+use editor_buffer::PrepareError;
 use keeping_rules::session_replies_below::{
     edited_text, markup, settled, settled_law, snapshot_law,
 };
@@ -33,7 +34,6 @@ use pide_base::{NodeName, VersionId};
 use prover_core::Settled;
 use reply_outbox::Past;
 use session_rules::{Entry, Service};
-use sheet_edits::PrepareError;
 use std::alloc::{AllocError, Global};
 use text_edits::Edit;
 

@@ -6,8 +6,8 @@ ghost use Rattle.session_rules.specs.Session.{document};
 ghost use Rattle.keeping_rules.specs.Items.{session_in};
 
 use crate::session::Session;
+use core_jobs::NodeResults;
 use core_tables::Live;
-use exec_lists::NodeResults;
 use exec_rules::Version;
 use language::Language;
 use pide_base::{NodeName, Part, VersionId};

@@ -2,7 +2,7 @@
 ghost use Rattle.std.specs.Prelude.{◌≡◌, ◌+◌, ◌^◌, ◌<◌, ◌≤◌, ℕ, false, IfOk, OnOk, OnErr, Ok};
 ghost use Rattle.std.specs.HashMap.{spare};
 ghost use Rattle.prover_core.specs.Looked.{looked};
-ghost use Rattle.reply_writing.specs.declared.told.Told.TheVariants as tells;
+ghost use Rattle.reply_messages.specs.declared.told.Told.TheVariants as tells;
 ghost use Rattle.keeping_rules.specs.session_replies_below.Spelling.{reply_spelling};
 ghost use Rattle.core_rules.specs.Standing.{has_ended};
 ghost use Rattle.message_values.specs.Asked.{asked};

@@ -8,7 +8,7 @@ ghost use Rattle.core_rules.specs.Standing.{has_ended};
 ghost use Rattle.core_rules.specs.Doc.{doc, assignment_of};
 ghost use Rattle.core_rules.specs.Updates.{FitsUpdate};
 ghost use Rattle.prover_core.specs.Plans.{IsPlanOf, HasRoom};
-ghost use Rattle.reply_writing.specs.declared.told.Told.TheVariants as tells;
+ghost use Rattle.reply_messages.specs.declared.told.Told.TheVariants as tells;
 ghost use Rattle.keeping_rules.specs.session_replies_below.Spelling.{reply_spelling};
 ghost use Rattle.keeping_rules.specs.session_replies_below.Assigned.{nodes_told};
 ghost use Rattle.message_values.specs.Asked.{asked};
@@ -24,7 +24,7 @@ use crate::session::Session;
 use crate::taking::Taken;
 use buffer_laws::fits_law;
 use byte_message::Message;
-use editor_buffer::Prepared;
+use editor_buffer::{PrepareError, Prepared};
 use exec_assign::AssignFault;
 use keeping_rules::session_replies_below::assign;
 use keeping_rules::{history_law, update_law};
@@ -34,7 +34,6 @@ use pide_base::VersionId;
 use prover_core::{Core, Plan};
 use reply_outbox::{Outbox, Past};
 use session_rules::{Entry, Service};
-use sheet_edits::PrepareError;
 use std::alloc::{AllocError, Global};
 
 impl<L: Language, P: Past<Service, Entry> + Drop> Session<L, P> {

@@ -6,7 +6,7 @@ use Rattle.doc_nodes.specs.Imports.{NodeList, place_of}
 use Rattle.doc_nodes.specs.Aliases.{aliases_at}
 use Rattle.doc_nodes.specs.Heads.{head, heads}
 use Rattle.doc_nodes.proofs.KnownHeads.{aliases_head, place_head}
-use Rattle.document_edits.specs.Standing.{bare_all, aliases_named}
+use Rattle.editor_buffer.specs.Standing.{bare_all, aliases_named}
 
 heads_bare : (nodes : NodeList) → heads (bare_all nodes) ≡ heads nodes
 heads_bare [] = refl

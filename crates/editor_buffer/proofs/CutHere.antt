@@ -7,14 +7,14 @@ use Rattle.doc_nodes.specs.Imports.{NodeList, place_of}
 use Rattle.doc_nodes.specs.Aliases.{aliases_at}
 use Rattle.buffer_rules.specs.Sheets.{SheetList}
 use Rattle.buffer_rules.specs.Nodes.{Numbered, uncut_all}
-use Rattle.sheet_edits.specs.OpenSheet.{OpenSheet}
-use Rattle.sheet_edits.specs.declared.fault.PrepareError.{PrepareError}
-use Rattle.sheet_edits.specs.declared.fault.PrepareError.TheVariants.{Refused, NoMemory}
+use Rattle.editor_buffer.specs.OpenSheet.{OpenSheet}
+use Rattle.editor_buffer.specs.declared.fault.PrepareError.{PrepareError}
+use Rattle.editor_buffer.specs.declared.fault.PrepareError.TheVariants.{Refused, NoMemory}
 use Rattle.shared_map.specs.Pairs.{IsSorted}
 use Rattle.std.specs.Option.{option_map}
 use Rattle.doc_nodes.specs.Names.{in_order}
-use Rattle.document_edits.specs.Standing.{Drafted, Stands, sheets_of, aliases_named}
-use Rattle.document_edits.proofs.PairLists.{AllZip-length}
+use Rattle.editor_buffer.specs.Standing.{Drafted, Stands, sheets_of, aliases_named}
+use Rattle.editor_buffer.proofs.PairLists.{AllZip-length}
 use Rattle.editor_buffer.proofs.Places.{place_at}
 use Rattle.editor_buffer.specs.Cutting.{GivesRemade, PassesLast, whole, IsCutUpTo}
 use Rattle.editor_buffer.specs.declared.cutting.Cutting.{Cutting}

@@ -9,13 +9,13 @@ use Rattle.pide_base.specs.declared.range.Range.{Range}
 use Rattle.doc_nodes.specs.Names.{equal}
 use Rattle.doc_nodes.specs.declared.node.Entry.{Entry}
 use Rattle.doc_nodes.specs.declared.node.Node.{Node}
-use Rattle.doc_blobs.specs.Needs.{AliasList}
+use Rattle.doc_nodes.specs.Needs.{AliasList}
 use Rattle.buffer_rules.specs.declared.sheet.Sheet.{Sheet}
 use Rattle.buffer_rules.specs.Cuts.{source, commands_of}
 use Rattle.buffer_rules.specs.Numbers.{Command, Kept, equal_front, equal_back, kept_runs, with_kept, ids_of, new_count}
 use Rattle.buffer_rules.specs.Nodes.{entry, ranges_in, sources, cut}
-use Rattle.node_commands.specs.Commands.{AsksFor, AskUnder}
-use Rattle.document_edits.specs.Standing.{numbered, IsCutFrom}
+use Rattle.editor_buffer.specs.Commands.{AsksFor, AskUnder}
+use Rattle.editor_buffer.specs.Standing.{numbered, IsCutFrom}
 
 equal_self : (xs : List ℕ) → equal xs xs ≡ true
 equal_self xs = grind (arith, bytes_eq-Decides xs xs, is_eq-slice_cmp xs xs)

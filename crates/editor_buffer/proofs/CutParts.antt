@@ -8,17 +8,17 @@ use Rattle.pide_base.specs.declared.range.Range.{Range}
 use Rattle.doc_nodes.specs.declared.node.Entry.{Entry}
 use Rattle.doc_nodes.specs.declared.node.Node.{Node}
 use Rattle.doc_nodes.specs.Imports.{NodeList}
-use Rattle.doc_blobs.specs.Needs.{AliasList}
+use Rattle.doc_nodes.specs.Needs.{AliasList}
 use Rattle.buffer_rules.specs.declared.sheet.Sheet.{Sheet}
 use Rattle.buffer_rules.specs.Cuts.{source, commands_of}
 use Rattle.buffer_rules.specs.Numbers.{Command, Kept, kept_runs, ids_of, new_count}
 use Rattle.buffer_rules.specs.Nodes.{uncut, entry, ranges_in, sources, cut, before_in}
-use Rattle.node_commands.specs.Commands.{sources_in, commands_in}
-use Rattle.node_commands.proofs.KnownCommands.{seconds}
-use Rattle.sheet_edits.specs.OpenSheet.{OpenSheet}
-use Rattle.sheet_edits.specs.declared.fault.PrepareError.{PrepareError}
-use Rattle.sheet_edits.specs.declared.fault.PrepareError.TheVariants.{Refused, NoMemory}
-use Rattle.document_edits.specs.Standing.{bare, IsCutFrom, DraftedUnder}
+use Rattle.editor_buffer.specs.Commands.{sources_in, commands_in}
+use Rattle.editor_buffer.proofs.KnownCommands.{seconds}
+use Rattle.editor_buffer.specs.OpenSheet.{OpenSheet}
+use Rattle.editor_buffer.specs.declared.fault.PrepareError.{PrepareError}
+use Rattle.editor_buffer.specs.declared.fault.PrepareError.TheVariants.{Refused, NoMemory}
+use Rattle.editor_buffer.specs.Standing.{bare, IsCutFrom, DraftedUnder}
 use Rattle.editor_buffer.specs.CutNodes.{next_after, GivesCut}
 use Rattle.editor_buffer.specs.Cutting.{IsCutTo, GivesRemade}
 use Rattle.editor_buffer.specs.declared.cut.CutNode.{CutNode}

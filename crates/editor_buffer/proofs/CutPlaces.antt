@@ -12,13 +12,13 @@ use Rattle.doc_nodes.specs.Imports.{NodeList}
 use Rattle.doc_nodes.specs.Aliases.{aliases_at}
 use Rattle.buffer_rules.specs.Sheets.{SheetList}
 use Rattle.buffer_rules.specs.Nodes.{AreKept, Numbered, uncut_all, nodes_from}
-use Rattle.sheet_edits.specs.OpenSheet.{OpenSheet}
-use Rattle.document_edits.specs.Standing.{OpenList, sheets_of, bare_all, Stands, AreInForce, Drafted, aliases_named}
+use Rattle.editor_buffer.specs.OpenSheet.{OpenSheet}
+use Rattle.editor_buffer.specs.Standing.{OpenList, sheets_of, bare_all, Stands, AreInForce, Drafted, aliases_named}
 use Rattle.editor_buffer.proofs.Places.{each_along}
 use Rattle.doc_nodes.specs.Heads.{heads}
 use Rattle.editor_buffer.proofs.BareNodes.{same_named, heads_along}
 use Rattle.editor_buffer.proofs.FirstDraft.{bare_standing}
-use Rattle.document_edits.proofs.PairLists.{AllZip-length, put_at}
+use Rattle.editor_buffer.proofs.PairLists.{AllZip-length, put_at}
 use Rattle.editor_buffer.specs.Cutting.{IsCutTo, IsPut, IsCutUpTo, IsCutWhole}
 use Rattle.editor_buffer.specs.declared.cutting.Cutting.{Cutting}
 use Rattle.editor_buffer.specs.declared.cutting.Remade.{Remade}

@@ -6,7 +6,7 @@ use Rattle.pide_base.specs.Ids.{id_end}
 use Rattle.doc_nodes.specs.Names.{in_order}
 use Rattle.doc_nodes.specs.Imports.{NodeList}
 use Rattle.buffer_rules.specs.Nodes.{Numbered, uncut_all, nodes_from}
-use Rattle.document_edits.specs.Standing.{OpenList, sheets_of, Drafted}
+use Rattle.editor_buffer.specs.Standing.{OpenList, sheets_of, Drafted}
 use Rattle.editor_buffer.specs.Cutting.{whole, IsCutUpTo}
 use Rattle.editor_buffer.specs.declared.cutting.Cutting.{Cutting}
 

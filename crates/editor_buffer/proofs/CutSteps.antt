@@ -10,14 +10,14 @@ use Rattle.doc_nodes.specs.declared.node.Node.{Node}
 use Rattle.doc_nodes.specs.Names.{in_order}
 use Rattle.doc_nodes.specs.Imports.{NodeList, place_of}
 use Rattle.doc_nodes.specs.Aliases.{aliases_at}
-use Rattle.doc_blobs.specs.Needs.{AliasList}
+use Rattle.doc_nodes.specs.Needs.{AliasList}
 use Rattle.buffer_rules.specs.declared.sheet.Sheet.{Sheet}
 use Rattle.buffer_rules.specs.Sheets.{SheetList}
 use Rattle.buffer_rules.specs.Numbers.{new_count}
 use Rattle.buffer_rules.specs.Nodes.{AreKept, Numbered, sources, cut, before_in, uncut_all, nodes_from}
-use Rattle.sheet_edits.specs.OpenSheet.{OpenSheet}
-use Rattle.document_edits.specs.Standing.{OpenList, sheets_of, Stands, Drafted, aliases_named}
-use Rattle.document_edits.proofs.PairLists.{AllZip-append, AllZip-length}
+use Rattle.editor_buffer.specs.OpenSheet.{OpenSheet}
+use Rattle.editor_buffer.specs.Standing.{OpenList, sheets_of, Stands, Drafted, aliases_named}
+use Rattle.editor_buffer.proofs.PairLists.{AllZip-append, AllZip-length}
 use Rattle.editor_buffer.specs.CutNodes.{next_after}
 use Rattle.editor_buffer.specs.Cutting.{IsCutTo, whole, IsCutUpTo}
 use Rattle.editor_buffer.specs.declared.cutting.Cutting.{Cutting}

@@ -7,11 +7,11 @@ use Rattle.shared_map.specs.Pairs.{IsSorted, found}
 use Rattle.doc_nodes.specs.declared.node.Node.{Node}
 use Rattle.doc_nodes.specs.Names.{in_order}
 use Rattle.doc_nodes.specs.Imports.{NodeList}
-use Rattle.doc_blobs.specs.Needs.{AliasList}
+use Rattle.doc_nodes.specs.Needs.{AliasList}
 use Rattle.buffer_rules.specs.declared.sheet.Sheet.{Sheet}
 use Rattle.buffer_rules.specs.Nodes.{uncut, uncut_all}
-use Rattle.document_edits.specs.Standing.{OpenList, sheets_of, bare, bare_all, StandsUnder, Stands, DraftedUnder, Drafted, AreInForce, aliases_named}
-use Rattle.document_edits.proofs.PairLists.{found_at}
+use Rattle.editor_buffer.specs.Standing.{OpenList, sheets_of, bare, bare_all, StandsUnder, Stands, DraftedUnder, Drafted, AreInForce, aliases_named}
+use Rattle.editor_buffer.proofs.PairLists.{found_at}
 
 under : (all : NodeList) (u : Option AliasList) (name : List ℕ) (sheet : Sheet) (node : Node) → StandsUnder u sheet node → found in_order name all ≡ Some node → u ≡ aliases_named all name
     → DraftedUnder all u name sheet node

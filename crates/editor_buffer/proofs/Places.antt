@@ -13,8 +13,8 @@ use Rattle.doc_nodes.specs.Names.{in_order, equal}
 use Rattle.doc_nodes.specs.Imports.{place_of}
 use Rattle.buffer_rules.specs.declared.sheet.Sheet.{Sheet}
 use Rattle.buffer_rules.specs.Nodes.{uncut, uncut_all}
-use Rattle.sheet_edits.specs.OpenSheet.{OpenSheet}
-use Rattle.document_edits.specs.Standing.{OpenList, sheets_of}
+use Rattle.editor_buffer.specs.OpenSheet.{OpenSheet}
+use Rattle.editor_buffer.specs.Standing.{OpenList, sheets_of}
 
 module _ {X : Type 0} (P : X → Type 0) where
   pub each_append : (xs ys : List X) → Each P xs → Each P ys → Each P (xs ++ ys)

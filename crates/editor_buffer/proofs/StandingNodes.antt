@@ -8,10 +8,10 @@ use Rattle.shared_map.specs.Pairs.{has_key, found}
 use Rattle.doc_nodes.specs.declared.node.Node.{Node}
 use Rattle.doc_nodes.specs.Names.{in_order}
 use Rattle.doc_nodes.specs.Imports.{NodeList}
-use Rattle.doc_blobs.specs.Needs.{AliasList}
-use Rattle.node_commands.specs.Commands.{AskUnder}
-use Rattle.sheet_edits.specs.OpenSheet.{OpenSheet}
-use Rattle.document_edits.specs.Standing.{OpenList, StandsUnder, Stands}
+use Rattle.doc_nodes.specs.Needs.{AliasList}
+use Rattle.editor_buffer.specs.Commands.{AskUnder}
+use Rattle.editor_buffer.specs.OpenSheet.{OpenSheet}
+use Rattle.editor_buffer.specs.Standing.{OpenList, StandsUnder, Stands}
 use Rattle.editor_buffer.proofs.CutLemmas.{asked_cut}
 
 -- what stands under a name stands to what the editor has of it

@@ -2,12 +2,12 @@
 use Rattle.std.specs.Prelude.{◌≡◌, ℕ, ◌+◌, ◌<◌, ◌≤◌, List, Result, Ok, Err}
 use Rattle.pide_base.specs.Ids.{id_end}
 use Rattle.message_values.specs.declared.refusal.Refusal.TheVariants.{Limit}
-use Rattle.doc_blobs.specs.Needs.{AliasList}
+use Rattle.doc_nodes.specs.Needs.{AliasList}
 use Rattle.buffer_rules.specs.declared.sheet.Sheet.{Sheet}
 use Rattle.buffer_rules.specs.Numbers.{Command, new_count}
 use Rattle.buffer_rules.specs.Nodes.{sources, cut}
-use Rattle.sheet_edits.specs.declared.fault.PrepareError.{PrepareError}
-use Rattle.sheet_edits.specs.declared.fault.PrepareError.TheVariants.{Refused, NoMemory}
+use Rattle.editor_buffer.specs.declared.fault.PrepareError.{PrepareError}
+use Rattle.editor_buffer.specs.declared.fault.PrepareError.TheVariants.{Refused, NoMemory}
 use Rattle.editor_buffer.specs.declared.cut.CutNode.{CutNode}
 
 -- the next id after a sheet is cut

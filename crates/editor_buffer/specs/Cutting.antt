@@ -8,13 +8,13 @@ use Rattle.message_values.specs.declared.refusal.Refusal.TheVariants.{Limit}
 use Rattle.doc_nodes.specs.declared.node.Node.{Node}
 use Rattle.doc_nodes.specs.Names.{in_order}
 use Rattle.doc_nodes.specs.Imports.{NodeList}
-use Rattle.doc_blobs.specs.Needs.{AliasList}
+use Rattle.doc_nodes.specs.Needs.{AliasList}
 use Rattle.buffer_rules.specs.Sheets.{SheetList}
 use Rattle.buffer_rules.specs.Nodes.{AreKept, Numbered, cut, before_in, uncut_all, nodes_from, nodes_after}
-use Rattle.sheet_edits.specs.OpenSheet.{OpenSheet}
-use Rattle.sheet_edits.specs.declared.fault.PrepareError.{PrepareError}
-use Rattle.sheet_edits.specs.declared.fault.PrepareError.TheVariants.{Refused, NoMemory}
-use Rattle.document_edits.specs.Standing.{OpenList, sheets_of, IsCutFrom, Stands, AreInForce, Drafted}
+use Rattle.editor_buffer.specs.OpenSheet.{OpenSheet}
+use Rattle.editor_buffer.specs.declared.fault.PrepareError.{PrepareError}
+use Rattle.editor_buffer.specs.declared.fault.PrepareError.TheVariants.{Refused, NoMemory}
+use Rattle.editor_buffer.specs.Standing.{OpenList, sheets_of, IsCutFrom, Stands, AreInForce, Drafted}
 use Rattle.editor_buffer.specs.CutNodes.{next_after}
 use Rattle.editor_buffer.specs.declared.cutting.Remade.{Remade}
 use Rattle.editor_buffer.specs.declared.cutting.Cutting.{Cutting}

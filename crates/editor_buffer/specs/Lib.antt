@@ -1,4 +1,13 @@
+pub mod Standing
+pub mod Heads
+pub mod NameSets
+pub mod BlobSteps
+pub mod Telling
+pub mod OpenSheet
+pub mod Within
+pub mod Held
+pub mod Commands
+pub mod Spread
 pub mod CutNodes
 pub mod Cutting
 pub mod Preparation
-pub use Rattle.document_edits.specs as document_edits_below

@@ -5,8 +5,8 @@ use Rattle.pide_base.specs.Ids.{id_end}
 use Rattle.doc_nodes.specs.Imports.{NodeList}
 use Rattle.buffer_rules.specs.Updates.{BlobList}
 use Rattle.buffer_rules.specs.Preparing.{Buffer}
-use Rattle.document_edits.specs.Standing.{OpenList, sheets_of, Stands, AreInForce}
-use Rattle.document_edits.specs.NameSets.{NameSet}
+use Rattle.editor_buffer.specs.Standing.{OpenList, sheets_of, Stands, AreInForce}
+use Rattle.editor_buffer.specs.NameSets.{NameSet}
 
 -- the buffer of these open nodes, blobs and nodes, and of the next id
 abbrev pub buffer_of : OpenList → BlobList → NodeList → ℕ → Buffer

@@ -2,10 +2,10 @@
 ghost use Rattle.std.specs.Prelude.{◌≡◌, Some, slice_get};
 ghost use Rattle.std.specs.Option.{option_copied, option_and_then};
 ghost use Rattle.std.specs.Bool.{OnTrue};
-ghost use Rattle.doc_blobs.specs.Needs.{AliasList};
+ghost use Rattle.doc_nodes.specs.Needs.{AliasList};
 
+use crate::open_node::OpenNode;
 use doc_nodes::Aliases;
-use sheet_edits::OpenNode;
 
 /// Whether both have the same alias at the place.
 fn same_at(aliases: &Aliases, others: &Aliases, place: usize) -> bool

@@ -3,18 +3,22 @@ ghost use Rattle.std.specs.Prelude.{◌≡◌, ◌+◌, ◌<◌, ◌≤◌, map,
 ghost use Rattle.pide_base.specs.Ids.{id_end};
 ghost use Rattle.command_spans.specs.CutTexts.{cut};
 ghost use Rattle.buffer_rules.specs.Nodes.{uncut};
-ghost use Rattle.node_commands.specs.Commands.{commands_in, AskUnder};
-ghost use Rattle.document_edits.specs.Standing.{bare};
+ghost use Rattle.editor_buffer.specs.Commands.{commands_in, AskUnder};
+ghost use Rattle.editor_buffer.specs.Standing.{bare};
 ghost use Rattle.editor_buffer.specs.CutNodes.{GivesCut};
 
+use crate::command_places::command_ranges;
+use crate::entries::entries_of;
+use crate::fault::PrepareError;
+use crate::old::OldCommands;
+use crate::runs::kept_runs;
+use crate::source::sources;
 use buffer_rules::Sheet;
 use command_spans::Spans;
 use doc_nodes::{Aliases, Entry, Node, Shared};
 use joined_results::both;
 use message_values::Refusal;
-use node_commands::{OldCommands, command_ranges, entries_of, kept_runs, sources};
 use pide_base::ID_END;
-use sheet_edits::PrepareError;
 use sqlite_items::Items;
 use std::alloc::{AllocError, Global};
 

@@ -2,28 +2,30 @@
 ghost use Rattle.std.specs.Prelude.{◌≡◌, ◌+◌, ◌≤◌, ◌<◌, ◌++◌, ◌∷◌, [], ℕ, List, length, slice_get, Some, IsTrue, IfOk, IfErr, true};
 ghost use Rattle.std.specs.List.{AllZip};
 ghost use Rattle.std.specs.Bool.{OnTrue};
-ghost use Rattle.doc_blobs.specs.Needs.{AliasList};
+ghost use Rattle.doc_nodes.specs.Needs.{AliasList};
 ghost use Rattle.pide_base.specs.Ids.{id_end};
 ghost use Rattle.command_spans.specs.CutTexts.{AreCutsOf};
 ghost use Rattle.doc_nodes.specs.declared.node.Node.{Node};
 ghost use Rattle.doc_nodes.specs.Aliases.{aliases_at};
 ghost use Rattle.buffer_rules.specs.Nodes.{before_in, uncut_all};
-ghost use Rattle.node_commands.specs.Commands.{commands_in, AskUnder};
-ghost use Rattle.sheet_edits.specs.OpenSheet.{OpenSheet};
-ghost use Rattle.document_edits.specs.Standing.{Stands, Drafted, DraftedUnder, sheets_of};
+ghost use Rattle.editor_buffer.specs.Commands.{commands_in, AskUnder};
+ghost use Rattle.editor_buffer.specs.OpenSheet.{OpenSheet};
+ghost use Rattle.editor_buffer.specs.Standing.{Stands, Drafted, DraftedUnder, sheets_of};
 ghost use Rattle.doc_nodes.specs.Heads.{heads};
 ghost use Rattle.editor_buffer.specs.Cutting.{GivesRemade, IsPut, IsCutUpTo, IsCutWhole, PassesLast, whole};
 
 use crate::aliases::{is_cut_under, stays};
 use crate::cut::cut;
+use crate::draft::{Draft, OpenNodes};
+use crate::fault::PrepareError;
+use crate::named::with_named;
+use crate::old::OldCommands;
+use crate::open_node::OpenNode;
 use buffer_rules::ids_law;
 use command_spans::Spans;
 use doc_nodes::{Aliases, ImportGraph, Node, NodeAliases, Nodes, Shared, aliases_of};
-use document_edits::{Draft, OpenNodes, with_named};
 use joined_results::each_of_three;
-use node_commands::OldCommands;
 use pide_base::NodeName;
-use sheet_edits::{OpenNode, PrepareError};
 use std::alloc::{AllocError, Global};
 
 /// What the buffer has before an update, lent.

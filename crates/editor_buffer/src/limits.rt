@@ -2,9 +2,10 @@
 ghost use Rattle.std.specs.Prelude.{◌≡◌};
 ghost use Rattle.std.specs.List.{list_any};
 ghost use Rattle.buffer_rules.specs.Preparing.{is_long, is_large};
-ghost use Rattle.document_edits.specs.Standing.{sheets_of};
+ghost use Rattle.editor_buffer.specs.Standing.{sheets_of};
 
-use document_edits::{Blobs, OpenNodes};
+use crate::blobs::Blobs;
+use crate::draft::OpenNodes;
 use pide_base::{are_too_many, is_too_long};
 
 /// Whether the text of some node is too long.

@@ -17,9 +17,9 @@ use Rattle.exec_rules.specs.Listed.{Told, executions, is_other, print_list, told
 use Rattle.exec_rules.proofs.KnownThere.{all_at}
 use Rattle.core_rules.specs.Assigned.{command_ids}
 use Rattle.buffer_laws.specs.Known.{AreBelow}
-use Rattle.reply_reading.specs.Fits.{FitsNode, FitsRow}
-use Rattle.reply_writing.specs.declared.told.CommandRow.{CommandRow}
-use Rattle.reply_writing.specs.declared.told.NodeRows.{NodeRows}
+use Rattle.reply_messages.specs.Fits.{FitsNode, FitsRow}
+use Rattle.reply_messages.specs.declared.told.CommandRow.{CommandRow}
+use Rattle.reply_messages.specs.declared.told.NodeRows.{NodeRows}
 use Rattle.session_rules.specs.Replies.{rows_told}
 use Rattle.editor_laws.proofs.CommandNumbers.{ArePositive}
 use Rattle.editor_laws.proofs.NamedSheets.{AllNamed}

@@ -21,7 +21,7 @@ use Rattle.core_rules.specs.Legal.{IsLegal}
 use Rattle.core_rules.specs.Numbered.{next_number, numbered}
 use Rattle.core_rules.specs.Updates.{FitsNode, FitsUpdate}
 use Rattle.core_rules.proofs.KnownNumbers.{length_grown, numbered_positive, numbered_within}
-use Rattle.report_laws.specs.Headed.{AreHeaded}
+use Rattle.editor_laws.specs.Headed.{AreHeaded}
 use Rattle.editor_laws.proofs.CommandNumbers.{ArePositive, nodes_positive, rising_begin}
 use Rattle.editor_laws.proofs.FineEvents.{IsFine}
 use Rattle.editor_laws.proofs.NamedSheets.{AllNamed}

@@ -9,7 +9,7 @@ use Rattle.buffer_rules.specs.Sheets.{SheetList}
 use Rattle.core_rules.specs.declared.event.Event.{Event}
 use Rattle.core_rules.specs.declared.event.Event.TheVariants as event
 use Rattle.session_rules.specs.Session.{Session}
-use Rattle.report_laws.specs.Headed.{AreHeaded}
+use Rattle.editor_laws.specs.Headed.{AreHeaded}
 use Rattle.editor_laws.proofs.NamedSheets.{AllNamed}
 
 -- an update has the id of a version, names of nodes, and headers of identifiers

@@ -28,12 +28,12 @@ use Rattle.session_rules.specs.Looking.{looked_at, settles}
 use Rattle.session_rules.specs.Updating.{removed_by, runs_out, with_buffer}
 use Rattle.session_rules.specs.Accepting.{accepted, taken}
 use Rattle.session_rules.specs.History.{session}
-use Rattle.session_laws.proofs.KnownHolding.{not_caught, passed, through}
+use Rattle.session_rules.proofs.KnownHolding.{not_caught, passed, through}
 use Rattle.editor_laws.proofs.FineEvents.{FineSession, IsFine, NodeLaws}
 use Rattle.editor_laws.proofs.NamedSheets.{AllNamed, document_named, keys_named, named_keys}
 use Rattle.editor_laws.proofs.Preparing.{prepares}
 use Rattle.editor_laws.proofs.ReadCalls.{IsSound}
-use Rattle.reply_reading.specs.Fits.{IsName}
+use Rattle.reply_messages.specs.Fits.{IsName}
 
 module _ (laws : NodeLaws) {S : Type 0} (l : Lang S) (service : Service) where
   module _ (s : Session) (fine : FineSession s) where

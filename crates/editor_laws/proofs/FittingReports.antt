@@ -14,7 +14,7 @@ use Rattle.symbol_markup.specs.Places.{symbol_place}
 use Rattle.symbol_markup.specs.Told.{at_symbols, is_filled}
 use Rattle.message_values.specs.declared.protocol.Protocol.{Protocol}
 use Rattle.message_values.specs.declared.protocol.Protocol.TheVariants.{Scalars, Symbols}
-use Rattle.reply_reading.specs.Fits.{FitsProperty, FitsReport, IsPlainText}
+use Rattle.reply_messages.specs.Fits.{FitsProperty, FitsReport, IsPlainText}
 use Rattle.session_rules.specs.Shown.{protocol_reports}
 use Rattle.editor_laws.proofs.EditSizes.{convert_most, sizes}
 

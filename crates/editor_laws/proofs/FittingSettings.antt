@@ -33,9 +33,9 @@ use Rattle.core_rules.specs.Settings.{Setting}
 use Rattle.core_rules.specs.Updates.{source_in}
 use Rattle.core_rules.proofs.KnownNamedRows.{found_row, row_place}
 use Rattle.core_rules.proofs.KnownPlaces.{place_found}
-use Rattle.reply_reading.specs.Fits.{FitsReport, IsWide}
-use Rattle.report_laws.specs.Headed.{AreHeaded}
-use Rattle.mirror_laws.proofs.KnownReported.{row_reports}
+use Rattle.reply_messages.specs.Fits.{FitsReport, IsWide}
+use Rattle.editor_laws.specs.Headed.{AreHeaded}
+use Rattle.editor_laws.proofs.KnownReported.{row_reports}
 use Rattle.editor_laws.proofs.FineDocs.{FineVersion}
 use Rattle.editor_laws.proofs.FittingReports.{AllFit, Fitting}
 use Rattle.editor_laws.proofs.ScratchSizes.{scratch_short, source_most}

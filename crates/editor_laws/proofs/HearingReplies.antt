@@ -4,10 +4,10 @@ use Rattle.std.specs.List.{AllByRecursion}
 use Rattle.text_words.proofs.KnownLists.{each-both}
 use Rattle.byte_message.specs.Limits.{most_chunks}
 use Rattle.language.specs.Lang.{Lang}
-use Rattle.reply_reading.specs.Replies.{IsReply}
-use Rattle.reply_writing.specs.declared.told.Told.{Told}
-use Rattle.reply_writing.specs.declared.told.Told.TheVariants as tells
-use Rattle.reply_writing.specs.Replies.{reply_chunks}
+use Rattle.reply_messages.specs.FoundReplies.{IsReply}
+use Rattle.reply_messages.specs.declared.told.Told.{Told}
+use Rattle.reply_messages.specs.declared.told.Told.TheVariants as tells
+use Rattle.reply_messages.specs.Replies.{reply_chunks}
 use Rattle.session_rules.specs.declared.entry.Entry.{Entry}
 use Rattle.session_rules.specs.declared.service.Service.{Service}
 use Rattle.session_rules.specs.Heard.{all_heard, heard}
@@ -15,7 +15,7 @@ use Rattle.session_rules.specs.Legal.{IsLegal}
 use Rattle.session_rules.specs.Replies.{entry_replies}
 use Rattle.mirror_rules.specs.Events.{MirrorEvent}
 use Rattle.mirror_rules.specs.Moves.{Move}
-use Rattle.mirror_laws.specs.Streams.{CanBeHeard, FollowsBytes, all_replies}
+use Rattle.editor_laws.specs.Streams.{CanBeHeard, FollowsBytes, all_replies}
 use Rattle.editor_laws.specs.Heard.{AreMessages, FollowsMessages, IsShort}
 use Rattle.editor_laws.proofs.ReadCalls.{AskedLaw, all_sound}
 use Rattle.editor_laws.proofs.HistoryLaws.{HistoryLaws}

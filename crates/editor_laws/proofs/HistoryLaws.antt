@@ -20,14 +20,14 @@ use Rattle.core_rules.specs.FromScratch.{AllFromScratch}
 use Rattle.core_rules.specs.Legal.{IsLegal as IsLegalList}
 use Rattle.core_rules.specs.Ready.{is_part}
 use Rattle.core_rules.specs.Sources.{HasHome}
-use Rattle.reply_reading.specs.Replies.{IsReply}
-use Rattle.reply_writing.specs.declared.told.Told.{Told}
+use Rattle.reply_messages.specs.FoundReplies.{IsReply}
+use Rattle.reply_messages.specs.declared.told.Told.{Told}
 use Rattle.session_rules.specs.declared.service.Service.{Service}
 use Rattle.session_rules.specs.Heard.{Heard}
 use Rattle.session_rules.specs.Session.{Session, document}
 use Rattle.session_rules.specs.History.{session}
 use Rattle.session_rules.specs.Legal.{IsLegal}
-use Rattle.mirror_laws.proofs.KnownReported.{made_part}
+use Rattle.editor_laws.proofs.KnownReported.{made_part}
 use Rattle.editor_laws.proofs.FineDocs.{FineDoc, NumbersLaw, doc_fine, made_id}
 use Rattle.editor_laws.proofs.FineEvents.{NodeLaws}
 use Rattle.editor_laws.proofs.FineSessions.{session_fine}

@@ -18,8 +18,8 @@ use Rattle.language.specs.Lang.{Lang}
 use Rattle.core_rules.specs.declared.event.Event.{Event}
 use Rattle.core_rules.specs.Doc.{Doc}
 use Rattle.core_rules.specs.Scratch.{scratch_at}
-use Rattle.reply_reading.specs.Fits.{FitsReport}
-use Rattle.reply_writing.specs.Forms.{IsRising}
+use Rattle.reply_messages.specs.Fits.{FitsReport}
+use Rattle.reply_messages.specs.Forms.{IsRising}
 use Rattle.session_rules.specs.Looking.{Looked, looked_at}
 use Rattle.session_rules.specs.Session.{Session, document}
 use Rattle.session_rules.specs.Shown.{finished_reports, protocol_reports}

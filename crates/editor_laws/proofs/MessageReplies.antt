@@ -14,8 +14,8 @@ use Rattle.message_values.specs.declared.refusal.Refusal.{Refusal}
 use Rattle.buffer_rules.specs.Trying.{◌>>=◌}
 use Rattle.core_rules.specs.Standing.{is_open}
 use Rattle.core_rules.specs.Stuck.{stuck_in}
-use Rattle.reply_reading.specs.Replies.{IsReply}
-use Rattle.reply_writing.specs.declared.told.Told.TheVariants as tells
+use Rattle.reply_messages.specs.FoundReplies.{IsReply}
+use Rattle.reply_messages.specs.declared.told.Told.TheVariants as tells
 use Rattle.session_rules.specs.declared.service.Service.{Service}
 use Rattle.session_rules.specs.Heard.{Heard, Message}
 use Rattle.session_rules.specs.Session.{Session, document}

@@ -20,7 +20,7 @@ use Rattle.buffer_rules.specs.declared.sheet.Sheet.{Sheet}
 use Rattle.buffer_rules.specs.Sheets.{SheetList, change_one, item_once, sheet_after, sheet_of}
 use Rattle.buffer_rules.specs.Trying.{◌>>=◌, steps}
 use Rattle.buffer_rules.specs.Updates.{Asked, BlobList, blobs_after, document_after, names_twice, sheets_after}
-use Rattle.reply_reading.specs.Fits.{IsName}
+use Rattle.reply_messages.specs.Fits.{IsName}
 
 -- the pair's key is a node's name
 abbrev pub HasName : {A : Type 0} → List ℕ × A → Type 0

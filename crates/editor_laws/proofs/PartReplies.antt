@@ -21,7 +21,7 @@ use Rattle.message_values.specs.Workers.{IsWorker}
 use Rattle.core_rules.specs.Assigned.{assigns, is_assigned}
 use Rattle.core_rules.specs.Parts.{reports_of}
 use Rattle.core_rules.specs.Ready.{is_part}
-use Rattle.reply_reading.specs.Replies.{IsReply}
+use Rattle.reply_messages.specs.FoundReplies.{IsReply}
 use Rattle.session_rules.specs.declared.service.Service.{Service}
 use Rattle.session_rules.specs.Heard.{Heard, Message, Claimed, Finished, Dropped, Ended}
 use Rattle.session_rules.specs.Session.{Session, document}
@@ -31,7 +31,7 @@ use Rattle.session_rules.specs.Legal.{IsLegal}
 use Rattle.session_rules.specs.Replies.{claim_told, report_of}
 use Rattle.session_rules.specs.Shown.{protocol_reports}
 use Rattle.session_rules.specs.Steps.{Claims, Due, Finishes, Nothing, called_for, due, due_by}
-use Rattle.mirror_laws.proofs.KnownReported.{held_part}
+use Rattle.editor_laws.proofs.KnownReported.{held_part}
 use Rattle.editor_laws.proofs.FineDocs.{FineDoc, FineLive}
 use Rattle.editor_laws.proofs.FittingReports.{AllFit, told_fit, told_fits}
 use Rattle.text_words.proofs.KnownFinds.{any_from}

@@ -16,7 +16,7 @@ use Rattle.session_rules.specs.History.{session}
 use Rattle.session_rules.specs.Legal.{IsLegal}
 use Rattle.session_rules.specs.Replies.{or_refusal, entry_replies, message_replies}
 use Rattle.session_rules.specs.Steps.{due}
-use Rattle.mirror_laws.proofs.KnownReported.{held_part}
+use Rattle.editor_laws.proofs.KnownReported.{held_part}
 use Rattle.editor_laws.proofs.ReadCalls.{IsSound}
 use Rattle.editor_laws.proofs.HistoryLaws.{HistoryLaws, Readable, fine_after, part_fits}
 use Rattle.editor_laws.proofs.PartReplies.{claim_readable, due_worker, finished_told}

@@ -2,7 +2,7 @@
 use Rattle.std.proofs.Common.{ℕ, zero, suc, ◌+◌, ◌<◌, ◌≤◌, Bool, true, false, cond, List, [], ◌∷◌, ◌++◌, map, filter, arith}
 use Rattle.std.specs.Prelude.{⊤}
 use Rattle.std.specs.List.{AllByRecursion, range_with_len}
-use Rattle.reply_writing.specs.Forms.{IsRising}
+use Rattle.reply_messages.specs.Forms.{IsRising}
 
 module _ {X : Type 0} (g : X → ℕ) where
   -- each has a number above that of the one before it, the first this one at least

@@ -16,9 +16,9 @@ use Rattle.buffer_rules.specs.Trying.{◌>>=◌}
 use Rattle.buffer_rules.specs.Updates.{Asked}
 use Rattle.core_rules.specs.Assigned.{command_ids}
 use Rattle.core_rules.specs.Legal.{IsLegal as IsLegalList}
-use Rattle.reply_reading.specs.Fits.{FitsNode}
-use Rattle.reply_reading.specs.Replies.{IsReply}
-use Rattle.reply_writing.specs.declared.told.Told.TheVariants as tells
+use Rattle.reply_messages.specs.Fits.{FitsNode}
+use Rattle.reply_messages.specs.FoundReplies.{IsReply}
+use Rattle.reply_messages.specs.declared.told.Told.TheVariants as tells
 use Rattle.session_rules.specs.declared.service.Service.{Service}
 use Rattle.session_rules.specs.Heard.{Heard, Message}
 use Rattle.session_rules.specs.Session.{Session, answered, document}
@@ -27,7 +27,7 @@ use Rattle.session_rules.specs.History.{session}
 use Rattle.session_rules.specs.Legal.{IsLegal}
 use Rattle.session_rules.specs.Replies.{rows_told}
 use Rattle.session_rules.specs.Updating.{runs_out, with_buffer}
-use Rattle.session_laws.proofs.KnownHolding.{not_caught, passed}
+use Rattle.session_rules.proofs.KnownHolding.{not_caught, passed}
 use Rattle.editor_laws.proofs.AssignReplies.{ids_fit, rows_fit}
 use Rattle.editor_laws.proofs.FineDocs.{FineDoc, made_id}
 use Rattle.editor_laws.proofs.Preparing.{prepares}

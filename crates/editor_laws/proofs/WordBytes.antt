@@ -6,15 +6,15 @@ use Rattle.std.specs.List.{slice_split, onto_first}
 use Rattle.std.specs.Str.{encode_utf8_all}
 use Rattle.text_edits.specs.declared.edit.Edit.{Edit}
 use Rattle.text_edits.specs.declared.edit.Edit.TheVariants.{Insert, Remove}
-use Rattle.xml_tree.specs.declared.tree.Attribute.{Attribute}
-use Rattle.xml_tree.specs.declared.tree.Tree.{Tree}
-use Rattle.xml_tree.specs.declared.tree.Tree.TheVariants.{Elem}
-use Rattle.xml_tree.specs.Marks.{Mark, opening, closing, words, marks}
-use Rattle.xml_tree.proofs.KnownMarks.{tree_marks-Elem, tree_marks-Text}
+use Rattle.yxml.specs.declared.tree.Attribute.{Attribute}
+use Rattle.yxml.specs.declared.tree.Tree.{Tree}
+use Rattle.yxml.specs.declared.tree.Tree.TheVariants.{Elem}
+use Rattle.yxml.specs.Marks.{Mark, opening, closing, words, marks}
+use Rattle.yxml.proofs.KnownMarks.{tree_marks-Elem, tree_marks-Text}
 use Rattle.xml_codec.specs.Data.{list_body, numbered_from, string_body}
 use Rattle.yxml.specs.Reading.{is_x, is_y, marks_from, marks_in, marks_said, said, start_said, tag_said, attributes_of}
 use Rattle.yxml.specs.Spelling.{Spells, merged_texts, onto}
-use Rattle.data_shapes.specs.Bodies.{edit_body, text_body}
+use Rattle.message_values.specs.ShapeBodies.{edit_body, text_body}
 use Rattle.editor_laws.proofs.EditSizes.{size, sizes}
 
 -- how many bytes stand between tags

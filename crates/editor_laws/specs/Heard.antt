@@ -4,8 +4,8 @@ use Rattle.std.specs.List.{AllByRecursion}
 use Rattle.byte_message.specs.Limits.{longest_chunk}
 use Rattle.byte_message.specs.Stream.{IsMessage}
 use Rattle.language.specs.Lang.{Lang}
-use Rattle.reply_writing.specs.declared.told.Told.{Told}
-use Rattle.reply_writing.specs.Replies.{reply_chunks}
+use Rattle.reply_messages.specs.declared.told.Told.{Told}
+use Rattle.reply_messages.specs.Replies.{reply_chunks}
 use Rattle.session_rules.specs.declared.entry.Entry.{Entry}
 use Rattle.session_rules.specs.declared.entry.Entry.TheVariants as entry
 use Rattle.session_rules.specs.declared.service.Service.{Service}
@@ -16,7 +16,7 @@ use Rattle.session_rules.specs.Legal.{IsLegal}
 use Rattle.session_rules.specs.Services.{mode_of}
 use Rattle.mirror_rules.specs.Events.{AreMoves, MirrorEvent}
 use Rattle.mirror_rules.specs.Moves.{Move}
-use Rattle.mirror_laws.specs.Streams.{AreInTime, all_replies}
+use Rattle.editor_laws.specs.Streams.{AreInTime, all_replies}
 
 -- where the entry is a call, its chunks are a byte message
 abbrev pub IsByteCall : Entry → Type 0

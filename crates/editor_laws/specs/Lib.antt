@@ -1,3 +1,9 @@
+pub mod Headed
+pub mod PlainReports
+pub mod OddSources
+pub mod Placed
+pub mod Follows
+pub mod Shown
+pub mod Streams
 pub mod Heard
 pub mod Tellable
-pub use Rattle.mirror_laws.specs as mirror_laws_below

@@ -7,8 +7,8 @@ use Rattle.language.specs.Lang.{Lang}
 use Rattle.language.specs.Laws.{reports_of}
 use Rattle.core_rules.specs.Scratch.{scratch_at}
 use Rattle.core_rules.specs.Settings.{Setting}
-use Rattle.reply_reading.specs.Fits.{IsWide, FitsReport}
-use Rattle.report_laws.specs.Headed.{AreHeaded}
+use Rattle.reply_messages.specs.Fits.{IsWide, FitsReport}
+use Rattle.editor_laws.specs.Headed.{AreHeaded}
 use Rattle.mirror_rules.specs.Telling.{IsTold}
 
 -- an editor can tell from words and reports what it makes; and where headers name identifiers

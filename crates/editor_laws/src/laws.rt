@@ -2,7 +2,7 @@
 ghost use Rattle.std.specs.Prelude.{◌≡◌, List, ◌∷◌, ◌++◌};
 ghost use Rattle.std.specs.List.{AllByRecursion};
 ghost use Rattle.isar_rules.specs.Isar.{isar};
-ghost use Rattle.reply_reading.specs.Replies.{IsReply};
+ghost use Rattle.reply_messages.specs.FoundReplies.{IsReply};
 ghost use Rattle.session_rules.specs.declared.entry.Entry.{Entry};
 ghost use Rattle.session_rules.specs.declared.service.Service.{Service};
 ghost use Rattle.session_rules.specs.Heard.{all_heard};
@@ -11,18 +11,19 @@ ghost use Rattle.session_rules.specs.Services.{mode_of};
 ghost use Rattle.mirror_rules.specs.Events.{MirrorEvent, stream};
 ghost use Rattle.mirror_rules.specs.Images.{Mirror};
 ghost use Rattle.mirror_rules.specs.Moves.{Going, Move, mirrored};
-ghost use Rattle.mirror_laws.specs.Shown.{SeesSo};
-ghost use Rattle.mirror_laws.specs.Streams.{EndsWith, all_replies};
+ghost use Rattle.editor_laws.specs.Shown.{SeesSo};
+ghost use Rattle.editor_laws.specs.Streams.{EndsWith, all_replies};
 ghost use Rattle.editor_laws.specs.Heard.{AreMessages, FollowsMessages};
 ghost use Rattle.editor_laws.specs.Tellable.{IsTellable};
 
+use crate::editor_facts::told_law;
+use crate::mirror_laws::bytes_law;
+use crate::report_laws::{plain_law, sheets_law};
 use buffer_laws::names_law;
 use core_rules::{core_law, homes_law, places_law};
 use exec_rules::numbers_law;
 use language::Language;
 use message_values::a_message_is_asked_where_it_is_spelled;
-use mirror_laws::bytes_law;
-use report_laws::{plain_law, sheets_law, told_law};
 use session_rules::events_law;
 use symbol_markup::places_in_symbols;
 

@@ -1,6 +1,6 @@
 //! What one node is given.
 ghost use Rattle.std.specs.Prelude.{◌≡◌, ◌<◌, ◌≤◌, ⊤, ℕ, List, [], true, length, slice_get, Some, Err, IfOk, MatchOption, IsTrue};
-ghost use Rattle.import_rounds.specs.Looks.{marked};
+ghost use Rattle.doc_nodes.specs.Looks.{marked};
 ghost use Rattle.pide_base.specs.Ids.{id_end};
 ghost use Rattle.doc_nodes.specs.Wanted.{wanted_at};
 ghost use Rattle.exec_rules.specs.Assigning.{kept_of, rows_in, assigned_in, greater, node_given, head_at, given};

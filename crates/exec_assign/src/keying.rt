@@ -1,7 +1,7 @@
 //! The key of a node.
 ghost use Rattle.std.specs.Prelude.{◌≡◌, ℕ, List, not, map, find, IfOk};
 ghost use Rattle.std.specs.Option.{option_copied};
-ghost use Rattle.import_rounds.specs.Rounds.{is_known};
+ghost use Rattle.doc_nodes.specs.Rounds.{is_known};
 ghost use Rattle.doc_nodes.specs.Graphs.{IsGraphOf};
 ghost use Rattle.doc_nodes.specs.Imports.{place_of, ordered_places, is_bad, aims_of};
 ghost use Rattle.exec_rules.specs.declared.row.Assigned.{Assigned};

@@ -1,7 +1,7 @@
 //! What an update tells.
 ghost use Rattle.std.specs.Prelude.{◌≡◌, ◌==◌, ℕ, List, ◌∷◌, ◌++◌, [], not, map, filter, slice_index_or, slice_get, Some, IfOk, OnOk};
 ghost use Rattle.shared_map.specs.Pairs.{IsSorted};
-ghost use Rattle.import_rounds.specs.Looks.{marked};
+ghost use Rattle.doc_nodes.specs.Looks.{marked};
 ghost use Rattle.doc_nodes.specs.Names.{in_order};
 ghost use Rattle.exec_rules.specs.Keys.{nothing_assigned};
 ghost use Rattle.doc_nodes.specs.declared.node.Node.{Node};

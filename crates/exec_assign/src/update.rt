@@ -1,7 +1,7 @@
 //! What an update goes by.
 ghost use Rattle.std.specs.Prelude.{◌≡◌, ◌==◌, ◌<◌, ℕ, List, true, false, length, slice_get, Some, IsTrue, IfOk};
 ghost use Rattle.std.specs.Option.{option_copied};
-ghost use Rattle.import_rounds.specs.Looks.{aims_at, marked};
+ghost use Rattle.doc_nodes.specs.Looks.{aims_at, marked};
 ghost use Rattle.doc_nodes.specs.declared.node.Node.{Node};
 ghost use Rattle.doc_nodes.specs.Imports.{aims};
 ghost use Rattle.doc_nodes.specs.Wanted.{wanted_at};

@@ -2,14 +2,14 @@
 use Rattle.std.specs.Prelude.{ℕ, List, drop, Result, Ok, Err}
 use Rattle.nj_formula.specs.declared.formula.Formula.{Formula}
 use Rattle.theory_ctx.specs.Locals.{Scoped}
-use Rattle.outer_tokens.specs.declared.token.Token.{Token}
+use Rattle.outer_syntax.specs.declared.token.Token.{Token}
 use Rattle.proof_state.specs.declared.levels.Levels.TheVariants.{Prove}
 use Rattle.proof_terms.specs.declared.fault.TermFault.{TermFault}
 use Rattle.proof_terms.specs.declared.term.Term.{Term}
 use Rattle.proof_terms.specs.Marks.{marks}
 use Rattle.proof_terms.specs.Reading.{proof_of}
 use Rattle.proof_checks.specs.Questions.{rules_judged}
-use Rattle.doc_blobs.specs.Needs.{source_tokens}
+use Rattle.doc_nodes.specs.Needs.{source_tokens}
 use Rattle.language.specs.Questions.{Questions}
 use Rattle.isar_rules.specs.declared.state.Place.{Place}
 use Rattle.isar_rules.specs.declared.state.Place.TheVariants as place

@@ -5,7 +5,7 @@ ghost use Rattle.doc_nodes.specs.Names.{equal};
 ghost use Rattle.proof_terms.specs.declared.term.Term.{fold-Term};
 ghost use Rattle.isar_rules.specs.Cites.{Cited, cited, cited_layer, under, refs};
 
-use command_reports::ref_report;
+use command_steps::ref_report;
 use nj_formula::Name;
 use proof_terms::{Cite, Term};
 use report_markup::Report;

@@ -16,11 +16,11 @@ ghost use Rattle.isar_rules.specs.Forks.{verdict, judged_reports, forked_at};
 ghost use Rattle.fork_steps.specs.Questions.{questions_of, questions_at};
 
 use crate::citing::add_cites;
-use command_reports::{error_report, proved_report};
+use command_steps::{error_report, proved_report};
 use isar_rules::Place;
 use language::Answer;
 use nj_formula::Formula;
-use outer_tokens::Token;
+use outer_syntax::Token;
 use pide_base::Stop;
 use proof_checks::{Checked, check};
 use proof_terms::{Term, TermError, TermFault, one_answer, read};

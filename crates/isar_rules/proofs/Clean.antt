@@ -3,7 +3,7 @@ use Rattle.std.proofs.Common.{ℕ, Bool, true, false, if◌then◌else◌, List,
 use Rattle.std.specs.Bool.{⊤}
 use Rattle.std.specs.List.{AllByRecursion}
 use Rattle.pide_base.specs.declared.range.Range.{Range}
-use Rattle.outer_tokens.specs.declared.token.Token.{Token}
+use Rattle.outer_syntax.specs.declared.token.Token.{Token}
 use Rattle.nj_formula.specs.declared.formula.Formula.{Formula}
 use Rattle.theory_ctx.specs.Facts.{Fact}
 use Rattle.doc_nodes.specs.Names.{equal}

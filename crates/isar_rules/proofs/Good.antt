@@ -2,10 +2,10 @@
 use Rattle.std.proofs.Common.{◌≡◌, ◌⊎◌, ℕ, Bool, true, false, if◌then◌else◌, List, [], ◌∷◌, refl, inl, inr}
 use Rattle.std.specs.List.{AllByRecursion}
 use Rattle.pide_base.specs.declared.range.Range.{Range}
-use Rattle.outer_tokens.specs.declared.token.Token.{Token}
-use Rattle.outer_tokens.specs.Kinds.{is_command}
+use Rattle.outer_syntax.specs.declared.token.Token.{Token}
+use Rattle.outer_syntax.specs.Kinds.{is_command}
 use Rattle.report_markup.specs.declared.report.Report.{Report}
-use Rattle.outer_tokens.specs.Tokens.{text_of}
+use Rattle.outer_syntax.specs.Tokens.{text_of}
 use Rattle.report_markup.specs.declared.kind.ReportKind.TheVariants as kind
 use Rattle.isar_rules.specs.Reports.{report, name_is, whole, announced}
 use Rattle.proof_terms.specs.Cited.{IsPlaceOf}

@@ -4,14 +4,14 @@ use Rattle.std.specs.List.{AllByRecursion}
 use Rattle.std.specs.Ordering.{is_gt}
 use Rattle.text_words.proofs.KnownLists.{each-both, each-so}
 use Rattle.pide_base.specs.declared.range.Range.{Range}
-use Rattle.outer_tokens.specs.Kinds.{is_command}
-use Rattle.outer_tokens.specs.declared.token.Token.{Token}
+use Rattle.outer_syntax.specs.Kinds.{is_command}
+use Rattle.outer_syntax.specs.declared.token.Token.{Token}
 use Rattle.report_markup.specs.declared.report.Report.{Report}
 use Rattle.report_markup.specs.Order.{report_cmp}
 use Rattle.report_markup.specs.Ranges.{AreTreelike, IsTreelike}
 use Rattle.report_markup.specs.Sorting.{insert_if, ordered_reports}
 use Rattle.language.specs.Laws.{LiesIn, reports_of}
-use Rattle.doc_blobs.specs.Needs.{source_tokens}
+use Rattle.doc_nodes.specs.Needs.{source_tokens}
 use Rattle.isar_rules.specs.declared.shape.Shape.{Shape}
 use Rattle.isar_rules.specs.declared.state.Place.{Place}
 use Rattle.isar_rules.specs.declared.state.State.{State}

@@ -1,7 +1,7 @@
 -- Each report of a command stands on one of its tokens, or is of its whole source.
 use Rattle.std.proofs.Common.{◌≡◌, ◌⊎◌, ℕ, List, Option}
 use Rattle.std.specs.List.{AllByRecursion}
-use Rattle.doc_blobs.specs.Needs.{source_tokens}
+use Rattle.doc_nodes.specs.Needs.{source_tokens}
 use Rattle.language.specs.Laws.{reports_of}
 use Rattle.proof_terms.specs.Cited.{IsPlaceOf}
 use Rattle.isar_rules.specs.declared.state.State.{State}

@@ -5,12 +5,12 @@ use Rattle.nj_formula.specs.declared.formula.Formula.TheVariants.{Implies}
 use Rattle.nj_formula.specs.Meaning.{meaning}
 use Rattle.proof_state.specs.Same.{decide, says_same}
 use Rattle.proof_state.proofs.KnownFirst.{is_first_of}
-use Rattle.nj_print.specs.Printed.{formula_text}
+use Rattle.nj_syntax.specs.Printed.{formula_text}
 use Rattle.suggest_rules.specs.Worked.{swap, peirce}
 use Rattle.isar_rules.specs.Small.{prop}
 use Rattle.isar_rules.specs.WorkedProofs.{not_p, itself}
 use Rattle.isar_rules.specs.WorkedPrints.{both}
-use Rattle.nj_print.proofs.KnownSpoken.{says_atom, says_not, says_and, says_implies}
+use Rattle.nj_syntax.proofs.KnownSpoken.{says_atom, says_not, says_and, says_implies}
 
 pub p_text : formula_text (prop (codes "P")) ≡ codes "P"
 p_text = says_atom 10 [] (codes "P")

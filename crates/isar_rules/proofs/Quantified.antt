@@ -7,11 +7,11 @@ use Rattle.nj_formula.specs.Statement.{atom}
 use Rattle.nj_formula.proofs.KnownArguments.{fold-Bound}
 use Rattle.nj_syntax.specs.declared.operator.Quantifier.{Quantifier}
 use Rattle.nj_syntax.specs.Grammar.{word}
-use Rattle.nj_print.specs.ArgumentText.{listed, text_layer}
-use Rattle.nj_print.specs.Primed.{shown_layer, is_shown, with_primes}
-use Rattle.nj_print.specs.Printed.{spoken_layer, longest_layer, least_failing, primed, enclosed, binding, quantifier_text, formula_text}
+use Rattle.nj_syntax.specs.ArgumentText.{listed, text_layer}
+use Rattle.nj_syntax.specs.Primed.{shown_layer, is_shown, with_primes}
+use Rattle.nj_syntax.specs.Printed.{spoken_layer, longest_layer, least_failing, primed, enclosed, binding, quantifier_text, formula_text}
 use Rattle.isar_rules.specs.WorkedTheories.{quantified}
-use Rattle.nj_print.proofs.KnownSpoken.{says_implies, says_all, says_exists}
+use Rattle.nj_syntax.proofs.KnownSpoken.{says_implies, says_all, says_exists}
 
 primed_bound : (x p : List ℕ) → primed [] x (atom p (Bound 0 ∷ [])) ≡ with_primes x 0
 primed_bound x p =

@@ -9,7 +9,7 @@ use Rattle.proof_state.specs.Fits.{fits}
 use Rattle.proof_state.specs.Steps.{step as stepped, show, shown_levels as opened_for}
 use Rattle.report_markup.specs.declared.kind.ReportKind.TheVariants as kind
 use Rattle.language.specs.declared.made.Made.{Made}
-use Rattle.doc_blobs.specs.Needs.{source_tokens}
+use Rattle.doc_nodes.specs.Needs.{source_tokens}
 use Rattle.isar_rules.specs.declared.state.State.{State}
 use Rattle.isar_rules.specs.Words.{spot}
 use Rattle.isar_rules.specs.Errors.{and_then}

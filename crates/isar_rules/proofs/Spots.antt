@@ -4,15 +4,15 @@ use Rattle.std.specs.Bool.{⊤}
 use Rattle.std.specs.List.{AllByRecursion}
 use Rattle.std.specs.Option.{option_and_then}
 use Rattle.pide_base.specs.declared.range.Range.{Range}
-use Rattle.outer_tokens.specs.Kinds.{is_command}
-use Rattle.outer_tokens.specs.Tokens.{text_of}
-use Rattle.outer_tokens.specs.declared.kind.Kind.{Kind}
-use Rattle.outer_tokens.specs.declared.kind.Kind.TheVariants as kind
-use Rattle.outer_tokens.specs.declared.token.Token.{Token}
+use Rattle.outer_syntax.specs.Kinds.{is_command}
+use Rattle.outer_syntax.specs.Tokens.{text_of}
+use Rattle.outer_syntax.specs.declared.kind.Kind.{Kind}
+use Rattle.outer_syntax.specs.declared.kind.Kind.TheVariants as kind
+use Rattle.outer_syntax.specs.declared.token.Token.{Token}
 use Rattle.doc_nodes.specs.Names.{equal}
-use Rattle.doc_headers.specs.Reading.{header_in}
-use Rattle.doc_headers.specs.declared.parts.Header.{Header}
-use Rattle.doc_blobs.specs.Needs.{AliasList, meant, needs}
+use Rattle.outer_syntax.specs.Reading.{header_in}
+use Rattle.outer_syntax.specs.declared.parts.Header.{Header}
+use Rattle.doc_nodes.specs.Needs.{AliasList, meant, needs}
 use Rattle.std.specs.Prelude.{codes}
 use Rattle.isar_rules.specs.declared.shape.Shape.{Shape}
 use Rattle.isar_rules.specs.declared.shape.Shape.TheVariants as shape

@@ -1,15 +1,15 @@
 -- The tokens of a source lie one behind the other, and so do their ranges.
 use Rattle.std.proofs.Common.{◌≡◌, ◌≤◌, ◌<◌, ℕ, Bool, true, false, cond, List, [], ◌∷◌, length, map, ap, inl, inr, arith}
 use Rattle.pide_base.specs.declared.range.Range.{Range}
-use Rattle.outer_tokens.specs.Headings.{proper}
-use Rattle.outer_tokens.specs.Kinds.{is_proper}
-use Rattle.outer_tokens.specs.Tokens.{AreTokensBetween}
-use Rattle.outer_tokens.specs.Words.{is_in_force}
-use Rattle.outer_tokens.specs.declared.token.Token.{Token}
-use Rattle.outer_tokens.proofs.KnownLexing.{all-tokens}
+use Rattle.outer_syntax.specs.Headings.{proper}
+use Rattle.outer_syntax.specs.Kinds.{is_proper}
+use Rattle.outer_syntax.specs.Tokens.{AreTokensBetween}
+use Rattle.outer_syntax.specs.Words.{is_in_force}
+use Rattle.outer_syntax.specs.declared.token.Token.{Token}
+use Rattle.outer_syntax.proofs.KnownLexing.{all-tokens}
 use Rattle.report_markup.specs.Ranges.{AreTreelike}
 use Rattle.proof_terms.specs.Cited.{IsPlaceOf}
-use Rattle.doc_blobs.specs.Needs.{AliasList, source_tokens}
+use Rattle.doc_nodes.specs.Needs.{AliasList, source_tokens}
 
 -- tokens that are not empty, one behind the other between two places
 abbrev pub Rises : ℕ → ℕ → List Token → Type 0

@@ -4,7 +4,7 @@ use Rattle.std.specs.List.{list_all, prefix_len, slice_split}
 use Rattle.std.specs.Option.{option_map_or}
 use Rattle.text_words.specs.Identifier.{is_identifier}
 use Rattle.text_words.specs.Longest.{longest_front}
-use Rattle.outer_tokens.specs.Words.{is_base_command, is_minor_keyword}
+use Rattle.outer_syntax.specs.Words.{is_base_command, is_minor_keyword}
 use Rattle.nj_formula.specs.declared.formula.Formula.{Formula}
 use Rattle.nj_syntax.specs.Answer.{formula_of}
 use Rattle.nj_syntax.specs.declared.fault.FormulaFault.{FormulaFault}

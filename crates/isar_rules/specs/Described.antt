@@ -7,7 +7,7 @@ use Rattle.proof_state.specs.declared.subgoal.Subgoal.{Subgoal}
 use Rattle.proof_state.specs.declared.subgoal.Subgoal.TheVariants.{Show, AssumeShow, FixShow}
 use Rattle.proof_state.specs.declared.levels.Levels.{Levels}
 use Rattle.proof_state.specs.declared.levels.Levels.TheVariants.{Closed, Prove, State}
-use Rattle.nj_print.specs.Printed.{primed, text_in, formula_text}
+use Rattle.nj_syntax.specs.Printed.{primed, text_in, formula_text}
 
 -- a name to fix and the body of its quantifier
 abbrev pub fix_text : List ℕ → Formula → List ℕ

@@ -3,7 +3,7 @@ use Rattle.std.specs.Prelude.{ℕ, List, [], ◌∷◌, drop, Result, Ok, Err}
 use Rattle.nj_formula.specs.declared.formula.Formula.{Formula}
 use Rattle.nj_formula.specs.Statement.{Statement}
 use Rattle.theory_ctx.specs.Locals.{Scoped}
-use Rattle.outer_tokens.specs.declared.token.Token.{Token}
+use Rattle.outer_syntax.specs.declared.token.Token.{Token}
 use Rattle.proof_state.specs.declared.levels.Levels.{Levels}
 use Rattle.proof_state.specs.declared.levels.Levels.TheVariants.{Prove}
 use Rattle.proof_state.specs.Locals.{locals_of}
@@ -16,7 +16,7 @@ use Rattle.suggest_rules.specs.proof_checks_below.Checks.{checked}
 use Rattle.report_markup.specs.declared.kind.ReportKind.TheVariants as kind
 use Rattle.report_markup.specs.declared.report.Report.{Report}
 use Rattle.report_markup.specs.Sorting.{ordered_reports}
-use Rattle.doc_blobs.specs.Needs.{source_tokens}
+use Rattle.doc_nodes.specs.Needs.{source_tokens}
 use Rattle.isar_rules.specs.declared.state.Theory.{Theory}
 use Rattle.isar_rules.specs.declared.state.Place.{Place}
 use Rattle.isar_rules.specs.declared.state.Place.TheVariants as place

@@ -1,9 +1,9 @@
 -- What is reported of commands (kinds after the markup of Isabelle/PIDE; this project's own).
 use Rattle.std.specs.Prelude.{ℕ, if◌then◌else◌, List, [], ◌∷◌, length, Option, Some, None}
 use Rattle.pide_base.specs.declared.range.Range.{Range}
-use Rattle.outer_tokens.specs.Kinds.{is_command}
-use Rattle.outer_tokens.specs.Tokens.{text_of}
-use Rattle.outer_tokens.specs.declared.token.Token.{Token}
+use Rattle.outer_syntax.specs.Kinds.{is_command}
+use Rattle.outer_syntax.specs.Tokens.{text_of}
+use Rattle.outer_syntax.specs.declared.token.Token.{Token}
 use Rattle.nj_formula.specs.declared.formula.Formula.{Formula}
 use Rattle.report_markup.specs.declared.kind.ReportKind.{ReportKind}
 use Rattle.report_markup.specs.declared.kind.ReportKind.TheVariants as kind
@@ -11,7 +11,7 @@ use Rattle.report_markup.specs.declared.property.Property.{Property}
 use Rattle.report_markup.specs.declared.property.PropertyKey.TheVariants as key
 use Rattle.report_markup.specs.declared.report.Report.{Report}
 use Rattle.isar_rules.specs.declared.shape.Spot.{Spot}
-use Rattle.nj_print.specs.Printed.{formula_text}
+use Rattle.nj_syntax.specs.Printed.{formula_text}
 
 -- a report of a range
 abbrev pub report : ReportKind → Range → List Property → List ℕ → Report

@@ -1,12 +1,12 @@
 -- The shapes of commands (after Isabelle's Isar, Wenzel 1999; this project's own choice).
 use Rattle.std.specs.Prelude.{ℕ, ◌==◌, Bool, true, false, if◌then◌else◌, List, [], ◌∷◌, length, take, drop, map, fold, Option, Some, None}
 use Rattle.std.specs.Option.{option_map_or, option_and_then}
-use Rattle.outer_tokens.specs.Kinds.{is_command}
-use Rattle.outer_tokens.specs.Lexing.{header_end}
-use Rattle.outer_tokens.specs.Tokens.{text_of}
-use Rattle.outer_tokens.specs.declared.token.Token.{Token}
-use Rattle.doc_headers.specs.Reading.{header_in}
-use Rattle.doc_blobs.specs.Needs.{AliasList, meant, needs}
+use Rattle.outer_syntax.specs.Kinds.{is_command}
+use Rattle.outer_syntax.specs.Lexing.{header_end}
+use Rattle.outer_syntax.specs.Tokens.{text_of}
+use Rattle.outer_syntax.specs.declared.token.Token.{Token}
+use Rattle.outer_syntax.specs.Reading.{header_in}
+use Rattle.doc_nodes.specs.Needs.{AliasList, meant, needs}
 use Rattle.isar_rules.specs.declared.shape.Shape.{Shape}
 use Rattle.isar_rules.specs.declared.shape.Shape.TheVariants as shape
 use Rattle.isar_rules.specs.declared.verb.Verb.{Verb}

@@ -1,9 +1,9 @@
 -- What a command makes of the state before it (the Isar language, Wenzel 1999).
 use Rattle.std.specs.Prelude.{ℕ, false, List, [], ◌∷◌, ◌++◌, Option, Some, None, Ok, Err}
-use Rattle.outer_tokens.specs.declared.token.Token.{Token}
+use Rattle.outer_syntax.specs.declared.token.Token.{Token}
 use Rattle.report_markup.specs.Sorting.{ordered_reports}
 use Rattle.language.specs.declared.made.Made.{Made}
-use Rattle.doc_blobs.specs.Needs.{AliasList, source_tokens}
+use Rattle.doc_nodes.specs.Needs.{AliasList, source_tokens}
 use Rattle.isar_rules.specs.declared.shape.Shape.{Shape}
 use Rattle.isar_rules.specs.declared.shape.Shape.TheVariants as shape
 use Rattle.isar_rules.specs.declared.state.Place.{Place}

@@ -1,11 +1,11 @@
 -- The words of a command's source (after Isabelle's outer syntax).
 use Rattle.std.specs.Prelude.{ℕ, if◌then◌else◌, List, map, codes}
 use Rattle.pide_base.specs.declared.range.Range.{Range}
-use Rattle.outer_tokens.specs.Contents.{content_of}
-use Rattle.outer_tokens.specs.Tokens.{text_of}
-use Rattle.outer_tokens.specs.declared.kind.Kind.{Kind}
-use Rattle.outer_tokens.specs.declared.kind.Kind.TheVariants as kind
-use Rattle.outer_tokens.specs.declared.token.Token.{Token}
+use Rattle.outer_syntax.specs.Contents.{content_of}
+use Rattle.outer_syntax.specs.Tokens.{text_of}
+use Rattle.outer_syntax.specs.declared.kind.Kind.{Kind}
+use Rattle.outer_syntax.specs.declared.kind.Kind.TheVariants as kind
+use Rattle.outer_syntax.specs.declared.token.Token.{Token}
 use Rattle.doc_nodes.specs.Names.{equal}
 use Rattle.isar_rules.specs.declared.shape.Spot.{Spot}
 

@@ -7,8 +7,8 @@ use Rattle.message_values.specs.declared.refusal.Refusal.{Refusal}
 use Rattle.message_values.specs.declared.refusal.Refusal.TheVariants.{ProtocolFixed}
 use Rattle.message_values.specs.Asked.{asked}
 use Rattle.buffer_rules.specs.Trying.{◌>>=◌}
-use Rattle.reply_writing.specs.declared.told.Told.{Told}
-use Rattle.reply_writing.specs.declared.told.Told.TheVariants as tells
+use Rattle.reply_messages.specs.declared.told.Told.{Told}
+use Rattle.reply_messages.specs.declared.told.Told.TheVariants as tells
 use Rattle.core_rules.specs.Standing.{has_ended}
 use Rattle.reply_outbox.specs.Waiting.{Log}
 use Rattle.session_rules.specs.declared.entry.Entry.{Entry}

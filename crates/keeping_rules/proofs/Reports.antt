@@ -3,7 +3,7 @@ use Rattle.std.proofs.Common.{◌≡◌, ℕ, List, Option, Some, None, refl, sy
 use Rattle.std.specs.Option.{option_map}
 use Rattle.language.specs.Lang.{Lang}
 use Rattle.message_values.specs.declared.protocol.Protocol.{Protocol}
-use Rattle.reply_writing.specs.declared.told.Told.TheVariants as tells
+use Rattle.reply_messages.specs.declared.told.Told.TheVariants as tells
 use Rattle.core_rules.specs.Settings.{Setting, setting}
 use Rattle.core_jobs.specs.declared.done.Done.{Done}
 use Rattle.core_jobs.specs.declared.input.Input.TheVariants.{State}

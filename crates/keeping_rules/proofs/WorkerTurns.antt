@@ -5,8 +5,8 @@ use Rattle.pide_base.specs.declared.part.Part.{Part}
 use Rattle.buffer_rules.specs.Preparing.{Buffer}
 use Rattle.language.specs.Lang.{Lang}
 use Rattle.message_values.specs.Workers.{most_workers}
-use Rattle.reply_writing.specs.declared.told.Told.{Told}
-use Rattle.reply_writing.specs.declared.told.Told.TheVariants as tells
+use Rattle.reply_messages.specs.declared.told.Told.{Told}
+use Rattle.reply_messages.specs.declared.told.Told.TheVariants as tells
 use Rattle.core_rules.specs.declared.event.Event.{Event}
 use Rattle.core_rules.specs.declared.event.Event.TheVariants as event
 use Rattle.core_rules.specs.Doc.{Doc}

@@ -11,7 +11,7 @@ use Rattle.message_values.specs.declared.refusal.Refusal.{Refusal}
 use Rattle.message_values.specs.Asked.{asked}
 use Rattle.buffer_rules.specs.Updates.{Asked}
 use Rattle.buffer_rules.specs.Preparing.{Buffer, prepared}
-use Rattle.reply_writing.specs.declared.told.Told.TheVariants as tells
+use Rattle.reply_messages.specs.declared.told.Told.TheVariants as tells
 use Rattle.core_rules.specs.declared.event.Event.{Event}
 use Rattle.core_rules.specs.declared.event.Event.TheVariants as event
 use Rattle.core_rules.specs.Doc.{assignment_of}

@@ -3,8 +3,8 @@ use Rattle.std.specs.Prelude.{ℕ}
 use Rattle.pide_base.specs.declared.part.Part.{Part}
 use Rattle.session_replies.specs.prover_core_below.declared.finishing.Finish.{Finish}
 use Rattle.session_replies.specs.prover_core_below.declared.finishing.Finish.TheVariants as finish
-use Rattle.reply_writing.specs.declared.told.Told.{Told}
-use Rattle.reply_writing.specs.declared.told.Told.TheVariants as tells
+use Rattle.reply_messages.specs.declared.told.Told.{Told}
+use Rattle.reply_messages.specs.declared.told.Told.TheVariants as tells
 use Rattle.session_rules.specs.declared.entry.Entry.{Entry}
 use Rattle.session_rules.specs.declared.entry.Entry.TheVariants as entry
 use Rattle.session_replies.specs.Works.{WorkDone, work_report}

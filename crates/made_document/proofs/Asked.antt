@@ -8,7 +8,7 @@ use Rattle.std.specs.List.{AllByRecursion}
 use Rattle.std.specs.Str.{is_utf8}
 use Rattle.byte_message.specs.Limits.{longest_chunk}
 use Rattle.byte_message.specs.Stream.{IsMessage, IsSpelling, plain_spelling}
-use Rattle.xml_tree.specs.declared.tree.Tree.{Tree}
+use Rattle.yxml.specs.declared.tree.Tree.{Tree}
 use Rattle.xml_codec.specs.Data.{list_body}
 use Rattle.yxml.specs.Spelling.{Spells}
 use Rattle.pide_base.specs.Ids.{IsId}

@@ -2,7 +2,7 @@
 use Rattle.std.proofs.Common.{◌≡◌, ℕ, ◌+◌, Bool, List, [], ◌∷◌, ◌++◌, length, filter, refl, ap, sym, ◌∙◌, cond, true, false, drop, append_assoc}
 use Rattle.std.proofs.lemmas.List.{length-append}
 use Rattle.report_markup.specs.declared.report.Report.{Report}
-use Rattle.exec_lists.specs.declared.results.PartResult.{PartResult}
+use Rattle.core_jobs.specs.declared.results.PartResult.{PartResult}
 use Rattle.made_document.specs.declared.tally.Tally.{Tally}
 use Rattle.made_document.specs.Summary.{is_error}
 use Rattle.made_document.specs.Tallies.{IsTally, results_reports}

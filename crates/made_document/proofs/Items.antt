@@ -4,7 +4,7 @@ use Rattle.std.proofs.lemmas.List.{append-nil}
 use Rattle.std.proofs.lemmas.List.Concat.{flat_map-append}
 use Rattle.std.specs.Prelude.{flat_map}
 use Rattle.std.specs.List.{range_with_len}
-use Rattle.xml_tree.specs.declared.tree.Tree.{Tree}
+use Rattle.yxml.specs.declared.tree.Tree.{Tree}
 use Rattle.xml_codec.specs.Data.{bool_body, list_body, option_body, pair_body, string_body, variant_body}
 use Rattle.message_values.specs.Bodies.{item_body}
 use Rattle.made_document.specs.Texts.{most_nodes, name, text, inserted, insert_place, lemma_line}

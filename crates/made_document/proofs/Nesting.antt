@@ -2,11 +2,11 @@
 use Rattle.std.proofs.Common.{◌≡◌, ℕ, ◌+◌, ◌^◌, ◌<◌, ◌≤◌, Bool, true, List, [], ◌∷◌, length, map, decimal, max, sym, subst, arith, lit<, Some}
 use Rattle.std.specs.List.{AllByRecursion}
 use Rattle.text_edits.specs.declared.edit.Edit.TheVariants.{Insert}
-use Rattle.xml_tree.specs.declared.tree.Tree.{Tree}
-use Rattle.xml_tree.specs.Normal.{IsNormal, IsPlain, height}
+use Rattle.yxml.specs.declared.tree.Tree.{Tree}
+use Rattle.yxml.specs.Normal.{IsNormal, IsPlain, height}
 use Rattle.xml_codec.specs.Data.{bool_body, list_body, option_body, pair_body, string_body, variant_body}
 use Rattle.xml_codec.specs.Nested.{IsNestable}
-use Rattle.data_shapes.specs.Bodies.{edit_body}
+use Rattle.message_values.specs.ShapeBodies.{edit_body}
 use Rattle.message_values.specs.declared.item.Item.{Item}
 use Rattle.message_values.specs.Bodies.{item_body}
 use Rattle.made_document.specs.Texts.{most_nodes, name, text, inserted, insert_place}

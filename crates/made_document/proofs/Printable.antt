@@ -6,7 +6,7 @@ use Rattle.std.proofs.lemmas.Str.{IsUtf8-from_ascii, chars-IsAscii, encodes-IsAs
 use Rattle.std.specs.Prelude.{◌==◌, nat_le, nat_lt, if◌then◌else◌, flat_map}
 use Rattle.std.specs.List.{list_all, range_with_len, AllByRecursion}
 use Rattle.std.specs.Str.{IsAscii, all_scalars, encode_utf8_all}
-use Rattle.xml_tree.specs.Normal.{IsPlain, Lacks}
+use Rattle.yxml.specs.Normal.{IsPlain, Lacks}
 use Rattle.pide_base.specs.NodeName.{is_node_name, most_characters}
 use Rattle.text_words.specs.Identifier.{is_identifier}
 use Rattle.made_document.specs.Texts.{name, import_of, header, lemma_line, lemma_count, lemmas, ending, text, inserted}

@@ -8,17 +8,17 @@ use Rattle.std.specs.List.{range_with_len}
 use Rattle.std.specs.Str.{encode_utf8_all}
 use Rattle.byte_message.specs.Limits.{longest_chunk}
 use Rattle.text_edits.specs.declared.edit.Edit.TheVariants.{Insert}
-use Rattle.xml_tree.specs.declared.tree.Attribute.{Attribute}
-use Rattle.xml_tree.specs.declared.tree.Tree.{Tree}
-use Rattle.xml_tree.specs.declared.tree.Tree.TheVariants.{Elem}
-use Rattle.xml_tree.specs.Marks.{closing, marks, opening}
-use Rattle.xml_tree.proofs.KnownMarks.{tree_marks-Elem}
-use Rattle.xml_tree.specs.Normal.{equals_sign, x_byte, y_byte}
+use Rattle.yxml.specs.declared.tree.Attribute.{Attribute}
+use Rattle.yxml.specs.declared.tree.Tree.{Tree}
+use Rattle.yxml.specs.declared.tree.Tree.TheVariants.{Elem}
+use Rattle.yxml.specs.Marks.{closing, marks, opening}
+use Rattle.yxml.proofs.KnownMarks.{tree_marks-Elem}
+use Rattle.yxml.specs.Normal.{equals_sign, x_byte, y_byte}
 use Rattle.yxml.specs.Spelling.{attribute_spelling, mark_spelling, spellings, yxml}
 use Rattle.xml_codec.specs.Data.{bool_body, list_body, node, numbered_from, option_body, pair_body, string_body, variant_body}
-use Rattle.data_shapes.specs.Bodies.{edit_body}
+use Rattle.message_values.specs.ShapeBodies.{edit_body}
 use Rattle.message_values.specs.Bodies.{item_body}
-use Rattle.reply_writing.proofs.KnownNodes.{begin, end, node_yxml, string_yxml}
+use Rattle.reply_messages.proofs.KnownNodes.{begin, end, node_yxml, string_yxml}
 use Rattle.made_document.specs.Texts.{most_nodes, name, text, inserted, insert_place}
 use Rattle.made_document.specs.Messages.{first_item, first_items, is_third, second_item, second_items}
 use Rattle.made_document.proofs.Fitting.{short_name, short_text}

@@ -11,8 +11,8 @@ use Rattle.language.specs.Lang.{Lang}
 use Rattle.core_rules.specs.Assigned.{command_ids, executions_of}
 use Rattle.core_rules.specs.Doc.{greatest}
 use Rattle.made_document.specs.Messages.{first_items, second_items, last_version}
-use Rattle.session_laws.specs.Reported.{version_reports}
-use Rattle.session_laws.specs.Updates.{Updates, document_of}
+use Rattle.session_rules.specs.Reported.{version_reports}
+use Rattle.session_rules.specs.Updates.{Updates, document_of}
 use Rattle.made_document.specs.declared.summary.Summary.{Summary}
 
 -- the updates that make a document of so many nodes

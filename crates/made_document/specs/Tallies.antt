@@ -1,7 +1,7 @@
 -- What is counted of reports (this project's own).
 use Rattle.std.specs.Prelude.{◌≡◌, List, filter, flat_map, length}
 use Rattle.report_markup.specs.declared.report.Report.{Report}
-use Rattle.exec_lists.specs.declared.results.PartResult.{PartResult}
+use Rattle.core_jobs.specs.declared.results.PartResult.{PartResult}
 use Rattle.made_document.specs.declared.tally.Tally.{Tally}
 use Rattle.made_document.specs.Summary.{is_error}
 

@@ -1,6 +1,6 @@
 //! Items of updates, as the data that encodes them.
 ghost use Rattle.std.specs.Prelude.{◌≡◌, ◌≤◌, ◌∷◌, [], ℕ, IfOk, decimal, filter, map, true};
-ghost use Rattle.xml_tree.specs.Normal.{IsPlain};
+ghost use Rattle.yxml.specs.Normal.{IsPlain};
 ghost use Rattle.xml_codec.specs.Data.{bool_body, list_body, option_body, pair_body, string_body, variant_body};
 ghost use Rattle.message_values.specs.Bodies.{item_body};
 ghost use Rattle.made_document.specs.Texts.{most_nodes, name};
@@ -11,7 +11,7 @@ use joined_results::both;
 use sqlite_items::Items;
 use std::alloc::{AllocError, Global};
 use xml_codec::{put_bool, put_list, put_option, put_pair, put_string, put_variant};
-use xml_tree::{Body, XmlString};
+use yxml::{Body, XmlString};
 
 /// What the second update inserts.
 const INSERTED: &str = "axiom a: \"Q\" ";

@@ -3,7 +3,7 @@ ghost use Rattle.std.specs.Prelude.{◌≡◌, ◌≤◌, ◌∷◌, [], ℕ, Li
 ghost use Rattle.std.specs.List.{AllByRecursion};
 ghost use Rattle.std.specs.Str.{is_utf8};
 ghost use Rattle.byte_message.specs.Limits.{longest_chunk};
-ghost use Rattle.xml_tree.specs.Normal.{IsNormal};
+ghost use Rattle.yxml.specs.Normal.{IsNormal};
 ghost use Rattle.xml_codec.specs.Data.{list_body};
 ghost use Rattle.yxml.specs.Spelling.{Spells, yxml};
 ghost use Rattle.pide_base.specs.Ids.{IsId};
@@ -23,8 +23,7 @@ use message_values::a_message_is_asked_where_it_is_spelled;
 use sqlite_items::Items;
 use std::alloc::{AllocError, Global};
 use xml_codec::{bodies_are_normal, bodies_nest, put_list};
-use xml_tree::Body;
-use yxml::write_body;
+use yxml::{Body, write_body};
 
 /// The version that is settled.
 const LAST_VERSION: u64 = 2;

@@ -4,7 +4,7 @@ ghost use Rattle.report_markup.specs.declared.report.Report.{Report};
 ghost use Rattle.made_document.specs.Summary.{is_error};
 ghost use Rattle.made_document.specs.Tallies.{IsTally, results_reports};
 
-use exec_lists::PartResult;
+use core_jobs::PartResult;
 use report_markup::{Report, ReportKind};
 use std::alloc::AllocError;
 

@@ -2,8 +2,8 @@
 use Rattle.std.proofs.Common.{◌≡◌, ℕ, true, false, Bool, if◌then◌else◌, List, [], ◌∷◌, map, length, Option, Some, None, Result, Ok, Err, find, bytes_eq, refl, sym, ap, subst, ◌∙◌}
 use Rattle.std.specs.Str.{is_utf8}
 use Rattle.std.proofs.lemmas.Bool.{and_parts, and_from}
-use Rattle.data_shapes.proofs.KnownSteps.{passed}
-use Rattle.data_shapes.proofs.KnownTrees.{same_bytes}
+use Rattle.message_values.proofs.KnownSteps.{passed}
+use Rattle.message_values.proofs.KnownTrees.{same_bytes}
 use Rattle.message_values.specs.declared.editor_message.EditorMessage.{EditorMessage}
 use Rattle.message_values.specs.declared.function.Function.{Function}
 use Rattle.message_values.specs.declared.mode.Mode.{Mode}

@@ -1,21 +1,21 @@
 -- Items and blobs: found where they are encoded.
 use Rattle.std.proofs.Common.{◌≡◌, ℕ, ◌==◌, true, false, Bool, if◌then◌else◌, List, [], ◌∷◌, map, Option, Some, None, option_map, refl, ap, subst, ◌∙◌, lit<}
 use Rattle.std.proofs.lemmas.Bool.{eqb-true}
-use Rattle.xml_tree.specs.declared.tree.Tree.{Tree}
+use Rattle.yxml.specs.declared.tree.Tree.{Tree}
 use Rattle.xml_codec.specs.Data.{string_body, bool_body, pair_body, list_body, option_body, variant_body}
 use Rattle.pide_base.specs.declared.range.Range.{Range}
-use Rattle.data_shapes.specs.declared.variant.Variant.{Variant}
-use Rattle.data_shapes.specs.Bodies.{text_body, range_body, edit_body}
-use Rattle.data_shapes.specs.Each.{◌>>=◌}
-use Rattle.data_shapes.specs.Fits.{IsText, FitsRange, FitsEdit}
-use Rattle.data_shapes.specs.Shapes.{pair_in, bool_in, variant_in, items_in, optional_in}
-use Rattle.data_shapes.specs.Words.{name_in, text_in, range_in, edit_in}
-use Rattle.data_shapes.proofs.KnownFinds.{pair_complete, bool_complete, variant_complete}
-use Rattle.data_shapes.proofs.KnownFound.{pair_sound, bool_sound, variant_sound}
-use Rattle.data_shapes.proofs.KnownItems.{items_found, items_find, optional_found, optional_finds}
-use Rattle.data_shapes.proofs.KnownSteps.{stepped}
-use Rattle.data_shapes.proofs.KnownEdits.{edit_found, edit_finds}
-use Rattle.data_shapes.proofs.KnownWords.{name_found, name_finds, text_found_in, text_finds, range_found, range_finds}
+use Rattle.message_values.specs.declared.variant.Variant.{Variant}
+use Rattle.message_values.specs.ShapeBodies.{text_body, range_body, edit_body}
+use Rattle.message_values.specs.Each.{◌>>=◌}
+use Rattle.message_values.specs.FitsShapes.{IsText, FitsRange, FitsEdit}
+use Rattle.message_values.specs.Shapes.{pair_in, bool_in, variant_in, items_in, optional_in}
+use Rattle.message_values.specs.Words.{name_in, text_in, range_in, edit_in}
+use Rattle.message_values.proofs.KnownFinds.{pair_complete, bool_complete, variant_complete}
+use Rattle.message_values.proofs.KnownFound.{pair_sound, bool_sound, variant_sound}
+use Rattle.message_values.proofs.KnownItems.{items_found, items_find, optional_found, optional_finds}
+use Rattle.message_values.proofs.KnownSteps.{stepped}
+use Rattle.message_values.proofs.KnownEdits.{edit_found, edit_finds}
+use Rattle.message_values.proofs.KnownWords.{name_found, name_finds, text_found_in, text_finds, range_found, range_finds}
 use Rattle.message_values.specs.declared.item.Perspective.{Perspective}
 use Rattle.message_values.specs.declared.item.Change.{Change}
 use Rattle.message_values.specs.declared.item.Change.TheVariants.{Edit, Close}

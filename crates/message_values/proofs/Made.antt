@@ -2,15 +2,15 @@
 use Rattle.std.proofs.Common.{ℕ, inl, inr, List, [], ◌∷◌, Some, decimal, refl, ap, ◌∙◌}
 use Rattle.std.specs.Str.{encode_utf8_all}
 use Rattle.pide_base.specs.Ids.{IsId}
-use Rattle.data_shapes.specs.Bodies.{number_body, edit_body}
-use Rattle.data_shapes.specs.Each.{◌>>=◌}
-use Rattle.data_shapes.specs.Fits.{FitsEdit}
-use Rattle.data_shapes.specs.Numbers.{number_of}
-use Rattle.data_shapes.specs.Shapes.{items_in}
-use Rattle.data_shapes.specs.Texts.{scalars_of}
-use Rattle.data_shapes.specs.Words.{id_in, name_of, edit_in}
-use Rattle.data_shapes.proofs.KnownEdits.{edit_finds}
-use Rattle.data_shapes.proofs.KnownWords.{id_finds, name_complete, scalars_complete}
+use Rattle.message_values.specs.ShapeBodies.{number_body, edit_body}
+use Rattle.message_values.specs.Each.{◌>>=◌}
+use Rattle.message_values.specs.FitsShapes.{FitsEdit}
+use Rattle.message_values.specs.Numbers.{number_of}
+use Rattle.message_values.specs.Shapes.{items_in}
+use Rattle.message_values.specs.Texts.{scalars_of}
+use Rattle.message_values.specs.Words.{id_in, name_of, edit_in}
+use Rattle.message_values.proofs.KnownEdits.{edit_finds}
+use Rattle.message_values.proofs.KnownWords.{id_finds, name_complete, scalars_complete}
 use Rattle.message_values.specs.declared.editor_message.EditorMessage.{EditorMessage}
 use Rattle.message_values.specs.declared.editor_message.EditorMessage.TheVariants as asks
 use Rattle.message_values.specs.Asked.{spelled, id_at}

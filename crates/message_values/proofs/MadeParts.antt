@@ -3,8 +3,8 @@ use Rattle.std.proofs.Common.{◌≡◌, ◌&&◌, ℕ, true, Bool, List, [], �
 use Rattle.std.specs.List.{AllByRecursion}
 use Rattle.std.proofs.lemmas.Bool.{and_from}
 use Rattle.pide_base.specs.Ids.{IsId}
-use Rattle.data_shapes.specs.Each.{◌>>=◌}
-use Rattle.data_shapes.specs.Shapes.{items_in}
+use Rattle.message_values.specs.Each.{◌>>=◌}
+use Rattle.message_values.specs.Shapes.{items_in}
 use Rattle.message_values.specs.declared.editor_message.EditorMessage.{EditorMessage}
 use Rattle.message_values.specs.declared.editor_message.EditorMessage.TheVariants as asks
 use Rattle.message_values.specs.declared.item.BlobChange.{BlobChange}

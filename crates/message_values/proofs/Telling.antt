@@ -2,19 +2,19 @@
 use Rattle.std.proofs.Common.{◌≡◌, ◌↔◌, ℕ, ◌&&◌, ◌==◌, nat_le, true, false, Bool, if◌then◌else◌, List, Option, Some, None, Result, Ok, Err, decimal, refl, ap, subst, ◌∙◌, lit<, arith}
 use Rattle.std.specs.List.{AllByRecursion}
 use Rattle.std.proofs.lemmas.Bool.{eqb-true, leb-true, le-leb, and_parts, and_from}
-use Rattle.xml_tree.specs.declared.tree.Tree.{Tree}
+use Rattle.yxml.specs.declared.tree.Tree.{Tree}
 use Rattle.yxml.specs.declared.fault.YxmlFault.{YxmlFault}
 use Rattle.yxml.specs.Answer.{body_in}
 use Rattle.yxml.specs.Spelling.{Spells}
 use Rattle.pide_base.specs.Ids.{IsId}
-use Rattle.data_shapes.specs.Each.{◌>>=◌}
-use Rattle.data_shapes.specs.Numbers.{number_of}
-use Rattle.data_shapes.specs.Shapes.{items_in}
-use Rattle.data_shapes.specs.Words.{id_of}
-use Rattle.data_shapes.proofs.KnownItems.{items_found, items_find}
-use Rattle.data_shapes.proofs.KnownNumbers.{number_sound, number_complete}
-use Rattle.data_shapes.proofs.KnownSteps.{stepped, tested, passed}
-use Rattle.data_shapes.proofs.KnownWords.{id_sound, id_complete}
+use Rattle.message_values.specs.Each.{◌>>=◌}
+use Rattle.message_values.specs.Numbers.{number_of}
+use Rattle.message_values.specs.Shapes.{items_in}
+use Rattle.message_values.specs.Words.{id_of}
+use Rattle.message_values.proofs.KnownItems.{items_found, items_find}
+use Rattle.message_values.proofs.KnownNumbers.{number_sound, number_complete}
+use Rattle.message_values.proofs.KnownSteps.{stepped, tested, passed}
+use Rattle.message_values.proofs.KnownWords.{id_sound, id_complete}
 use Rattle.message_values.specs.declared.protocol.Protocol.{Protocol}
 use Rattle.message_values.specs.declared.protocol.Protocol.TheVariants.{Scalars, Symbols}
 use Rattle.message_values.specs.Asked.{faultless, spelled, is_there, id_at}

@@ -1,14 +1,14 @@
 -- What a message asks, or the first reason for which it is refused.
 use Rattle.std.specs.Prelude.{ℕ, Bool, true, ◌&&◌, if◌then◌else◌, List, [], ◌∷◌, length, drop, map, Option, Some, None, Result, Ok, Err}
 use Rattle.std.specs.Str.{is_utf8}
-use Rattle.xml_tree.specs.declared.tree.Tree.{Tree}
+use Rattle.yxml.specs.declared.tree.Tree.{Tree}
 use Rattle.yxml.specs.Answer.{body_in}
 use Rattle.yxml.specs.declared.fault.YxmlFault.{YxmlFault}
-use Rattle.data_shapes.specs.Each.{◌>>=◌}
-use Rattle.data_shapes.specs.Numbers.{number_of}
-use Rattle.data_shapes.specs.Shapes.{items_in}
-use Rattle.data_shapes.specs.Texts.{scalars_of}
-use Rattle.data_shapes.specs.Words.{id_of, id_in, name_of, edit_in}
+use Rattle.message_values.specs.Each.{◌>>=◌}
+use Rattle.message_values.specs.Numbers.{number_of}
+use Rattle.message_values.specs.Shapes.{items_in}
+use Rattle.message_values.specs.Texts.{scalars_of}
+use Rattle.message_values.specs.Words.{id_of, id_in, name_of, edit_in}
 use Rattle.message_values.specs.declared.editor_message.EditorMessage.{EditorMessage}
 use Rattle.message_values.specs.declared.editor_message.EditorMessage.TheVariants as asks
 use Rattle.message_values.specs.declared.function.Function.{Function}

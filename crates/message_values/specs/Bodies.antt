@@ -1,8 +1,8 @@
 -- What stands in a message's data (this project's own, in Isabelle's encoding).
 use Rattle.std.specs.Prelude.{List, [], map, option_map}
-use Rattle.xml_tree.specs.declared.tree.Tree.{Tree}
+use Rattle.yxml.specs.declared.tree.Tree.{Tree}
 use Rattle.xml_codec.specs.Data.{string_body, bool_body, pair_body, list_body, option_body, variant_body}
-use Rattle.data_shapes.specs.Bodies.{text_body, range_body, edit_body}
+use Rattle.message_values.specs.ShapeBodies.{text_body, range_body, edit_body}
 use Rattle.message_values.specs.declared.item.Perspective.{Perspective}
 use Rattle.message_values.specs.declared.item.Change.{Change}
 use Rattle.message_values.specs.declared.item.Change.TheVariants.{Edit, Close}

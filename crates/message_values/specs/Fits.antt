@@ -3,7 +3,7 @@ use Rattle.std.specs.Prelude.{◌≡◌, true, IfSome}
 use Rattle.std.specs.List.{AllByRecursion}
 use Rattle.pide_base.specs.Ids.{IsId}
 use Rattle.pide_base.specs.NodeName.{is_node_name}
-use Rattle.data_shapes.specs.Fits.{IsText, FitsRange, FitsEdit}
+use Rattle.message_values.specs.FitsShapes.{IsText, FitsRange, FitsEdit}
 use Rattle.message_values.specs.declared.editor_message.EditorMessage.{EditorMessage}
 use Rattle.message_values.specs.declared.editor_message.EditorMessage.TheVariants as asks
 use Rattle.message_values.specs.declared.item.Perspective.{Perspective}

@@ -1,9 +1,9 @@
 -- Which items and blobs bodies encode.
 use Rattle.std.specs.Prelude.{ℕ, ◌==◌, if◌then◌else◌, List, [], ◌∷◌, Option, Some, None}
-use Rattle.xml_tree.specs.declared.tree.Tree.{Tree}
-use Rattle.data_shapes.specs.Each.{◌>>=◌}
-use Rattle.data_shapes.specs.Shapes.{pair_in, bool_in, variant_in, items_in, optional_in}
-use Rattle.data_shapes.specs.Words.{name_in, text_in, range_in, edit_in}
+use Rattle.yxml.specs.declared.tree.Tree.{Tree}
+use Rattle.message_values.specs.Each.{◌>>=◌}
+use Rattle.message_values.specs.Shapes.{pair_in, bool_in, variant_in, items_in, optional_in}
+use Rattle.message_values.specs.Words.{name_in, text_in, range_in, edit_in}
 use Rattle.message_values.specs.declared.item.Perspective.{Perspective}
 use Rattle.message_values.specs.declared.item.Change.{Change}
 use Rattle.message_values.specs.declared.item.Change.TheVariants.{Edit, Close}

@@ -1,3 +1,15 @@
+pub mod Attributes
+pub mod Chunks
+pub mod Inside
+pub mod LentMarks
+pub mod ShapeBodies
+pub mod Each
+pub mod FitsShapes
+pub mod Numbers
+pub mod Reads
+pub mod Shapes
+pub mod Texts
+pub mod Words
 pub mod Asked
 pub mod Bodies
 pub mod Fits
@@ -7,4 +19,3 @@ pub mod Protocols
 pub mod Refusals
 pub mod Spelled
 pub mod Workers
-pub use Rattle.doc_nodes.specs as doc_nodes_below

@@ -2,10 +2,10 @@
 use Rattle.std.specs.Prelude.{◌≡◌, ℕ, ◌⊎◌, true, List, [], ◌∷◌, map, decimal}
 use Rattle.std.specs.List.{AllByRecursion}
 use Rattle.std.specs.Str.{is_utf8, encode_utf8_all}
-use Rattle.xml_tree.specs.declared.tree.Tree.{Tree}
+use Rattle.yxml.specs.declared.tree.Tree.{Tree}
 use Rattle.yxml.specs.Spelling.{Spells}
 use Rattle.xml_codec.specs.Data.{list_body}
-use Rattle.data_shapes.specs.Bodies.{number_body, edit_body}
+use Rattle.message_values.specs.ShapeBodies.{number_body, edit_body}
 use Rattle.message_values.specs.declared.editor_message.EditorMessage.{EditorMessage}
 use Rattle.message_values.specs.declared.editor_message.EditorMessage.TheVariants as asks
 use Rattle.message_values.specs.declared.function.Function.{Function}

@@ -1,13 +1,15 @@
 //! Items and blobs read from the bodies that encode them.
 ghost use Rattle.std.specs.Prelude.{[]};
-ghost use Rattle.data_shapes.specs.Reads.{Reads};
-ghost use Rattle.data_shapes.specs.Words.{name_in};
+ghost use Rattle.message_values.specs.Reads.{Reads};
+ghost use Rattle.message_values.specs.Words.{name_in};
 ghost use Rattle.message_values.specs.Items.{edited_in, change_of};
 
+use crate::body::LentBody;
+use crate::fault::ShapeFault;
 use crate::item::{BlobChange, Change, Item, Perspective};
-use data_shapes::{
-    LentBody, Shape, ShapeFault, list_of, optional_of, pair_of, string_of, variant_of,
-};
+use crate::leaf::{pair_of, string_of};
+use crate::shape::{Shape, list_of, optional_of};
+use crate::variant::variant_of;
 use doc_nodes::BlobName;
 use pide_base::NodeName;
 use std::alloc::Global;

@@ -3,8 +3,8 @@ use Rattle.std.specs.Prelude.{ℕ, Bool, true, false, Option, Some, None, Result
 use Rattle.message_values.specs.declared.editor_message.EditorMessage.{EditorMessage}
 use Rattle.message_values.specs.declared.editor_message.EditorMessage.TheVariants as asks
 use Rattle.message_values.specs.declared.refusal.Refusal.{Refusal}
-use Rattle.reply_writing.specs.declared.told.Told.{Told}
-use Rattle.reply_writing.specs.declared.told.Told.TheVariants as tells
+use Rattle.reply_messages.specs.declared.told.Told.{Told}
+use Rattle.reply_messages.specs.declared.told.Told.TheVariants as tells
 
 -- what was sent, as it is read: what it asks, or why its chunks are refused
 abbrev pub Read : Type 0

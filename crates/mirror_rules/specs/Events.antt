@@ -3,7 +3,7 @@ use Rattle.std.specs.Prelude.{◌≡◌, ℕ, List, [], ◌∷◌, ◌++◌, len
 use Rattle.byte_message.specs.Stream.{IsSpelling, IsShort, EndsAs, Bad}
 use Rattle.message_values.specs.declared.mode.Mode.{Mode}
 use Rattle.message_values.specs.Asked.{asked}
-use Rattle.reply_reading.specs.Replies.{FindsReply}
+use Rattle.reply_messages.specs.FoundReplies.{FindsReply}
 use Rattle.mirror_rules.specs.Moves.{Move, Sent, Heard, Broken}
 
 -- the chunks of a message that was sent, or a piece of what was heard

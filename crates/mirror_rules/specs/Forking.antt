@@ -3,11 +3,11 @@
 use Rattle.std.specs.Prelude.{ℕ, ◌&&◌, Bool, true, false, not, List, [], ◌∷◌, codes}
 use Rattle.std.specs.Prelude.{Option, Some, None}
 use Rattle.std.specs.List.{list_all}
-use Rattle.outer_tokens.specs.Kinds.{is_command}
-use Rattle.outer_tokens.specs.Tokens.{text_of}
-use Rattle.outer_tokens.specs.declared.token.Token.{Token}
+use Rattle.outer_syntax.specs.Kinds.{is_command}
+use Rattle.outer_syntax.specs.Tokens.{text_of}
+use Rattle.outer_syntax.specs.declared.token.Token.{Token}
 use Rattle.doc_nodes.specs.Names.{equal}
-use Rattle.doc_blobs.specs.Needs.{AliasList, meant, source_tokens}
+use Rattle.doc_nodes.specs.Needs.{AliasList, meant, source_tokens}
 use Rattle.report_markup.specs.declared.kind.ReportKind.{ReportKind}
 use Rattle.report_markup.specs.declared.kind.ReportKind.TheVariants.{Error}
 use Rattle.report_markup.specs.declared.report.Report.{Report}

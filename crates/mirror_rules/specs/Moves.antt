@@ -3,7 +3,7 @@ use Rattle.std.specs.Prelude.{ℕ, List, [], ◌∷◌, ◌++◌, Option, Some, 
 use Rattle.byte_message.specs.Stream.{told_place}
 use Rattle.byte_message.specs.declared.frame_fault.FrameFault.{FrameFault}
 use Rattle.message_values.specs.declared.mode.Mode.{Mode}
-use Rattle.reply_writing.specs.declared.told.Told.{Told}
+use Rattle.reply_messages.specs.declared.told.Told.{Told}
 use Rattle.mirror_rules.specs.declared.fault.MirrorFault.{MirrorFault}
 use Rattle.mirror_rules.specs.declared.fault.MirrorFault.TheVariants.{Frame, Unexpected}
 use Rattle.mirror_rules.specs.Images.{Mirror, empty_mirror}

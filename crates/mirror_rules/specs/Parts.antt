@@ -9,7 +9,7 @@ use Rattle.doc_nodes.specs.declared.node.Entry.{Entry}
 use Rattle.doc_nodes.specs.declared.node.Node.{Node}
 use Rattle.doc_nodes.specs.Imports.{NodeList}
 use Rattle.doc_nodes.specs.Aliases.{aliases_at}
-use Rattle.doc_blobs.specs.Needs.{AliasList}
+use Rattle.doc_nodes.specs.Needs.{AliasList}
 use Rattle.mirror_rules.specs.Forking.{may_fork, forks_by}
 use Rattle.buffer_rules.specs.Cuts.{source}
 use Rattle.core_rules.specs.Parts.{same_part}

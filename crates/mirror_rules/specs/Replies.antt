@@ -8,8 +8,8 @@ use Rattle.core_tables.specs.Removal.{left}
 use Rattle.message_values.specs.declared.editor_message.EditorMessage.TheVariants as asks
 use Rattle.message_values.specs.declared.mode.Mode.{Mode}
 use Rattle.message_values.specs.declared.mode.Mode.TheVariants as mode
-use Rattle.reply_writing.specs.declared.told.Told.{Told}
-use Rattle.reply_writing.specs.declared.told.Told.TheVariants as tells
+use Rattle.reply_messages.specs.declared.told.Told.{Told}
+use Rattle.reply_messages.specs.declared.told.Told.TheVariants as tells
 use Rattle.mirror_rules.specs.Images.{Image, Mirror}
 use Rattle.mirror_rules.specs.Reports.{PartReport, with_report}
 use Rattle.mirror_rules.specs.Updates.{buffer_after, after_update}

@@ -4,7 +4,7 @@ use Rattle.std.specs.List.{list_any, list_all}
 use Rattle.text_words.specs.Members.{has}
 use Rattle.pide_base.specs.declared.part.Part.{Part}
 use Rattle.pide_base.specs.declared.range.Range.{Range}
-use Rattle.symbols.specs.Symbols.{symbols_of}
+use Rattle.outer_syntax.specs.Symbols.{symbols_of}
 use Rattle.symbol_markup.specs.Told.{at_scalars}
 use Rattle.report_markup.specs.declared.report.Report.{Report}
 use Rattle.doc_nodes.specs.declared.node.Entry.{Entry}

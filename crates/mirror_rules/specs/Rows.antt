@@ -9,7 +9,7 @@ use Rattle.doc_nodes.specs.declared.node.Node.{Node}
 use Rattle.doc_nodes.specs.Names.{in_order, equal}
 use Rattle.doc_nodes.specs.Imports.{NodeList}
 use Rattle.exec_rules.specs.Listed.{Told}
-use Rattle.reply_writing.specs.declared.told.NodeRows.{NodeRows}
+use Rattle.reply_messages.specs.declared.told.NodeRows.{NodeRows}
 use Rattle.mirror_rules.specs.Images.{Image}
 
 -- the executions of the command of an id among the rows of a node

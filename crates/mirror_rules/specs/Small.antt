@@ -10,8 +10,8 @@ use Rattle.message_values.specs.declared.item.Item.{Item}
 use Rattle.message_values.specs.declared.mode.Mode.TheVariants.{Serve}
 use Rattle.message_values.specs.declared.refusal.Refusal.{Refusal}
 use Rattle.exec_rules.specs.Listed.{Told as RowTold}
-use Rattle.reply_writing.specs.declared.told.NodeRows.{NodeRows}
-use Rattle.reply_writing.specs.declared.told.Told.{Told}
+use Rattle.reply_messages.specs.declared.told.NodeRows.{NodeRows}
+use Rattle.reply_messages.specs.declared.told.Told.{Told}
 use Rattle.mirror_rules.specs.declared.fault.MirrorFault.{MirrorFault}
 use Rattle.mirror_rules.specs.Moves.{Move, Sent, Heard, Reflection, Going, Faulted, mirrored}
 use Rattle.mirror_rules.specs.Looking.{View, view_in}

@@ -4,9 +4,9 @@ use Rattle.std.specs.List.{list_any}
 use Rattle.message_values.specs.declared.editor_message.EditorMessage.TheVariants as asks
 use Rattle.message_values.specs.declared.refusal.Refusal.{Refusal}
 use Rattle.buffer_rules.specs.Preparing.{Buffer}
-use Rattle.reply_writing.specs.declared.told.NodeRows.{NodeRows}
-use Rattle.reply_writing.specs.declared.told.Told.{Told}
-use Rattle.reply_writing.specs.declared.told.Told.TheVariants as tells
+use Rattle.reply_messages.specs.declared.told.NodeRows.{NodeRows}
+use Rattle.reply_messages.specs.declared.told.Told.{Told}
+use Rattle.reply_messages.specs.declared.told.Told.TheVariants as tells
 use Rattle.mirror_rules.specs.Images.{Mirror}
 use Rattle.mirror_rules.specs.Rows.{is_unknown}
 use Rattle.mirror_rules.specs.Reports.{belongs_in}

@@ -7,7 +7,7 @@ use Rattle.message_values.specs.declared.refusal.Refusal.TheVariants.{VersionNot
 use Rattle.buffer_rules.specs.Updates.{Asked}
 use Rattle.buffer_rules.specs.Preparing.{Buffer, prepared}
 use Rattle.exec_rules.specs.Listed.{Told}
-use Rattle.reply_writing.specs.declared.told.NodeRows.{NodeRows}
+use Rattle.reply_messages.specs.declared.told.NodeRows.{NodeRows}
 use Rattle.mirror_rules.specs.Images.{FinishedPart, Image, Mirror}
 use Rattle.mirror_rules.specs.Rows.{executions_of, node_rows}
 

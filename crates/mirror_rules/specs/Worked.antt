@@ -8,7 +8,7 @@ use Rattle.message_values.specs.declared.protocol.Protocol.TheVariants.{Symbols}
 use Rattle.message_values.specs.declared.refusal.Refusal.{Refusal}
 use Rattle.message_values.specs.declared.refusal.Refusal.TheVariants.{UnknownVersion, UnknownNode}
 use Rattle.buffer_rules.specs.Examples.{opens, edits}
-use Rattle.reply_writing.specs.declared.told.Told.TheVariants as tells
+use Rattle.reply_messages.specs.declared.told.Told.TheVariants as tells
 use Rattle.mirror_rules.specs.Moves.{Move}
 use Rattle.mirror_rules.specs.Looking.{View}
 use Rattle.mirror_rules.specs.Small.{said, eval, update, rows, hears, exchange, sight}

@@ -5,7 +5,7 @@ use Rattle.report_markup.specs.declared.kind.ReportKind.TheVariants as report
 use Rattle.message_values.specs.declared.editor_message.EditorMessage.TheVariants as asks
 use Rattle.message_values.specs.declared.mode.Mode.TheVariants.{Replay}
 use Rattle.message_values.specs.declared.refusal.Refusal.TheVariants.{VersionNotHigher}
-use Rattle.reply_writing.specs.declared.told.Told.TheVariants as tells
+use Rattle.reply_messages.specs.declared.told.Told.TheVariants as tells
 use Rattle.mirror_rules.specs.declared.fault.MirrorFault.{MirrorFault}
 use Rattle.mirror_rules.specs.declared.fault.MirrorFault.TheVariants.{Frame, Unexpected}
 use Rattle.mirror_rules.specs.Moves.{Move, Heard, Broken, mirrored}

@@ -1,6 +1,6 @@
 -- Which commands fork, computed (this project's own).
 use Rattle.std.specs.Prelude.{◌≡◌, true, false, [], ◌∷◌, codes, Some, None}
-use Rattle.doc_blobs.specs.Needs.{AliasList}
+use Rattle.doc_nodes.specs.Needs.{AliasList}
 use Rattle.report_markup.specs.declared.kind.ReportKind.{ReportKind}
 use Rattle.report_markup.specs.declared.kind.ReportKind.TheVariants.{Command, Error}
 use Rattle.report_markup.specs.declared.report.Report.{Report}

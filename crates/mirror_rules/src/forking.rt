@@ -3,9 +3,8 @@ ghost use Rattle.std.specs.Prelude.{◌≡◌, codes};
 ghost use Rattle.doc_nodes.specs.Names.{equal};
 ghost use Rattle.mirror_rules.specs.Forking.{is_by, may_fork};
 
-use doc_blobs::meant;
-use doc_nodes::Aliases;
-use outer_tokens::{Kind, Token, next_proper, scalars};
+use doc_nodes::{Aliases, meant};
+use outer_syntax::{Kind, Token, next_proper, scalars};
 use std::cmp::Ordering;
 
 /// Whether the command of this source, in scalars, may fork: its first proper token is `by` or an

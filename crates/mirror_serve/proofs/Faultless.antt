@@ -4,9 +4,9 @@ use Rattle.std.specs.List.{AllByRecursion}
 use Rattle.text_words.proofs.KnownLists.{each-part}
 use Rattle.language.specs.Lang.{Lang}
 use Rattle.message_values.specs.declared.mode.Mode.{Mode}
-use Rattle.reply_writing.specs.declared.told.Told.{Told}
-use Rattle.reply_writing.specs.Replies.{reply_chunks}
-use Rattle.reply_reading.specs.Replies.{IsReply}
+use Rattle.reply_messages.specs.declared.told.Told.{Told}
+use Rattle.reply_messages.specs.Replies.{reply_chunks}
+use Rattle.reply_messages.specs.FoundReplies.{IsReply}
 use Rattle.session_rules.specs.declared.entry.Entry.{Entry}
 use Rattle.session_rules.specs.declared.service.Service.{Service}
 use Rattle.session_rules.specs.Heard.{all_heard, heard}
@@ -16,11 +16,11 @@ use Rattle.session_rules.specs.Services.{mode_of}
 use Rattle.mirror_rules.specs.Answers.{Read}
 use Rattle.mirror_rules.specs.Moves.{Move, Heard, mirrored, next_reflection}
 use Rattle.mirror_rules.specs.Small.{fault_in}
-use Rattle.mirror_laws.specs.Follows.{AreHeard, Follows, call_of, calls}
-use Rattle.mirror_laws.specs.Shown.{SeesSo}
-use Rattle.mirror_laws.proofs.KnownOneReply.{AtMostOne, one_told}
-use Rattle.mirror_laws.proofs.KnownReadings.{StreamLaws}
-use Rattle.mirror_laws.proofs.KnownWalking.{first_of, follows_entry}
+use Rattle.editor_laws.specs.Follows.{AreHeard, Follows, call_of, calls}
+use Rattle.editor_laws.specs.Shown.{SeesSo}
+use Rattle.editor_laws.proofs.KnownOneReply.{AtMostOne, one_told}
+use Rattle.editor_laws.proofs.KnownReadings.{StreamLaws}
+use Rattle.editor_laws.proofs.KnownWalking.{first_of, follows_entry}
 use Rattle.pide_mirror.specs.Hearing.{Hearing}
 use Rattle.mirror_serve.specs.Heard.{FaultsAt, HearsAll, MeetsFault}
 use Rattle.mirror_serve.specs.Resting.{IsImageOf}

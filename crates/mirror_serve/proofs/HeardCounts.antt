@@ -2,7 +2,7 @@
 use Rattle.std.proofs.Common.{◌≡◌, ℕ, List, [], ◌∷◌, ◌++◌, length, sym, ap, arith, ◌+◌}
 use Rattle.std.proofs.lemmas.List.{length-append}
 use Rattle.mirror_rules.specs.Moves.{Move, Sent, Heard, Broken}
-use Rattle.mirror_laws.proofs.KnownReadings.{HeardAs}
+use Rattle.editor_laws.proofs.KnownReadings.{HeardAs}
 
 -- each message that was heard is one move
 pub heard_count : (moves : List Move) (messages : List (List (List ℕ))) → HeardAs moves messages → length moves ≡ length messages

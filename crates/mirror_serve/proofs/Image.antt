@@ -5,7 +5,7 @@ use Rattle.std.proofs.lemmas.List.{append_cancel_left}
 use Rattle.language.specs.Lang.{Lang}
 use Rattle.message_values.specs.Asked.{asked}
 use Rattle.message_values.specs.declared.mode.Mode.{Mode}
-use Rattle.reply_writing.specs.declared.told.Told.{Told}
+use Rattle.reply_messages.specs.declared.told.Told.{Told}
 use Rattle.session_rules.specs.declared.entry.Entry.{Entry}
 use Rattle.session_rules.specs.declared.entry.Entry.TheVariants as entry
 use Rattle.session_rules.specs.declared.service.Service.{Service}
@@ -17,8 +17,8 @@ use Rattle.mirror_rules.specs.Images.{Mirror}
 use Rattle.mirror_rules.specs.Moves.{Move, Sent, Heard, Going, mirrored, next_reflection, reflection_by}
 use Rattle.mirror_rules.specs.Replies.{after_answer, after_first_answer, after_reply, mirror_after}
 use Rattle.mirror_rules.specs.Unexpected.{is_unexpected}
-use Rattle.mirror_laws.specs.Follows.{AreFirst, AreHeard, Follows, call_of, calls}
-use Rattle.mirror_laws.proofs.KnownWalking.{calls_both, first_of, follows_ahead, follows_entry, follows_send}
+use Rattle.editor_laws.specs.Follows.{AreFirst, AreHeard, Follows, call_of, calls}
+use Rattle.editor_laws.proofs.KnownWalking.{calls_both, first_of, follows_ahead, follows_entry, follows_send}
 use Rattle.pide_mirror.specs.Hearing.{Hearing}
 use Rattle.mirror_serve.specs.Resting.{IsBetween, IsImageOf}
 

@@ -9,7 +9,7 @@ use Rattle.reply_outbox.specs.declared.item.Item.TheVariants.{Opened}
 use Rattle.session_rules.specs.declared.entry.Entry.{Entry}
 use Rattle.session_rules.specs.declared.entry.Entry.TheVariants as entry
 use Rattle.session_rules.specs.declared.service.Service.{Service}
-use Rattle.mirror_laws.specs.Streams.{all_replies}
+use Rattle.editor_laws.specs.Streams.{all_replies}
 use Rattle.session_rules.specs.Steps.{Nothing, due}
 use Rattle.document_session.specs.keeping_rules_below.Items.{SessionItem, heard_in}
 use Rattle.document_session.specs.Contents.{SessionState}

@@ -6,14 +6,14 @@ use Rattle.std.proofs.lemmas.List.Concat.{flat_map-append}
 use Rattle.text_words.proofs.KnownLists.{each-both}
 use Rattle.byte_message.specs.Long.{long_lengths}
 use Rattle.language.specs.Lang.{Lang}
-use Rattle.reply_writing.specs.declared.told.Told.{Told}
-use Rattle.reply_writing.specs.declared.told.Told.TheVariants as tells
-use Rattle.reply_writing.specs.Replies.{reply_chunks}
+use Rattle.reply_messages.specs.declared.told.Told.{Told}
+use Rattle.reply_messages.specs.declared.told.Told.TheVariants as tells
+use Rattle.reply_messages.specs.Replies.{reply_chunks}
 use Rattle.session_rules.specs.declared.entry.Entry.{Entry}
 use Rattle.session_rules.specs.declared.service.Service.{Service}
 use Rattle.session_rules.specs.Heard.{all_heard, heard}
 use Rattle.session_rules.specs.Replies.{entry_replies}
-use Rattle.mirror_laws.specs.Streams.{all_replies}
+use Rattle.editor_laws.specs.Streams.{all_replies}
 use Rattle.pide_mirror.specs.Hearing.{Hearing}
 use Rattle.mirror_serve.specs.Heard.{HearsAll, IsFirstLong, TellsLong}
 use Rattle.mirror_serve.specs.LongReplies.{too_long, too_long_in}

@@ -15,8 +15,8 @@ use Rattle.message_values.specs.declared.refusal.Refusal.TheVariants.{UnknownVer
 use Rattle.message_values.specs.Asked.{or_refused}
 use Rattle.buffer_rules.specs.Texts.{edit_all}
 use Rattle.buffer_rules.specs.Trying.{◌>>=◌}
-use Rattle.reply_writing.specs.declared.told.Told.{Told}
-use Rattle.reply_writing.specs.declared.told.Told.TheVariants as tells
+use Rattle.reply_messages.specs.declared.told.Told.{Told}
+use Rattle.reply_messages.specs.declared.told.Told.TheVariants as tells
 use Rattle.session_rules.specs.declared.service.Service.{Service}
 use Rattle.session_rules.specs.Accepting.{taken}
 use Rattle.session_rules.specs.Looking.{Looked, looked_at}
@@ -29,7 +29,7 @@ use Rattle.mirror_rules.specs.Images.{Image, Mirror}
 use Rattle.pide_mirror.specs.Looking.{NodeShown, node_of}
 use Rattle.mirror_rules.specs.Looking.{View, text_at, view_in, view_of}
 use Rattle.mirror_rules.specs.Parts.{node_parts}
-use Rattle.mirror_laws.specs.Shown.{view_shown}
+use Rattle.editor_laws.specs.Shown.{view_shown}
 use Rattle.mirror_serve.specs.Looks.{markup_in, text_in}
 use Rattle.mirror_serve.proofs.SameTexts.{same_texts}
 

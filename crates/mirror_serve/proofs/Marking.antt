@@ -4,7 +4,7 @@ use Rattle.text_edits.specs.declared.edit.Edit.{Edit}
 use Rattle.message_values.specs.declared.protocol.Protocol.{Protocol}
 use Rattle.message_values.specs.declared.refusal.Refusal.{Refusal}
 use Rattle.buffer_rules.specs.Trying.{◌>>=◌}
-use Rattle.reply_writing.specs.declared.told.Told.{Told}
+use Rattle.reply_messages.specs.declared.told.Told.{Told}
 use Rattle.document_session.specs.session_replies_below.Spelling.{reply_spelling}
 use Rattle.mirror_rules.specs.Images.{Mirror}
 use Rattle.mirror_rules.specs.Looking.{View, view_in}

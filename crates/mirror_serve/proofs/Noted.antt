@@ -8,8 +8,8 @@ use Rattle.message_values.specs.declared.mode.Mode.TheVariants.{Serve}
 use Rattle.message_values.specs.declared.protocol.Protocol.{Protocol}
 use Rattle.message_values.specs.declared.refusal.Refusal.{Refusal}
 use Rattle.message_values.specs.Asked.{asked}
-use Rattle.reply_writing.specs.declared.told.Told.{Told}
-use Rattle.reply_writing.specs.declared.told.Told.TheVariants as tells
+use Rattle.reply_messages.specs.declared.told.Told.{Told}
+use Rattle.reply_messages.specs.declared.told.Told.TheVariants as tells
 use Rattle.reply_outbox.specs.declared.item.Item.TheVariants.{Made}
 use Rattle.reply_outbox.specs.Items.{entries}
 use Rattle.session_rules.specs.declared.entry.Entry.{Entry}
@@ -32,7 +32,7 @@ use Rattle.document_session.specs.Contents.{SessionState}
 use Rattle.mirror_rules.specs.Images.{Mirror}
 use Rattle.mirror_rules.specs.Looking.{view_in}
 use Rattle.mirror_rules.specs.Moves.{mirrored}
-use Rattle.mirror_laws.specs.Shown.{view_shown}
+use Rattle.editor_laws.specs.Shown.{view_shown}
 use Rattle.pide_mirror.specs.Looking.{Answers, LooksSo}
 use Rattle.pide_mirror.specs.declared.look_error.LookError.{LookError}
 use Rattle.pide_mirror.specs.declared.look_error.LookError.TheVariants as look

@@ -3,9 +3,9 @@ use Rattle.std.proofs.Common.{◌≡◌, ℕ, List, [], ◌∷◌, ◌++◌, len
 use Rattle.byte_message.specs.Stream.{IsMessage, IsSpelling, plain_spelling, told_place}
 use Rattle.message_values.specs.declared.mode.Mode.{Mode}
 use Rattle.message_values.specs.Asked.{asked}
-use Rattle.reply_writing.specs.declared.told.Told.{Told}
-use Rattle.reply_writing.specs.Replies.{reply_chunks}
-use Rattle.reply_reading.specs.Replies.{IsReply}
+use Rattle.reply_messages.specs.declared.told.Told.{Told}
+use Rattle.reply_messages.specs.Replies.{reply_chunks}
+use Rattle.reply_messages.specs.FoundReplies.{IsReply}
 use Rattle.mirror_rules.specs.Events.{AreMoves, AreSpelled, MirrorEvent, Fed, Given, heard_moves, stream}
 use Rattle.mirror_rules.specs.Moves.{Move, Sent, Heard}
 use Rattle.pide_mirror.specs.Feeding.{Hears}

@@ -6,13 +6,13 @@ use Rattle.byte_message.specs.Stream.Ending.{Whole, Bad}
 use Rattle.byte_message.specs.declared.frame_fault.FrameFault.{FrameFault}
 use Rattle.byte_message.specs.Stream.{plain_spelling, told_place}
 use Rattle.message_values.specs.declared.mode.Mode.{Mode}
-use Rattle.reply_writing.specs.declared.told.Told.{Told}
-use Rattle.reply_writing.specs.Replies.{reply_chunks}
-use Rattle.reply_reading.specs.Replies.{FindsReply, IsReply}
+use Rattle.reply_messages.specs.declared.told.Told.{Told}
+use Rattle.reply_messages.specs.Replies.{reply_chunks}
+use Rattle.reply_messages.specs.FoundReplies.{FindsReply, IsReply}
 use Rattle.mirror_rules.specs.Events.{AreHeard, AreMoves, Fed, heard_moves, stream}
 use Rattle.mirror_rules.specs.Moves.{Move, Sent, Heard, Broken}
 use Rattle.mirror_rules.proofs.KnownMoves.{heard_both}
-use Rattle.mirror_laws.proofs.KnownReadings.{HeardAs, StreamLaws, heard_read, spelled_more, spelled_moves}
+use Rattle.editor_laws.proofs.KnownReadings.{HeardAs, StreamLaws, heard_read, spelled_more, spelled_moves}
 use Rattle.pide_mirror.specs.Feeding.{HearsFront}
 use Rattle.pide_mirror.specs.Hearing.{HasHeard, Hearing, told_moves}
 use Rattle.mirror_serve.specs.Resting.{IsBetween}

@@ -5,7 +5,7 @@ use Rattle.std.specs.List.{AllByRecursion}
 use Rattle.text_words.proofs.KnownLists.{each-part}
 use Rattle.language.specs.Lang.{Lang}
 use Rattle.message_values.specs.Asked.{asked}
-use Rattle.reply_reading.specs.Replies.{IsReply}
+use Rattle.reply_messages.specs.FoundReplies.{IsReply}
 use Rattle.session_rules.specs.declared.entry.Entry.{Entry}
 use Rattle.session_rules.specs.declared.entry.Entry.TheVariants as entry
 use Rattle.session_rules.specs.declared.service.Service.{Service}
@@ -15,9 +15,9 @@ use Rattle.session_rules.specs.Services.{mode_of}
 use Rattle.document_session.specs.keeping_rules_below.Pieces.{pieces}
 use Rattle.mirror_rules.specs.Answers.{Read}
 use Rattle.mirror_rules.specs.Moves.{Move, Sent}
-use Rattle.mirror_laws.specs.Follows.{AreFirst, Follows, call_of, calls}
-use Rattle.mirror_laws.specs.Streams.{all_replies}
-use Rattle.mirror_laws.proofs.KnownWalking.{calls_both}
+use Rattle.editor_laws.specs.Follows.{AreFirst, Follows, call_of, calls}
+use Rattle.editor_laws.specs.Streams.{all_replies}
+use Rattle.editor_laws.proofs.KnownWalking.{calls_both}
 use Rattle.pide_mirror.specs.Hearing.{Hearing}
 use Rattle.mirror_serve.specs.Heard.{HearsAll}
 use Rattle.mirror_serve.specs.Resting.{IsBetween, IsImageOf}

@@ -7,7 +7,7 @@ use Rattle.message_values.specs.declared.mode.Mode.TheVariants.{Serve}
 use Rattle.message_values.specs.Asked.{asked}
 use Rattle.message_input.specs.declared.answering.Halt.TheVariants as halt
 use Rattle.reply_outbox.specs.Items.{entries}
-use Rattle.reply_reading.specs.Replies.{IsReply}
+use Rattle.reply_messages.specs.FoundReplies.{IsReply}
 use Rattle.session_rules.specs.declared.entry.Entry.{Entry}
 use Rattle.session_rules.specs.declared.entry.Entry.TheVariants as entry
 use Rattle.session_rules.specs.declared.service.Service.{Service}
@@ -21,7 +21,7 @@ use Rattle.document_serve.specs.Listening.{HearsOn, replies_sent}
 use Rattle.document_serve.specs.Runs.{GoesOn, IsEnded}
 use Rattle.document_serve.specs.Served.{AllSent, HasAnswered}
 use Rattle.editor_laws.specs.Heard.{AreMessages}
-use Rattle.mirror_laws.specs.Streams.{all_replies}
+use Rattle.editor_laws.specs.Streams.{all_replies}
 use Rattle.mirror_rules.specs.Events.{MirrorEvent, Given}
 use Rattle.mirror_rules.specs.Moves.{Sent}
 use Rattle.pide_mirror.specs.Hearing.{HasHeard, Hearing}

@@ -12,9 +12,9 @@ use Rattle.message_values.specs.declared.editor_message.EditorMessage.{EditorMes
 use Rattle.message_values.specs.declared.editor_message.EditorMessage.TheVariants as asks
 use Rattle.message_values.specs.declared.refusal.Refusal.{Refusal}
 use Rattle.buffer_rules.specs.Trying.{◌>>=◌}
-use Rattle.reply_writing.specs.declared.told.Told.{Told}
-use Rattle.reply_writing.specs.declared.told.Told.TheVariants as tells
-use Rattle.reply_writing.specs.Replies.{reply_chunks}
+use Rattle.reply_messages.specs.declared.told.Told.{Told}
+use Rattle.reply_messages.specs.declared.told.Told.TheVariants as tells
+use Rattle.reply_messages.specs.Replies.{reply_chunks}
 use Rattle.session_rules.specs.declared.service.Service.{Service}
 use Rattle.session_rules.specs.Accepting.{accepted}
 use Rattle.session_rules.specs.Heard.{Heard, Message, Claimed, Finished, Dropped, Ended}

@@ -6,7 +6,7 @@ use Rattle.byte_message.specs.Stream.{IsMessage}
 use Rattle.language.specs.Lang.{Lang}
 use Rattle.message_values.specs.Asked.{asked}
 use Rattle.reply_outbox.specs.Items.{entries}
-use Rattle.reply_reading.specs.Replies.{IsReply}
+use Rattle.reply_messages.specs.FoundReplies.{IsReply}
 use Rattle.session_rules.specs.declared.entry.Entry.{Entry}
 use Rattle.session_rules.specs.declared.entry.Entry.TheVariants as entry
 use Rattle.session_rules.specs.declared.service.Service.{Service}
@@ -20,10 +20,10 @@ use Rattle.document_serve.specs.Served.{AllSent, HasAnswered}
 use Rattle.document_serve.specs.Served as served
 use Rattle.mirror_rules.specs.Answers.{Read}
 use Rattle.mirror_rules.specs.Moves.{Move, Sent}
-use Rattle.mirror_laws.specs.Follows.{Follows}
-use Rattle.mirror_laws.specs.Shown.{SeesSo}
-use Rattle.mirror_laws.specs.Streams.{all_replies}
-use Rattle.mirror_laws.proofs.KnownReadings.{StreamLaws}
+use Rattle.editor_laws.specs.Follows.{Follows}
+use Rattle.editor_laws.specs.Shown.{SeesSo}
+use Rattle.editor_laws.specs.Streams.{all_replies}
+use Rattle.editor_laws.proofs.KnownReadings.{StreamLaws}
 use Rattle.editor_laws.specs.Heard.{AreMessages}
 use Rattle.pide_mirror.specs.Hearing.{Hearing}
 use Rattle.mirror_serve.specs.Heard.{HearsAll, IsFirstLong, MeetsFault}

@@ -6,7 +6,7 @@ use Rattle.message_values.specs.declared.editor_message.EditorMessage.TheVariant
 use Rattle.message_values.specs.declared.mode.Mode.TheVariants.{Serve}
 use Rattle.message_values.specs.declared.refusal.Refusal.{Refusal}
 use Rattle.message_values.specs.Asked.{asked}
-use Rattle.reply_writing.specs.declared.told.Told.TheVariants as tells
+use Rattle.reply_messages.specs.declared.told.Told.TheVariants as tells
 use Rattle.reply_outbox.specs.declared.item.Item.TheVariants.{Made}
 use Rattle.reply_outbox.specs.Items.{entries}
 use Rattle.session_rules.specs.declared.entry.Entry.{Entry}
@@ -32,8 +32,8 @@ use Rattle.mirror_rules.specs.Images.{Mirror}
 use Rattle.mirror_rules.specs.Looking.{view_in}
 use Rattle.mirror_rules.specs.Moves.{Going, Move, mirrored}
 use Rattle.mirror_rules.specs.Telling.{IsTold}
-use Rattle.mirror_laws.specs.Follows.{Follows}
-use Rattle.mirror_laws.specs.Shown.{SeesSo, WaitsSo, view_shown}
+use Rattle.editor_laws.specs.Follows.{Follows}
+use Rattle.editor_laws.specs.Shown.{SeesSo, WaitsSo, view_shown}
 use Rattle.mirror_serve.specs.Laws.{MirrorLaws}
 use Rattle.mirror_serve.specs.Resting.{IsImageOf, Rests}
 use Rattle.mirror_serve.specs.declared.ear.Ear.{Ear}

@@ -6,7 +6,7 @@ use Rattle.byte_message.specs.Limits.{longest_chunk}
 use Rattle.message_values.specs.declared.refusal.Refusal.{Refusal}
 use Rattle.message_values.specs.declared.refusal.Refusal.TheVariants as refused
 use Rattle.message_values.specs.Refusals.{refusal_number}
-use Rattle.reply_writing.specs.declared.told.Told.TheVariants as tells
+use Rattle.reply_messages.specs.declared.told.Told.TheVariants as tells
 use Rattle.mirror_serve.specs.LongReplies.{too_long}
 
 few_refusals : (reason : Refusal) → refusal_number reason ≤ 20

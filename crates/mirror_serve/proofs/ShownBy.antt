@@ -6,8 +6,8 @@ use Rattle.message_values.specs.Asked.{asked}
 use Rattle.message_values.specs.declared.editor_message.EditorMessage.TheVariants as asks
 use Rattle.message_values.specs.declared.refusal.Refusal.{Refusal}
 use Rattle.report_markup.specs.declared.report.Report.{Report}
-use Rattle.reply_writing.specs.declared.told.Told.{Told}
-use Rattle.reply_writing.specs.declared.told.Told.TheVariants as tells
+use Rattle.reply_messages.specs.declared.told.Told.{Told}
+use Rattle.reply_messages.specs.declared.told.Told.TheVariants as tells
 use Rattle.session_rules.specs.declared.entry.Entry.{Entry}
 use Rattle.session_rules.specs.declared.entry.Entry.TheVariants as entry
 use Rattle.session_rules.specs.declared.service.Service.{Service}
@@ -23,8 +23,8 @@ use Rattle.mirror_rules.specs.Images.{Mirror}
 use Rattle.mirror_rules.specs.Looking.{view_in}
 use Rattle.mirror_rules.specs.Moves.{Going, Move, mirrored}
 use Rattle.mirror_rules.specs.Replies.{after_answer, after_first_answer, after_reply}
-use Rattle.mirror_laws.specs.Follows.{Follows}
-use Rattle.mirror_laws.specs.Shown.{SeesSo, WaitsSo, view_shown}
+use Rattle.editor_laws.specs.Follows.{Follows}
+use Rattle.editor_laws.specs.Shown.{SeesSo, WaitsSo, view_shown}
 use Rattle.pide_mirror.specs.Hearing.{Hearing}
 use Rattle.mirror_serve.specs.Resting.{IsImageOf}
 use Rattle.mirror_serve.proofs.Image.{follows_look, image_look}

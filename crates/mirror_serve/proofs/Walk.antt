@@ -7,18 +7,18 @@ use Rattle.byte_message.specs.Limits.{longest_chunk}
 use Rattle.byte_message.specs.Long.{long_lengths}
 use Rattle.byte_message.specs.Stream.{IsMessage, plain_spelling}
 use Rattle.language.specs.Lang.{Lang}
-use Rattle.reply_writing.specs.declared.told.Told.{Told}
-use Rattle.reply_writing.specs.declared.told.Told.TheVariants as tells
-use Rattle.reply_writing.specs.Replies.{reply_chunks}
-use Rattle.reply_reading.specs.Replies.{IsReply}
+use Rattle.reply_messages.specs.declared.told.Told.{Told}
+use Rattle.reply_messages.specs.declared.told.Told.TheVariants as tells
+use Rattle.reply_messages.specs.Replies.{reply_chunks}
+use Rattle.reply_messages.specs.FoundReplies.{IsReply}
 use Rattle.session_rules.specs.declared.entry.Entry.{Entry}
 use Rattle.session_rules.specs.declared.service.Service.{Service}
 use Rattle.session_rules.specs.Heard.{all_heard, heard}
 use Rattle.session_rules.specs.Replies.{entry_replies}
 use Rattle.session_rules.specs.Services.{mode_of}
 use Rattle.mirror_rules.specs.Answers.{Read}
-use Rattle.mirror_laws.specs.Follows.{call_of, calls}
-use Rattle.mirror_laws.proofs.KnownOneReply.{AtMostOne, one_told}
+use Rattle.editor_laws.specs.Follows.{call_of, calls}
+use Rattle.editor_laws.proofs.KnownOneReply.{AtMostOne, one_told}
 use Rattle.pide_mirror.specs.Hearing.{Hearing}
 use Rattle.mirror_serve.specs.Heard.{HearsAll}
 use Rattle.mirror_serve.specs.Resting.{IsImageOf}

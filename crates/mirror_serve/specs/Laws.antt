@@ -8,7 +8,7 @@ use Rattle.message_values.specs.Asked.{asked}
 use Rattle.message_values.specs.Fits.{Fits}
 use Rattle.message_values.specs.Functions.{word, function_named}
 use Rattle.message_values.specs.Spelled.{IsSpelled, function_of}
-use Rattle.reply_reading.specs.Replies.{IsReply}
+use Rattle.reply_messages.specs.FoundReplies.{IsReply}
 use Rattle.session_rules.specs.declared.entry.Entry.{Entry}
 use Rattle.session_rules.specs.declared.service.Service.{Service}
 use Rattle.session_rules.specs.declared.service.Service.TheVariants.{Script}
@@ -20,10 +20,10 @@ use Rattle.mirror_rules.specs.Answers.{Read}
 use Rattle.mirror_rules.specs.Events.{AreMoves, MirrorEvent}
 use Rattle.mirror_rules.specs.Moves.{Move}
 use Rattle.mirror_rules.specs.Telling.{IsTold}
-use Rattle.mirror_laws.specs.Follows.{Follows}
-use Rattle.mirror_laws.specs.Shown.{SeesSo, WaitsSo}
-use Rattle.mirror_laws.specs.Streams.{all_replies}
-use Rattle.mirror_laws.proofs.KnownReadings.{StreamLaws}
+use Rattle.editor_laws.specs.Follows.{Follows}
+use Rattle.editor_laws.specs.Shown.{SeesSo, WaitsSo}
+use Rattle.editor_laws.specs.Streams.{all_replies}
+use Rattle.editor_laws.proofs.KnownReadings.{StreamLaws}
 use Rattle.editor_laws.specs.Heard.{AreMessages}
 use Rattle.editor_laws.specs.Tellable.{IsTellable}
 

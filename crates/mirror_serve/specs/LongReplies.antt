@@ -6,12 +6,12 @@ use Rattle.pide_base.specs.declared.status.Status.TheVariants as status
 use Rattle.byte_message.specs.Long.{long_lengths}
 use Rattle.language.specs.Lang.{Lang}
 use Rattle.reply_outbox.specs.Items.{entries}
-use Rattle.reply_writing.specs.declared.told.Told.{Told}
-use Rattle.reply_writing.specs.declared.told.Told.TheVariants as tells
-use Rattle.reply_writing.specs.Replies.{reply_chunks}
+use Rattle.reply_messages.specs.declared.told.Told.{Told}
+use Rattle.reply_messages.specs.declared.told.Told.TheVariants as tells
+use Rattle.reply_messages.specs.Replies.{reply_chunks}
 use Rattle.session_rules.specs.declared.entry.Entry.{Entry}
 use Rattle.session_rules.specs.declared.service.Service.{Service}
-use Rattle.mirror_laws.specs.Streams.{all_replies}
+use Rattle.editor_laws.specs.Streams.{all_replies}
 use Rattle.document_session.specs.Contents.{SessionState}
 
 -- the lengths of a reply's chunks that are too long; a snapshot may have them

@@ -7,8 +7,8 @@ use Rattle.message_values.specs.declared.protocol.Protocol.{Protocol}
 use Rattle.message_values.specs.declared.refusal.Refusal.{Refusal}
 use Rattle.buffer_rules.specs.Trying.{◌>>=◌}
 use Rattle.buffer_rules.specs.Texts.{edit_all}
-use Rattle.reply_writing.specs.declared.told.Told.{Told}
-use Rattle.reply_writing.specs.declared.told.Told.TheVariants as tells
+use Rattle.reply_messages.specs.declared.told.Told.{Told}
+use Rattle.reply_messages.specs.declared.told.Told.TheVariants as tells
 use Rattle.session_rules.specs.Shown.{protocol_reports}
 use Rattle.document_session.specs.session_replies_below.Spelling.{reply_spelling}
 use Rattle.mirror_rules.specs.Images.{Mirror}

@@ -10,7 +10,7 @@ use Rattle.message_values.specs.declared.mode.Mode.{Mode}
 use Rattle.mirror_rules.specs.Answers.{Read}
 use Rattle.mirror_rules.specs.Events.{AreSpelled, MirrorEvent, heard_moves, stream}
 use Rattle.mirror_rules.specs.Moves.{Move, mirrored}
-use Rattle.mirror_laws.specs.Follows.{Follows}
+use Rattle.editor_laws.specs.Follows.{Follows}
 use Rattle.editor_laws.specs.Heard.{AreMessages}
 use Rattle.editor_laws.specs.Tellable.{IsTellable}
 use Rattle.document_session.specs.Contents.{SessionState}

@@ -3,11 +3,10 @@ ghost use Rattle.mirror_serve.specs.Laws.{HearingLaws, MirrorLaws};
 
 use byte_message::{longer_streams, one_reading, written_is_read};
 use document_session::keeping_rules_below::{history_law, sent_law};
-use editor_laws::readable_law;
+use editor_laws::{mirror_law, moves_law, readable_law};
 use language::Language;
 use message_values::a_message_is_asked_where_it_is_spelled;
-use mirror_laws::{mirror_law, moves_law};
-use reply_reading::what_is_written_is_read_back;
+use reply_messages::what_is_written_is_read_back;
 
 /// What replies that are heard come to.
 pub(crate) fn hearing_laws<L: Language>()

@@ -10,10 +10,10 @@ ghost use Rattle.mirror_serve.specs.Looks.{in_bytes, markup_in, markup_told, mar
 
 use crate::look::Look;
 use document_session::session_replies_below::{Edited, edited_text};
+use editor_buffer::PrepareError;
 use message_values::Protocol;
 use pide_mirror::{LookError, Mirror, NodeParts};
-use reply_writing::{Reports, markup};
-use sheet_edits::PrepareError;
+use reply_messages::{Reports, markup};
 use snapshots::{Shown, Snapshot};
 use std::alloc::{AllocError, Global};
 use symbol_markup::in_symbols;

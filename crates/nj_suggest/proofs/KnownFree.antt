@@ -5,10 +5,10 @@ use Rattle.std.proofs.lemmas.Bool.{or_cases, and_parts, cases_lt}
 use Rattle.std.proofs.lemmas.List.{length-replicate}
 use Rattle.std.proofs.lemmas.Slice.Eq.{bytes_eq-Decides}
 use Rattle.text_words.proofs.KnownLists.{sum_cons}
-use Rattle.outer_tokens.specs.Words.{same}
+use Rattle.outer_syntax.specs.Words.{same}
 use Rattle.theory_ctx.specs.declared.local.Local.{Local}
-use Rattle.nj_print.specs.Primed.{with_primes}
-use Rattle.nj_print.specs.Printed.{least_failing}
+use Rattle.nj_syntax.specs.Primed.{with_primes}
+use Rattle.nj_syntax.specs.Printed.{least_failing}
 use Rattle.suggest_rules.specs.declared.names.Names.{Names}
 use Rattle.suggest_rules.specs.Names.{is_alias, is_name_of, is_taken, longest_taken, numbered, next_name}
 

@@ -1,8 +1,8 @@
 -- One `'` more, after a name that is taken; and the first name that is free.
 use Rattle.std.proofs.Common.{◌≡◌, ◌<◌, ◌+◌, ◌-◌, ℕ, true, false, List, [], ◌∷◌, ◌++◌, replicate, length, ap, sym, subst, ◌∙◌, arith, append_assoc, append-nil, length-append, below_more}
 use Rattle.std.proofs.lemmas.List.{replicate-append-replicate}
-use Rattle.nj_print.specs.Primed.{with_primes}
-use Rattle.nj_print.proofs.KnownPrimed.{least_is}
+use Rattle.nj_syntax.specs.Primed.{with_primes}
+use Rattle.nj_syntax.proofs.KnownPrimed.{least_is}
 use Rattle.suggest_rules.specs.declared.names.Names.{Names}
 use Rattle.suggest_rules.specs.Names.{is_taken, longest_taken, numbered, next_name}
 use Rattle.nj_suggest.proofs.KnownFree.{taken_length, few_taken}

@@ -1,7 +1,7 @@
 //! Names that may be cited, and those that are free.
 ghost use Rattle.std.specs.Prelude.{◌≡◌, ◌+◌, ◌∷◌, not, IfOk, string_bytes};
 ghost use Rattle.nj_kernel.specs.RuleNames.{rule_name};
-ghost use Rattle.outer_tokens.specs.Words.{same};
+ghost use Rattle.outer_syntax.specs.Words.{same};
 ghost use Rattle.suggest_rules.specs.Names.{is_alias, is_name_of, is_taken, next_name, numbered};
 
 use joined_results::both;

@@ -1,14 +1,14 @@
 //! Proof terms written out.
 ghost use Rattle.std.specs.Prelude.{◌≡◌, ◌∷◌, [], ◌++◌, IfOk, OnOk, codes, string_bytes};
 ghost use Rattle.nj_kernel.specs.RuleNames.{rule_name};
-ghost use Rattle.nj_print.specs.ArgumentText.{argument_text};
+ghost use Rattle.nj_syntax.specs.ArgumentText.{argument_text};
 ghost use Rattle.proof_terms.specs.declared.term.Term.{out-Term};
 ghost use Rattle.suggest_rules.specs.TermText.{quoted, formula, ruled, term_text, by_text};
 ghost use Rattle.nj_suggest.specs.Forms.{IsEliminating, IsInstancing};
 
 use nj_formula::{Formula, Name, ObjTerm};
 use nj_kernel::Rule;
-use nj_print::{formula_text, print_term as print_object};
+use nj_syntax::{formula_text, print_term as print_object};
 use proof_terms::Term;
 use std::alloc::{AllocError, Global};
 

@@ -1,9 +1,9 @@
 -- What the reader's function answers is the answer to the text, for each language that the steps read.
 use Rattle.std.proofs.Common.{◌≡◌, ◌<◌, ℕ, Bool, true, false, cond, nat_lt, List, [], ◌∷◌, ◌++◌, map, Option, Some, None, Result, Ok, Err, refl, ap, sym, subst, ◌∙◌, append-nil, append_assoc, ltb-true, ltb-false}
 use Rattle.std.proofs.lemmas.List.{map-append}
-use Rattle.nj_tokens.specs.declared.token.Placed.{Placed}
-use Rattle.nj_tokens.specs.Tokens.{AreTokens, cut_of}
-use Rattle.nj_tokens.proofs.KnownTokens.{tokens_are}
+use Rattle.nj_syntax.specs.declared.token.Placed.{Placed}
+use Rattle.nj_syntax.specs.Tokens.{AreTokens, cut_of}
+use Rattle.nj_syntax.proofs.KnownTokens.{tokens_are}
 use Rattle.nj_syntax.specs.declared.fault.FaultKind.{FaultKind}
 use Rattle.nj_syntax.specs.declared.fault.FormulaFault.{FormulaFault}
 use Rattle.nj_syntax.specs.Deepest.{deepest}

@@ -1,6 +1,6 @@
 -- Over the same tokens there is one run: the step is a function, and it gives the depth.
 use Rattle.std.proofs.Common.{◌≡◌, ℕ, List, [], ◌∷◌, ◌++◌, map, Option, Some, refl, ap, sym, subst, ◌∙◌}
-use Rattle.nj_tokens.specs.declared.token.Token.{Token}
+use Rattle.nj_syntax.specs.declared.token.Token.{Token}
 use Rattle.nj_syntax.specs.Terms.{Deep}
 use Rattle.nj_syntax.specs.Steps.{State, step}
 use Rattle.nj_syntax.proofs.KnownGrammar.{first_same, others_same}

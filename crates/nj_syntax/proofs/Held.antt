@@ -1,7 +1,7 @@
 -- Each step keeps what the state says of the tokens read, and so does a run.
 use Rattle.std.proofs.Common.{◌≡◌, ℕ, ◌+◌, Bool, List, [], ◌∷◌, ◌++◌, length, Some, sym, subst, append_assoc, append-nil}
 use Rattle.nj_formula.specs.declared.argument.Argument.{Argument}
-use Rattle.nj_tokens.specs.declared.token.Token.{Token}
+use Rattle.nj_syntax.specs.declared.token.Token.{Token}
 use Rattle.nj_syntax.specs.declared.state.Pending.{Pending}
 use Rattle.nj_syntax.specs.Terms.{Deep, AreArguments, name, apply}
 use Rattle.nj_syntax.specs.Grammar.{predicate, atom, word}

@@ -1,7 +1,7 @@
 -- Lists of tokens that are the same, and that a list of terms has one.
 use Rattle.std.proofs.Common.{◌≡◌, ℕ, List, [], ◌∷◌}
 use Rattle.nj_formula.specs.declared.argument.Argument.{Argument}
-use Rattle.nj_tokens.specs.declared.token.Token.{Token}
+use Rattle.nj_syntax.specs.declared.token.Token.{Token}
 use Rattle.nj_syntax.specs.Terms.{Deep, AreArguments, name, apply, comma}
 
 pub first_same : (t u : Token) (ts us : List Token) → t ∷ ts ≡ u ∷ us → t ≡ u

@@ -2,10 +2,10 @@
 use Rattle.std.proofs.Common.{◌≡◌, ◌≤◌, ℕ, Bool, true, false, cond, List, [], ◌∷◌, ◌++◌, map, Option, Some, None, Result, Ok, Err, refl, ap, sym, ◌∙◌, append-nil, ◌⊎◌, inl, inr}
 use Rattle.std.proofs.lemmas.Bool.{lt-ltb, le-ltb}
 use Rattle.std.proofs.lemmas.List.Elements.{All-head, All-tail}
-use Rattle.nj_tokens.specs.declared.token.Token.{Token}
-use Rattle.nj_tokens.specs.declared.token.Placed.{Placed}
-use Rattle.nj_tokens.specs.Tokens.{AreTokens, cut_of}
-use Rattle.nj_tokens.proofs.KnownTokens.{cut_is}
+use Rattle.nj_syntax.specs.declared.token.Token.{Token}
+use Rattle.nj_syntax.specs.declared.token.Placed.{Placed}
+use Rattle.nj_syntax.specs.Tokens.{AreTokens, cut_of}
+use Rattle.nj_syntax.proofs.KnownTokens.{cut_is}
 use Rattle.nj_syntax.specs.declared.fault.FaultKind.{FaultKind}
 use Rattle.nj_syntax.specs.declared.fault.FormulaFault.{FormulaFault}
 use Rattle.nj_syntax.specs.Deepest.{deepest}

@@ -1,7 +1,7 @@
 -- One turn of the loop over the tokens of a text, and what its end answers.
 use Rattle.std.proofs.Common.{◌≡◌, ℕ, List, Option, Result, Ok, Err, IsErrAnd, ap, sym, subst, ◌∙◌}
-use Rattle.nj_tokens.specs.declared.token.Placed.{Placed}
-use Rattle.nj_tokens.specs.Tokens.{Cut, placed_before, cut_of, cut_from}
+use Rattle.nj_syntax.specs.declared.token.Placed.{Placed}
+use Rattle.nj_syntax.specs.Tokens.{Cut, placed_before, cut_of, cut_from}
 use Rattle.nj_syntax.specs.declared.fault.FormulaFault.{FormulaFault}
 use Rattle.nj_syntax.specs.Terms.{Deep}
 use Rattle.nj_syntax.specs.Answers.{Answers}

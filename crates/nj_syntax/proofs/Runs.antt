@@ -2,8 +2,8 @@
 use Rattle.std.proofs.Common.{◌≡◌, ◌≤◌, ℕ, List, [], ◌∷◌, ◌++◌, Some, refl, ap, sym, ◌∙◌}
 use Rattle.std.proofs.lemmas.List.{map-append}
 use Rattle.std.proofs.lemmas.List.Elements.{All-append, All-nil, All-cons}
-use Rattle.nj_tokens.specs.declared.token.Token.{Token}
-use Rattle.nj_tokens.specs.declared.token.Placed.{Placed}
+use Rattle.nj_syntax.specs.declared.token.Token.{Token}
+use Rattle.nj_syntax.specs.declared.token.Placed.{Placed}
 use Rattle.nj_syntax.specs.Deepest.{deepest}
 use Rattle.nj_syntax.specs.Terms.{Deep}
 use Rattle.nj_syntax.specs.Answers.{AreAt, IsShallow}

@@ -3,8 +3,8 @@
 use Rattle.std.specs.Prelude.{ℕ, nat_lt, if◌then◌else◌, List, [], ◌∷◌, Bool, true, false, Option, Some, None, Result, Ok, Err}
 use Rattle.nj_formula.specs.declared.argument.Argument.{Argument}
 use Rattle.nj_formula.specs.declared.formula.Formula.{Formula}
-use Rattle.nj_tokens.specs.declared.token.Placed.{Placed}
-use Rattle.nj_tokens.specs.Tokens.{Cut, cut_of}
+use Rattle.nj_syntax.specs.declared.token.Placed.{Placed}
+use Rattle.nj_syntax.specs.Tokens.{Cut, cut_of}
 use Rattle.nj_syntax.specs.declared.fault.FaultKind.{FaultKind}
 use Rattle.nj_syntax.specs.declared.fault.FormulaFault.{FormulaFault}
 use Rattle.nj_syntax.specs.declared.state.Mode.{Mode}

@@ -3,8 +3,8 @@
 use Rattle.std.specs.Prelude.{◌≡◌, ◌≤◌, ◌<◌, ℕ, Bool, true, false, List, [], ◌∷◌, ◌++◌, map, All, Result, Ok, Err, ⊤}
 use Rattle.nj_formula.specs.declared.argument.Argument.{Argument}
 use Rattle.nj_formula.specs.declared.formula.Formula.{Formula}
-use Rattle.nj_tokens.specs.declared.token.Placed.{Placed}
-use Rattle.nj_tokens.specs.Tokens.{AreTokens}
+use Rattle.nj_syntax.specs.declared.token.Placed.{Placed}
+use Rattle.nj_syntax.specs.Tokens.{AreTokens}
 use Rattle.nj_syntax.specs.declared.fault.FaultKind.{FaultKind}
 use Rattle.nj_syntax.specs.declared.fault.FormulaFault.{FormulaFault}
 use Rattle.nj_syntax.specs.Deepest.{deepest}

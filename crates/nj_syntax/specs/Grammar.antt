@@ -5,8 +5,8 @@ use Rattle.std.specs.Str.{bytes_eq}
 use Rattle.nj_formula.specs.declared.argument.Argument.{Argument}
 use Rattle.nj_formula.specs.declared.formula.Formula.{Formula}
 use Rattle.nj_formula.specs.declared.formula.Formula.TheVariants as Formulas
-use Rattle.nj_tokens.specs.declared.token.Token.{Token}
-use Rattle.nj_tokens.specs.declared.token.Token.TheVariants as Tokens
+use Rattle.nj_syntax.specs.declared.token.Token.{Token}
+use Rattle.nj_syntax.specs.declared.token.Token.TheVariants as Tokens
 use Rattle.nj_syntax.specs.declared.operator.Operator.{Operator}
 use Rattle.nj_syntax.specs.declared.operator.Quantifier.{Quantifier}
 use Rattle.nj_syntax.specs.Terms.{Deep, AreArguments}

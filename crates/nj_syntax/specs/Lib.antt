@@ -1,3 +1,7 @@
+pub mod Lexis
+pub mod Tokens
+pub mod Next
+pub mod TokenLaws
 pub mod Deepest
 pub mod Terms
 pub mod Grammar
@@ -7,3 +11,13 @@ pub mod Steps
 pub mod Answer
 pub mod Seen
 pub mod Laws
+pub mod ArgumentText
+pub mod Primed
+pub mod Prints
+pub mod Adds
+pub mod Spellable
+pub mod Within
+pub mod Opens
+pub mod ReadBack
+pub mod Readable
+pub mod Printed

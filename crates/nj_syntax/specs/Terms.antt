@@ -3,8 +3,8 @@ use Rattle.std.specs.Prelude.{ℕ, ◌+◌, if◌then◌else◌, List, [], ◌�
 use Rattle.std.specs.Str.{bytes_eq}
 use Rattle.nj_formula.specs.declared.argument.Argument.{Argument}
 use Rattle.nj_formula.specs.declared.argument.Argument.TheVariants.{Free, Bound, Apply}
-use Rattle.nj_tokens.specs.declared.token.Token.{Token}
-use Rattle.nj_tokens.specs.declared.token.Token.TheVariants.{Name, Open, Close, Comma}
+use Rattle.nj_syntax.specs.declared.token.Token.{Token}
+use Rattle.nj_syntax.specs.declared.token.Token.TheVariants.{Name, Open, Close, Comma}
 
 -- a token, and how many operators, quantifiers and parentheses it stands under
 abbrev pub Deep : Type 0

@@ -2,7 +2,7 @@
 //! argument.
 
 ghost use Rattle.std.specs.Prelude.{◌≡◌, [], ◌∷◌, ◌++◌, ◌+◌, reverse, length, IfOk};
-ghost use Rattle.nj_tokens.specs.declared.token.Token.{Token as Tokens};
+ghost use Rattle.nj_syntax.specs.declared.token.Token.{Token as Tokens};
 ghost use Rattle.nj_syntax.specs.declared.state.Mode.{Mode as Modes};
 ghost use Rattle.nj_syntax.specs.declared.state.Pending.{Pending as Pendings};
 ghost use Rattle.nj_syntax.specs.Terms.{binder_place, named_term};
@@ -12,8 +12,8 @@ ghost use Rattle.nj_syntax.specs.Seen.{seen_step};
 
 use crate::operands::{begin_argument, pushed, stay};
 use crate::state::{Mode, Pending, Step};
+use crate::token::Token;
 use nj_formula::{Argument, Formula, Name};
-use nj_tokens::Token;
 use sqlite_items::Items;
 use std::alloc::{AllocError, Global};
 

@@ -11,8 +11,8 @@ ghost use Rattle.nj_syntax.specs.Seen.{seen_step};
 use crate::operator::{Operator, Quantifier};
 use crate::reduce::{closed, reduced};
 use crate::state::{Mode, Pending, State, Step};
+use crate::token::Token;
 use nj_formula::{Formula, Name};
-use nj_tokens::Token;
 use sqlite_items::Items;
 use std::alloc::{AllocError, Global};
 

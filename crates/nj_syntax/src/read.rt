@@ -1,5 +1,5 @@
 ghost use Rattle.std.specs.Prelude.{◌≡◌, reverse, IfOk, nat_lt, if◌then◌else◌, Ok, Err};
-ghost use Rattle.nj_tokens.specs.Tokens.{cut_of};
+ghost use Rattle.nj_syntax.specs.Tokens.{cut_of};
 ghost use Rattle.nj_syntax.specs.declared.fault.FormulaFault.TheVariants.{TooDeep};
 ghost use Rattle.nj_syntax.specs.Deepest.{deepest};
 ghost use Rattle.nj_syntax.specs.Steps.{formula_at, term_at, alone, step};
@@ -7,10 +7,11 @@ ghost use Rattle.nj_syntax.specs.Answer.{stepped_state, read_from};
 ghost use Rattle.nj_syntax.specs.Seen.{seen, Gives, seen_end};
 
 use crate::fault::{FaultKind, FormulaFault};
+use crate::lex::Lexer;
 use crate::reduce::finished;
 use crate::state::{Mode, Pending, State, Step};
+use crate::token::{Next, Placed};
 use nj_formula::{Argument, Formula};
-use nj_tokens::{Lexer, Next, Placed};
 use sqlite_items::Items;
 use std::alloc::{AllocError, Global};
 

@@ -5,7 +5,7 @@ ghost use Rattle.nj_syntax.specs.Seen.{seen, seen_step};
 use crate::arguments::{after_argument, after_head, argument};
 use crate::operands::{after_atom, after_binder, after_operand, begin_operand, operand};
 use crate::state::{Mode, Pending, State, Step};
-use nj_tokens::Token;
+use crate::token::Token;
 use std::alloc::{AllocError, Global};
 
 impl State {

@@ -2,7 +2,7 @@
 use Rattle.std.proofs.Common.{◌≡◌, ℕ, List, [], length, map, ◌∙◌}
 use Rattle.std.proofs.lemmas.List.{length-map}
 use Rattle.doc_nodes.specs.declared.node.Node.{Node}
-use Rattle.doc_blobs.specs.Needs.{AliasList}
+use Rattle.doc_nodes.specs.Needs.{AliasList}
 use Rattle.buffer_rules.specs.Cuts.{source}
 use Rattle.buffer_rules.specs.Nodes.{ranges_in, sources}
 use Rattle.buffer_rules.specs.Numbers.{ids_of}

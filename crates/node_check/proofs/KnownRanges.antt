@@ -4,7 +4,7 @@ use Rattle.std.specs.List.{AllByRecursion, zip}
 use Rattle.pide_base.specs.declared.range.Range.{Range}
 use Rattle.doc_nodes.specs.declared.node.Entry.{Entry}
 use Rattle.buffer_rules.specs.declared.sheet.Sheet.{Sheet}
-use Rattle.doc_blobs.specs.Needs.{AliasList}
+use Rattle.doc_nodes.specs.Needs.{AliasList}
 use Rattle.buffer_rules.specs.Nodes.{entry}
 use Rattle.core_rules.specs.Updates.{AreRising}
 use Rattle.core_rules.proofs.KnownEnds.{ends_within}

@@ -5,7 +5,7 @@ use Rattle.report_markup.specs.declared.report.Report.{Report}
 use Rattle.report_markup.specs.Ranges.{moved}
 use Rattle.doc_nodes.specs.declared.node.Entry.{Entry}
 use Rattle.doc_nodes.specs.declared.node.Node.{Node}
-use Rattle.doc_blobs.specs.Needs.{AliasList}
+use Rattle.doc_nodes.specs.Needs.{AliasList}
 use Rattle.language.specs.Lang.{Lang}
 use Rattle.core_rules.specs.Settings.{Setting}
 use Rattle.buffer_rules.specs.declared.sheet.Sheet.{Sheet}

@@ -9,7 +9,7 @@ ghost use Rattle.node_check.specs.Walking.{LiesIn, reports_at, reports_from, sta
 
 use crate::never::{fork, step};
 use language::{Language, Made};
-use outer_tokens::scalars;
+use outer_syntax::scalars;
 use pide_base::Range;
 use report_markup::{Report, moved_range, one_order};
 use sqlite_items::Items;

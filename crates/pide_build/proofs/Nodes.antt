@@ -3,8 +3,8 @@ use Rattle.std.proofs.Common.{◌≡◌, ◌≤◌, ◌-◌, ℕ, suc, ◌+◌, 
 use Rattle.std.specs.List.{flat_map, sum_by}
 use Rattle.std.proofs.lemmas.List.{length-map}
 use Rattle.std.proofs.lemmas.List.Sums.{sum_by-cons}
-use Rattle.reply_writing.specs.declared.told.Told.TheVariants as tells
-use Rattle.batch_check.specs.declared.telling.BuiltNode.{BuiltNode}
+use Rattle.reply_messages.specs.declared.told.Told.TheVariants as tells
+use Rattle.pide_build.specs.declared.telling.BuiltNode.{BuiltNode}
 use Rattle.pide_build.specs.declared.replies.NodeReply.{NodeReply}
 use Rattle.pide_build.specs.Replies.{errors_of, node_reply, replies_of, spelled}
 use Rattle.pide_build.specs.Telling.{bytes_of, reply_of}

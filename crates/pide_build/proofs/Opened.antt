@@ -10,7 +10,7 @@ use Rattle.doc_nodes.specs.declared.node.Node.{Node}
 use Rattle.doc_nodes.specs.Imports.{NodeList}
 use Rattle.doc_nodes.specs.Names.{in_order}
 use Rattle.buffer_rules.specs.Nodes.{nodes_after, uncut, uncut_all}
-use Rattle.batch_check.specs.Cutting.{AreUncut, cut_all, sheets_of as sheets_in}
+use Rattle.pide_build.specs.Cutting.{AreUncut, cut_all, sheets_of as sheets_in}
 use Rattle.pide_build.specs.Documents.{nodes_of, sheet_of, sheets_of}
 use Rattle.pide_build.specs.Theories.{TheoryList}
 

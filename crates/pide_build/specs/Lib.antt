@@ -1,3 +1,8 @@
+pub mod Built
+pub mod Standing
+pub mod Handed
+pub mod Cutting
+pub mod Tasks
 pub mod Theories
 pub mod Taking
 pub mod Documents
@@ -6,3 +11,5 @@ pub mod Telling
 pub mod Runs
 pub mod Answers
 pub mod Joins
+pub mod Batches
+pub mod Running

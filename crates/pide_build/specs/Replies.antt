@@ -6,11 +6,11 @@ use Rattle.report_markup.specs.declared.kind.ReportKind.{ReportKind}
 use Rattle.report_markup.specs.declared.kind.ReportKind.TheVariants as kind
 use Rattle.language.specs.Lang.{Lang}
 use Rattle.message_values.specs.declared.refusal.Refusal.{Refusal}
-use Rattle.reply_writing.specs.declared.told.Told.{Told}
-use Rattle.reply_writing.specs.declared.told.Told.TheVariants as tells
-use Rattle.reply_writing.specs.Replies.{reply_chunks}
-use Rattle.batch_check.specs.declared.telling.BuiltNode.{BuiltNode}
-use Rattle.document_build.specs.Built.{built_of}
+use Rattle.reply_messages.specs.declared.told.Told.{Told}
+use Rattle.reply_messages.specs.declared.told.Told.TheVariants as tells
+use Rattle.reply_messages.specs.Replies.{reply_chunks}
+use Rattle.pide_build.specs.declared.telling.BuiltNode.{BuiltNode}
+use Rattle.pide_build.specs.Built.{built_of}
 use Rattle.pide_build.specs.Documents.{nodes_of}
 use Rattle.pide_build.specs.Theories.{TheoryList, kept_by, next_theories}
 

@@ -1,8 +1,8 @@
 -- What is told of the nodes of a build (this project's own).
 use Rattle.std.specs.Prelude.{ℕ, List, ◌++◌, length}
 use Rattle.std.specs.List.{flat_map, sum_by}
-use Rattle.reply_writing.specs.declared.told.Told.TheVariants as tells
-use Rattle.batch_check.specs.declared.telling.BuiltNode.{BuiltNode}
+use Rattle.reply_messages.specs.declared.told.Told.TheVariants as tells
+use Rattle.pide_build.specs.declared.telling.BuiltNode.{BuiltNode}
 use Rattle.pide_build.specs.declared.replies.NodeReply.{NodeReply}
 use Rattle.pide_build.specs.Replies.{errors_of, node_reply, spelled}
 

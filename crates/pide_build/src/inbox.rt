@@ -7,7 +7,7 @@ use crate::theories::{Taken, Theories, take};
 use byte_message::Message;
 use message_input::{Answering, Halt};
 use pide_base::Sink;
-use reply_writing::Reply;
+use reply_messages::Reply;
 use std::alloc::Global;
 
 /// Keeps the theories that messages bring, and writes why others are refused.

@@ -3,16 +3,16 @@ ghost use Rattle.std.specs.Prelude.{◌≡◌, ◌≤◌, OnOk, IfOk, IfErr, ℕ
 ghost use Rattle.std.specs.List.{flat_map, sum_by};
 ghost use Rattle.std.specs.Io.KnownBytes.{Appends};
 ghost use Rattle.pide_base.specs.Moves.{AppendsFront};
-ghost use Rattle.reply_writing.specs.Forms.{IsForm};
-ghost use Rattle.reply_writing.specs.Lent.{told_reply};
+ghost use Rattle.reply_messages.specs.Forms.{IsForm};
+ghost use Rattle.reply_messages.specs.Lent.{told_reply};
 ghost use Rattle.message_input.specs.Counts.{CountsSo};
 ghost use Rattle.pide_build.specs.Replies.{errors_of, node_reply, spelled, tells_error};
 ghost use Rattle.pide_build.specs.Telling.{bytes_of};
 
-use batch_check::{BuiltNode, Telling};
+use crate::telling::{BuiltNode, Telling};
 use message_input::Halt;
 use pide_base::{Sink, push_whole};
-use reply_writing::{Reply, Reports, write};
+use reply_messages::{Reply, Reports, write};
 use report_markup::{Report, ReportKind};
 use sqlite_items::Items;
 use std::alloc::{AllocError, Global};
@@ -70,7 +70,7 @@ fn node_reply(alloc: Global, built: &BuiltNode) -> Result<Vec<u8>, AllocError>
     ensures { IfOk result (λ bytes. bytes.items ≡ node_reply built.now) }
 {
     let reports = Reports::Own(built.reports.as_slice());
-    reply_writing::built(alloc, &built.node, reports)
+    reply_messages::built(alloc, &built.node, reports)
 }
 
 /// Writes bytes. Where the sink fails, a front of them is written.

@@ -9,11 +9,11 @@ ghost use Rattle.pide_build.specs.Answers.{status_of};
 ghost use Rattle.pide_build.specs.Replies.{build_replies};
 ghost use Rattle.pide_build.specs.Runs.{IsBuild};
 
+use crate::building::{Built, build};
 use crate::documents::nodes_of;
 use crate::inbox::Inbox;
 use crate::replies::{InReplies, push_replies};
 use crate::theories::Theories;
-use document_build::{Built, build};
 use language::Language;
 use message_input::{Halt, answer_input};
 use pide_base::{Gate, Sink, Source, Status};

@@ -1,7 +1,7 @@
 -- Arguments that name a worker or a protocol.
 use Rattle.std.specs.Prelude.{ℕ, List, Option}
-use Rattle.data_shapes.specs.Each.{◌>>=◌}
-use Rattle.data_shapes.specs.Numbers.{number_of}
+use Rattle.message_values.specs.Each.{◌>>=◌}
+use Rattle.message_values.specs.Numbers.{number_of}
 use Rattle.message_values.specs.declared.protocol.Protocol.{Protocol}
 use Rattle.message_values.specs.Protocols.{protocol_of}
 use Rattle.message_values.specs.Workers.{worker_of}

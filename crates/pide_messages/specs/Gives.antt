@@ -1,7 +1,7 @@
 -- What a reader of messages answers.
 use Rattle.std.specs.Prelude.{◌≡◌, Result, Ok, Err}
-use Rattle.data_shapes.specs.declared.fault.ShapeFault.{ShapeFault}
-use Rattle.data_shapes.specs.declared.fault.ShapeFault.TheVariants as shape
+use Rattle.message_values.specs.declared.fault.ShapeFault.{ShapeFault}
+use Rattle.message_values.specs.declared.fault.ShapeFault.TheVariants as shape
 use Rattle.message_values.specs.declared.refusal.Refusal.{Refusal}
 use Rattle.message_values.specs.declared.refusal.Refusal.TheVariants.{BadData}
 use Rattle.pide_messages.specs.declared.error.ReadError.{ReadError}

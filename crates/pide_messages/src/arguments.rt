@@ -2,14 +2,13 @@
 ghost use Rattle.std.specs.Prelude.{◌≡◌};
 ghost use Rattle.message_values.specs.declared.refusal.Refusal.TheVariants.{BadData, BadYxml};
 ghost use Rattle.message_values.specs.Asked.{id_at, spelled, or_refused};
-ghost use Rattle.data_shapes.specs.Numbers.{number_of};
-ghost use Rattle.data_shapes.specs.Words.{name_of};
+ghost use Rattle.message_values.specs.Numbers.{number_of};
+ghost use Rattle.message_values.specs.Words.{name_of};
 ghost use Rattle.pide_messages.specs.Arguments.{worker_at, protocol_at};
 ghost use Rattle.pide_messages.specs.Gives.{Gives};
 
 use crate::error::ReadError;
-use data_shapes::{LentBody, number_of};
-use message_values::{Protocol, Refusal, Worker};
+use message_values::{LentBody, Protocol, Refusal, Worker, number_of};
 use pide_base::{ExecId, NodeName, VersionId};
 use std::alloc::Global;
 

@@ -1,7 +1,6 @@
 //! Why a message was not read.
 
-use data_shapes::ShapeFault;
-use message_values::Refusal;
+use message_values::{Refusal, ShapeFault};
 use std::alloc::AllocError;
 
 /// Why a message was not read.

@@ -7,8 +7,7 @@ ghost use Rattle.pide_messages.specs.Gives.{Gives};
 
 use crate::arguments::{body_of, exec_of, node_of, protocol_of, version_of, worker_of};
 use crate::error::ReadError;
-use data_shapes::list_of;
-use message_values::EditorMessage;
+use message_values::{EditorMessage, list_of};
 use sqlite_items::Items;
 use std::alloc::Global;
 use text_edits::Text;

@@ -4,8 +4,8 @@ use Rattle.message_values.specs.declared.editor_message.EditorMessage.TheVariant
 use Rattle.message_values.specs.declared.item.Item.{Item}
 use Rattle.message_values.specs.declared.item.BlobChange.{BlobChange}
 use Rattle.message_values.specs.declared.protocol.Protocol.{Protocol}
-use Rattle.reply_writing.specs.declared.told.NodeRows.{NodeRows}
-use Rattle.reply_writing.specs.declared.told.Told.TheVariants as tells
+use Rattle.reply_messages.specs.declared.told.NodeRows.{NodeRows}
+use Rattle.reply_messages.specs.declared.told.Told.TheVariants as tells
 use Rattle.mirror_rules.specs.Answers.{Read, can_answer}
 
 pub asks_update : (read : Read) (id : ℕ) (listed : List NodeRows) → can_answer read (tells.Assign id listed) ≡ true

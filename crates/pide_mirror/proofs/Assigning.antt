@@ -3,7 +3,7 @@ use Rattle.std.proofs.Common.{◌≡◌, ℕ, Bool, true, false, not, ◌||◌, 
 use Rattle.buffer_rules.specs.Preparing.{Buffer}
 use Rattle.buffer_rules.specs.Updates.{Asked}
 use Rattle.message_values.specs.declared.refusal.Refusal.{Refusal}
-use Rattle.reply_writing.specs.declared.told.NodeRows.{NodeRows}
+use Rattle.reply_messages.specs.declared.told.NodeRows.{NodeRows}
 use Rattle.mirror_rules.specs.Images.{Mirror}
 use Rattle.mirror_rules.specs.Unexpected.{is_refused, lists_unknown}
 use Rattle.mirror_rules.specs.Updates.{after_update, buffer_after, image_after, with_tip}

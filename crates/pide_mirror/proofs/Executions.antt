@@ -6,9 +6,9 @@ use Rattle.text_words.proofs.KnownLists.{each-both}
 use Rattle.pide_base.specs.Ids.{IsId}
 use Rattle.pide_base.specs.declared.part.PartKind.TheVariants.{Fork}
 use Rattle.doc_nodes.specs.declared.node.Entry.{Entry}
-use Rattle.doc_blobs.specs.Needs.{AliasList}
-use Rattle.known_versions.specs.Places.{PlaceTable}
-use Rattle.known_versions.specs.declared.place.Place.{Place}
+use Rattle.doc_nodes.specs.Needs.{AliasList}
+use Rattle.pide_mirror.specs.Places.{PlaceTable}
+use Rattle.pide_mirror.specs.declared.place.Place.{Place}
 use Rattle.pide_mirror.specs.KeptNodes.{HasId}
 use Rattle.pide_mirror.specs.NodeParts.{part_kept, place_forks, evaluation_kept, print_kept, command_kept}
 

@@ -6,7 +6,7 @@ use Rattle.byte_message.specs.First.{LeadsOn, MakesWhole, StaysShort, TurnsBad}
 use Rattle.byte_message.specs.Stream.{placed_fault}
 use Rattle.byte_message.specs.Kept.{Framing}
 use Rattle.byte_message.specs.declared.frame_fault.FrameFault.{FrameFault}
-use Rattle.reply_reading.specs.Replies.{FindsReply}
+use Rattle.reply_messages.specs.FoundReplies.{FindsReply}
 use Rattle.mirror_rules.specs.Moves.{Heard, Broken}
 use Rattle.pide_mirror.specs.Feeding.{FeedsFirst, FeedsSo, Hears, HearsFront, HearsAt, HearsReply}
 use Rattle.pide_mirror.specs.Hearing.{Hearing}

@@ -5,8 +5,8 @@ use Rattle.byte_message.specs.First.{MakesWhole, StaysShort, TurnsBad}
 use Rattle.byte_message.specs.Kept.{Framing}
 use Rattle.byte_message.specs.Stream.{IsShort, told_place, placed_fault}
 use Rattle.byte_message.specs.declared.frame_fault.FrameFault.{FrameFault}
-use Rattle.reply_reading.specs.Replies.{FindsReply}
-use Rattle.reply_writing.specs.declared.told.Told.{Told}
+use Rattle.reply_messages.specs.FoundReplies.{FindsReply}
+use Rattle.reply_messages.specs.declared.told.Told.{Told}
 use Rattle.mirror_rules.specs.Events.{AreHeard, AreMoves, AreSpelled, heard_moves, stream}
 use Rattle.mirror_rules.specs.Moves.{Move, Heard, Broken}
 use Rattle.pide_mirror.specs.Feeding.{Hears}

@@ -4,8 +4,8 @@ use Rattle.std.specs.Prelude.{◌==◌}
 use Rattle.std.specs.List.{list_any}
 use Rattle.core_tables.specs.declared.versions.Live.{Live}
 use Rattle.mirror_rules.specs.Images.{Image}
-use Rattle.known_versions.specs.Kept.{AreKept, IsKept}
-use Rattle.known_versions.specs.declared.known.LiveVersion.{LiveVersion}
+use Rattle.pide_mirror.specs.Kept.{AreKept, IsKept}
+use Rattle.pide_mirror.specs.declared.known.LiveVersion.{LiveVersion}
 
 -- where the same versions are removed, the others stay
 pub kept_left : (ids : List ℕ) (kept : List LiveVersion) (live : List (Live Image)) → AreKept kept live

@@ -8,9 +8,9 @@ use Rattle.core_rules.specs.Shown.{PartShown}
 use Rattle.mirror_rules.specs.Images.{Image}
 use Rattle.mirror_rules.specs.Looking.{text_at}
 use Rattle.mirror_rules.specs.Parts.{node_parts}
-use Rattle.known_versions.specs.Kept.{IsKept}
-use Rattle.known_versions.specs.Tables.{table_of}
-use Rattle.known_versions.specs.declared.known.Known.{Known}
+use Rattle.pide_mirror.specs.Kept.{IsKept}
+use Rattle.pide_mirror.specs.Tables.{table_of}
+use Rattle.pide_mirror.specs.declared.known.Known.{Known}
 use Rattle.pide_mirror.specs.KeptNodes.{IsKeptNode}
 use Rattle.pide_mirror.specs.Looking.{node_of}
 use Rattle.pide_mirror.specs.NodeParts.{as_shown, node_kept}

@@ -9,20 +9,20 @@ use Rattle.pide_base.specs.declared.part.PartKind.TheVariants.{Print}
 use Rattle.doc_nodes.specs.declared.node.Entry.{Entry}
 use Rattle.doc_nodes.specs.declared.node.Node.{Node}
 use Rattle.doc_nodes.specs.Aliases.{aliases_at}
-use Rattle.doc_blobs.specs.Needs.{AliasList}
+use Rattle.doc_nodes.specs.Needs.{AliasList}
 use Rattle.buffer_rules.specs.Cuts.{source}
 use Rattle.core_rules.specs.Updates.{AllDiffer}
 use Rattle.core_rules.proofs.KnownCommands.{differ_at}
-use Rattle.reply_writing.specs.declared.told.CommandRow.{CommandRow}
+use Rattle.reply_messages.specs.declared.told.CommandRow.{CommandRow}
 use Rattle.mirror_rules.specs.Forking.{may_fork}
 use Rattle.mirror_rules.specs.Images.{Image}
 use Rattle.mirror_rules.specs.Parts.{part_of, command_parts, parts_from, node_parts}
 use Rattle.mirror_rules.specs.Rows.{executions_of, rows_of}
-use Rattle.known_versions.specs.Kept.{IsKept, told_rows}
-use Rattle.known_versions.specs.Places.{StandsAt, has_execution, PlaceTable, ArePlaced}
-use Rattle.known_versions.specs.Tables.{table_of}
-use Rattle.known_versions.specs.declared.known.Known.{Known}
-use Rattle.known_versions.specs.declared.place.Place.{Place}
+use Rattle.pide_mirror.specs.Kept.{IsKept, told_rows}
+use Rattle.pide_mirror.specs.Places.{StandsAt, has_execution, PlaceTable, ArePlaced}
+use Rattle.pide_mirror.specs.Tables.{table_of}
+use Rattle.pide_mirror.specs.declared.known.Known.{Known}
+use Rattle.pide_mirror.specs.declared.place.Place.{Place}
 use Rattle.pide_mirror.specs.NodeParts.{part_kept, evaluation_kept, print_kept, command_kept, commands_kept, node_kept}
 
 -- a number that is not among commands is not one of theirs

@@ -6,7 +6,7 @@ use Rattle.std.specs.List.{AllByRecursion, filter}
 use Rattle.std.specs.Cmp.Derive.{one_truth}
 use Rattle.text_words.specs.Members.{has}
 use Rattle.text_words.proofs.KnownMembers.{has_itself, has_contained, contained_has, each_has}
-use Rattle.import_rounds.proofs.KnownRising.{risen_range}
+use Rattle.doc_nodes.proofs.KnownRising.{risen_range}
 use Rattle.report_markup.specs.declared.report.Report.{Report}
 use Rattle.pide_base.specs.Ids.{IsId}
 use Rattle.snapshots.specs.Pending.{unfinished, IsPending}

@@ -22,10 +22,10 @@ use Rattle.mirror_rules.specs.Images.{Mirror}
 use Rattle.std.proofs.lemmas.Bool.{lt-ltb}
 use Rattle.editor_buffer.specs.Preparation.{Preparation}
 use Rattle.message_values.specs.declared.refusal.Refusal.TheVariants.{VersionNotHigher}
-use Rattle.known_versions.specs.Places.{HaveSources}
+use Rattle.pide_mirror.specs.Places.{HaveSources}
 use Rattle.pide_mirror.specs.Knowing.{IsDocument, FitsUpdate}
 use Rattle.pide_mirror.specs.declared.document.Document.{Document as Knowledge}
-use Rattle.known_versions.proofs.KnownSources.{sources_kept}
+use Rattle.pide_mirror.proofs.KnownSources.{sources_kept}
 
 -- lists that go together are of one length
 pub zip_length : {A B : Type 0} (P : A → B → Type 0) (xs : List A) (ys : List B) → AllZip P xs ys → length xs ≡ length ys

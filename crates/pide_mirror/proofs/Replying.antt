@@ -5,8 +5,8 @@ use Rattle.std.specs.List.{list_any}
 use Rattle.pide_base.specs.declared.part.Part.{Part}
 use Rattle.report_markup.specs.declared.report.Report.{Report}
 use Rattle.message_values.specs.declared.editor_message.EditorMessage.TheVariants as asks
-use Rattle.reply_writing.specs.declared.told.Told.{Told}
-use Rattle.reply_writing.specs.declared.told.Told.TheVariants as tells
+use Rattle.reply_messages.specs.declared.told.Told.{Told}
+use Rattle.reply_messages.specs.declared.told.Told.TheVariants as tells
 use Rattle.mirror_rules.specs.Answers.{Read, is_answer, can_answer, version_asked}
 use Rattle.mirror_rules.specs.Images.{Mirror}
 use Rattle.mirror_rules.specs.Reports.{belongs_in}

@@ -10,9 +10,9 @@ use Rattle.mirror_rules.specs.Moves.{Reflection}
 use Rattle.mirror_rules.specs.Moves as reflection
 use Rattle.mirror_rules.specs.Small.{fault_in}
 use Rattle.mirror_rules.specs.declared.fault.MirrorFault.{MirrorFault}
-use Rattle.known_versions.specs.Kept.{AreKept}
-use Rattle.known_versions.specs.declared.known.Known.{Known}
-use Rattle.known_versions.specs.declared.known.LiveVersion.{LiveVersion}
+use Rattle.pide_mirror.specs.Kept.{AreKept}
+use Rattle.pide_mirror.specs.declared.known.Known.{Known}
+use Rattle.pide_mirror.specs.declared.known.LiveVersion.{LiveVersion}
 use Rattle.pide_mirror.specs.Knowing.{IsGoing}
 use Rattle.pide_mirror.specs.Mirroring.{KnowsSo}
 use Rattle.pide_mirror.specs.Showing.{IsKnown, ShowsSo}

@@ -4,7 +4,7 @@ use Rattle.byte_message.specs.Stream.{told_place}
 use Rattle.byte_message.specs.declared.frame_fault.FrameFault.{FrameFault}
 use Rattle.message_values.specs.Asked.{asked}
 use Rattle.message_values.specs.declared.mode.Mode.{Mode}
-use Rattle.reply_writing.specs.declared.told.Told.{Told}
+use Rattle.reply_messages.specs.declared.told.Told.{Told}
 use Rattle.mirror_rules.specs.Answers.{Read}
 use Rattle.mirror_rules.specs.Events.{MirrorEvent, Given}
 use Rattle.mirror_rules.specs.Images.{Mirror}

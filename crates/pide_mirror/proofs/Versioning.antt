@@ -4,13 +4,13 @@ use Rattle.std.specs.Prelude.{MatchOption}
 use Rattle.std.specs.List.{list_any}
 use Rattle.doc_nodes.specs.Imports.{NodeList}
 use Rattle.buffer_rules.specs.Preparing.{Buffer}
-use Rattle.reply_writing.specs.declared.told.NodeRows.{NodeRows}
+use Rattle.reply_messages.specs.declared.told.NodeRows.{NodeRows}
 use Rattle.mirror_rules.specs.Images.{Image}
 use Rattle.mirror_rules.specs.Rows.{is_unknown}
 use Rattle.mirror_rules.specs.Updates.{image_after}
-use Rattle.known_versions.specs.Kept.{IsKept}
-use Rattle.known_versions.specs.Making.{FitsTip}
-use Rattle.known_versions.specs.declared.known.Known.{Known}
+use Rattle.pide_mirror.specs.Kept.{IsKept}
+use Rattle.pide_mirror.specs.Making.{FitsTip}
+use Rattle.pide_mirror.specs.declared.known.Known.{Known}
 
 -- what is said of a version that was found, or of none
 abbrev pub Says : List NodeRows → Image → Buffer → NodeList → Option Known → Type 0

@@ -2,8 +2,8 @@
 use Rattle.std.specs.Prelude.{◌≡◌, ℕ, ◌≤◌, ◌<◌, List, ◌∷◌, ◌++◌, length, take, Option, Some, None, Result, Ok, Err}
 use Rattle.mirror_rules.specs.Events.{MirrorEvent, Fed}
 use Rattle.mirror_rules.specs.Moves.{Move, Heard}
-use Rattle.reply_reading.specs.Replies.{FindsReply}
-use Rattle.reply_writing.specs.declared.told.Told.{Told}
+use Rattle.reply_messages.specs.FoundReplies.{FindsReply}
+use Rattle.reply_messages.specs.declared.told.Told.{Told}
 use Rattle.pide_mirror.specs.Hearing.{Hearing, HasHeard}
 use Rattle.pide_mirror.specs.declared.error.MirrorError.{MirrorError}
 use Rattle.pide_mirror.specs.declared.error.MirrorError.TheVariants.{Fault, NoMemory}

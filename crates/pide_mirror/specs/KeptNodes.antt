@@ -6,7 +6,7 @@ use Rattle.pide_base.specs.Ids.{IsId}
 use Rattle.core_rules.specs.Shown.{PartShown}
 use Rattle.mirror_rules.specs.Images.{Image}
 use Rattle.mirror_rules.specs.Rows.{rows_of}
-use Rattle.known_versions.specs.Kept.{told_rows}
+use Rattle.pide_mirror.specs.Kept.{told_rows}
 use Rattle.pide_mirror.specs.declared.parts.KeptNode.{KeptNode}
 
 -- the node at a place, with the rows and the aliases that it has in a version

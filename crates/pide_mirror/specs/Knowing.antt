@@ -8,15 +8,15 @@ use Rattle.buffer_rules.specs.Updates.{Asked}
 use Rattle.editor_buffer.specs.Preparation.{Preparation}
 use Rattle.message_values.specs.declared.item.Item.{Item}
 use Rattle.message_values.specs.declared.item.BlobChange.{BlobChange}
-use Rattle.reply_writing.specs.declared.told.NodeRows.{NodeRows}
-use Rattle.reply_writing.specs.declared.told.Told.{Told}
+use Rattle.reply_messages.specs.declared.told.NodeRows.{NodeRows}
+use Rattle.reply_messages.specs.declared.told.Told.{Told}
 use Rattle.mirror_rules.specs.Answers.{Read}
 use Rattle.mirror_rules.specs.Images.{Mirror}
 use Rattle.mirror_rules.specs.Reports.{PartReport}
 use Rattle.mirror_rules.specs.Unexpected.{is_refused, lists_unknown, assigns_refused, assigns_unknown}
 use Rattle.mirror_rules.specs.Updates.{after_update, buffer_after}
-use Rattle.known_versions.specs.Kept.{IsKept, AreKept}
-use Rattle.known_versions.specs.Making.{FitsTip}
+use Rattle.pide_mirror.specs.Kept.{IsKept, AreKept}
+use Rattle.pide_mirror.specs.Making.{FitsTip}
 use Rattle.pide_mirror.specs.declared.document.Document.{Document}
 use Rattle.pide_mirror.specs.declared.going.Going.{Going}
 

@@ -4,13 +4,13 @@ use Rattle.std.specs.Option.{option_and_then, option_copied}
 use Rattle.pide_base.specs.declared.part.PartKind.{PartKind}
 use Rattle.pide_base.specs.declared.part.PartKind.TheVariants.{Eval, Fork, Print}
 use Rattle.doc_nodes.specs.declared.node.Entry.{Entry}
-use Rattle.doc_blobs.specs.Needs.{AliasList}
+use Rattle.doc_nodes.specs.Needs.{AliasList}
 use Rattle.core_rules.specs.Shown.{PartShown}
 use Rattle.snapshots.specs.declared.part.AssignedPart.{AssignedPart}
-use Rattle.reply_writing.specs.declared.told.CommandRow.{CommandRow}
+use Rattle.reply_messages.specs.declared.told.CommandRow.{CommandRow}
 use Rattle.mirror_rules.specs.Forking.{may_fork, forks_by}
-use Rattle.known_versions.specs.Places.{PlaceTable, reports_of}
-use Rattle.known_versions.specs.declared.place.Place.{Place}
+use Rattle.pide_mirror.specs.Places.{PlaceTable, reports_of}
+use Rattle.pide_mirror.specs.declared.place.Place.{Place}
 
 -- an assigned part, as it is shown
 abbrev pub as_shown : AssignedPart → PartShown

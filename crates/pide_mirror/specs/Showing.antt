@@ -6,8 +6,8 @@ use Rattle.core_tables.specs.Live.{version_of}
 use Rattle.mirror_rules.specs.Images.{Image}
 use Rattle.mirror_rules.specs.Moves.{Reflection, Going, Faulted}
 use Rattle.mirror_rules.specs.declared.fault.MirrorFault.{MirrorFault}
-use Rattle.known_versions.specs.Kept.{IsKept}
-use Rattle.known_versions.specs.declared.known.Known.{Known}
+use Rattle.pide_mirror.specs.Kept.{IsKept}
+use Rattle.pide_mirror.specs.declared.known.Known.{Known}
 
 -- what is kept stands for the version, and where there is none nothing is kept
 abbrev pub IsKnown : Option Image → Option Known → Type 0

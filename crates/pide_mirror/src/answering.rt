@@ -6,7 +6,7 @@ ghost use Rattle.mirror_rules.specs.Unexpected.{differ, names_another};
 use crate::note::Read;
 use message_values::{EditorMessage, Function};
 use pide_base::VersionId;
-use reply_writing::Told;
+use reply_messages::Told;
 
 /// Whether the reply is the message's own, or says that it is refused.
 pub(crate) fn can_answer(read: &Read, told: &Told) -> bool

@@ -1,6 +1,6 @@
 //! What is known while there was no fault.
 ghost use Rattle.std.specs.Prelude.{◌≡◌, ℕ, [], ◌∷◌, ◌++◌, true, Option, Some, IfOk, OnOk, OnErr};
-ghost use Rattle.reply_writing.specs.declared.told.Told.{Told};
+ghost use Rattle.reply_messages.specs.declared.told.Told.{Told};
 ghost use Rattle.mirror_rules.specs.Answers.{Read, is_answer};
 ghost use Rattle.mirror_rules.specs.Images.{Mirror, empty_mirror};
 ghost use Rattle.mirror_rules.specs.Replies.{mirror_after, without_finish};
@@ -12,7 +12,7 @@ use crate::answering::{can_answer, names_another};
 use crate::document::Document;
 use crate::note::{Note, Read};
 use message_values::{EditorMessage, Mode};
-use reply_writing::Told;
+use reply_messages::Told;
 use std::alloc::{AllocError, Global};
 use std::collections::VecDeque;
 

@@ -19,21 +19,46 @@
 //!     client.show(&mirror.snapshot(Global, version, node, edits)?);
 //! }
 //! ```
+//!
+//! What an editor keeps of the versions of a document that a prover checks: their nodes with the
+//! aliases in force there, what the commands are assigned, and what parts reported, through reports
+//! and updates.
+//!
+//! Versions share all that they have in common, so that a copy takes constant time, an update costs
+//! what it changes, and what is forgotten with a version is what no other has. What a version is to
+//! an editor is defined by `mirror_rules`. The crate must not know messages, their order, or the
+//! bytes of replies.
 #![tactic(auto)]
 
+mod aliases;
 mod answering;
 mod document;
 mod error;
 mod going;
+mod known;
+mod listed_nodes;
 mod look_error;
 mod looking;
+mod making;
 mod mirror;
 mod note;
 mod notes;
 mod parts;
+mod place;
+mod places;
+mod renewing;
+mod rows;
+mod told_part;
 
+pub use aliases::AllAliases;
 pub use error::MirrorError;
+pub use known::{Known, LiveVersion, Rows, ToldLive, ToldVersion, told_to_all};
 pub use look_error::LookError;
+pub use making::renewed;
 pub use mirror::Mirror;
 pub use note::{Note, Read};
 pub use parts::NodeParts;
+pub use place::{Place, Reports};
+pub use places::Places;
+pub use renewing::NewRows;
+pub use told_part::ToldPart;

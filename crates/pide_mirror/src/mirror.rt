@@ -10,15 +10,15 @@ ghost use Rattle.pide_mirror.specs.Showing.{ShowsSo};
 
 use crate::error::MirrorError;
 use crate::going::Going;
+use crate::known::Known;
 use crate::note::Note;
 use crate::notes::Notes;
 use byte_message::{FeedError, Frames, Message};
-use known_versions::Known;
 use message_values::Mode;
 use mirror_rules::MirrorFault;
 use pide_base::VersionId;
 use pide_messages::{ReadError, read};
-use reply_reading::read_reply;
+use reply_messages::read_reply;
 use std::alloc::{AllocError, Global};
 use std::marker::Model;
 

@@ -1,7 +1,7 @@
 //! What a mirror notes.
 use byte_message::FrameFault;
 use message_values::{EditorMessage, Refusal};
-use reply_writing::Told;
+use reply_messages::Told;
 
 /// What was sent, as it is read: what it asks, or why it is refused.
 pub type Read = Result<EditorMessage, Refusal>;

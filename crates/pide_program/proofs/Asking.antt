@@ -20,7 +20,7 @@ use Rattle.session_rules.specs.declared.service.Service.TheVariants.{Workers}
 use Rattle.session_rules.specs.Heard.{all_heard}
 use Rattle.session_rules.specs.Legal.{IsLegal}
 use Rattle.session_rules.specs.Services.{mode_of}
-use Rattle.session_laws.specs.OneThread.{reads}
+use Rattle.session_rules.specs.OneThread.{reads}
 use Rattle.thread_serve.specs.keeping_rules_below.Items.{heard_in}
 use Rattle.reply_outbox.specs.Items.{entries}
 use Rattle.thread_serve.specs.document_session_below.Contents.{SessionState}

@@ -15,7 +15,7 @@ use Rattle.session_rules.specs.Heard.{all_heard}
 use Rattle.session_rules.specs.Alone.{IsAlone}
 use Rattle.session_rules.specs.Replies.{replies}
 use Rattle.thread_serve.specs.keeping_rules_below.Items.{heard_in, session_in}
-use Rattle.session_laws.specs.Runs.{IsWholeRun, called}
+use Rattle.session_rules.specs.Runs.{IsWholeRun, called}
 use Rattle.isar_rules.specs.Isar.{isar}
 use Rattle.thread_serve.specs.document_session_below.Contents.{SessionState}
 use Rattle.thread_serve.specs.document_serve_below.Served.{calls_in, replies_in}

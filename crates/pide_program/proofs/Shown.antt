@@ -10,13 +10,13 @@ use Rattle.exec_rules.specs.declared.version.Version.{Version}
 use Rattle.exec_rules.specs.Assigning.{entries_at, rows_in}
 use Rattle.language.specs.Lang.{Lang}
 use Rattle.core_rules.specs.Shown.{PartShown, commands_parts, parts_shown}
-use Rattle.exec_lists.specs.declared.results.NodeResults.{NodeResults}
-use Rattle.exec_lists.specs.declared.results.PartResult.{PartResult}
-use Rattle.exec_lists.specs.Parts.{told_part}
+use Rattle.core_jobs.specs.declared.results.NodeResults.{NodeResults}
+use Rattle.core_jobs.specs.declared.results.PartResult.{PartResult}
+use Rattle.core_jobs.specs.Parts.{told_part}
 use Rattle.prover_core.specs.Results.{AreResults, is_reported}
 use Rattle.session_rules.specs.Session.{document}
 use Rattle.thread_serve.specs.document_session_below.Contents.{SessionState}
-use Rattle.session_laws.specs.Reported.{part_reports}
+use Rattle.session_rules.specs.Reported.{part_reports}
 use Rattle.made_document.specs.declared.tally.Tally.{Tally}
 use Rattle.made_document.specs.Tallies.{IsTally, results_reports}
 use Rattle.pide_program.specs.Told.{IsLive, listed_session, shown_reports}

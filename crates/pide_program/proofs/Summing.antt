@@ -14,12 +14,12 @@ use Rattle.session_rules.specs.Heard.{Heard}
 use Rattle.session_rules.specs.History.{session}
 use Rattle.session_rules.specs.Legal.{IsLegal}
 use Rattle.session_rules.specs.Session.{document}
-use Rattle.session_laws.specs.OneThread.{reads}
+use Rattle.session_rules.specs.OneThread.{reads}
 use Rattle.thread_serve.specs.keeping_rules_below.Items.{heard_in, session_in}
 use Rattle.thread_serve.specs.document_session_below.Contents.{SessionState}
 use Rattle.made_document.specs.Messages.{last_version}
-use Rattle.session_laws.specs.Reported.{node_reports, part_reports, version_reports}
-use Rattle.session_laws.specs.Updates.{Updates, all_read, document_of}
+use Rattle.session_rules.specs.Reported.{node_reports, part_reports, version_reports}
+use Rattle.session_rules.specs.Updates.{Updates, all_read, document_of}
 use Rattle.made_document.specs.declared.summary.Summary.{Summary}
 use Rattle.made_document.specs.declared.tally.Tally.{Tally}
 use Rattle.made_document.specs.Summary.{greatest_execution, summary_text, made_updates, summary, summary_lines, summary_of}

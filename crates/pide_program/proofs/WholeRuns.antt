@@ -14,8 +14,8 @@ use Rattle.session_rules.specs.History.{session}
 use Rattle.session_rules.specs.Legal.{IsLegal, IsTurn}
 use Rattle.session_rules.specs.Alone.{IsAlone}
 use Rattle.session_rules.specs.Steps.{Due, Finishes, due}
-use Rattle.session_laws.specs.Runs.{called}
-use Rattle.session_laws.proofs.KnownHolding.{message_goes}
+use Rattle.session_rules.specs.Runs.{called}
+use Rattle.session_rules.proofs.KnownHolding.{message_goes}
 use Rattle.thread_serve.specs.document_serve_below.Served.{calls}
 
 module _ {S : Type 0} (l : Lang S) (service : Service) (none : free_workers service ≡ 0) where

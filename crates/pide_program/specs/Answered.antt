@@ -6,10 +6,10 @@ use Rattle.session_rules.specs.declared.service.Service.{Service}
 use Rattle.session_rules.specs.declared.service.Service.TheVariants.{Workers}
 use Rattle.session_rules.specs.Legal.{IsLegal}
 use Rattle.thread_serve.specs.keeping_rules_below.Items.{heard_in}
-use Rattle.session_laws.specs.OneThread.{reads}
+use Rattle.session_rules.specs.OneThread.{reads}
 use Rattle.thread_serve.specs.document_session_below.Contents.{SessionState}
 use Rattle.thread_serve.specs.document_serve_below.Served.{calls_in}
-use Rattle.session_laws.specs.Updates.{all_read}
+use Rattle.session_rules.specs.Updates.{all_read}
 use Rattle.made_document.specs.Summary.{made_updates}
 
 -- the messages of these bytes were answered, by one legal history

@@ -10,7 +10,7 @@ use Rattle.core_rules.specs.Standing as standing
 use Rattle.session_rules.specs.declared.service.Service.TheVariants.{Script}
 use Rattle.session_rules.specs.Services.{free_workers}
 use Rattle.thread_serve.specs.keeping_rules_below.Items.{heard_in, session_in}
-use Rattle.session_laws.specs.Promises.{CoversSo, EachMessage, ShowsSo}
+use Rattle.session_rules.specs.Promises.{CoversSo, EachMessage, ShowsSo}
 use Rattle.thread_serve.specs.document_session_below.Contents.{SessionState}
 use Rattle.thread_serve.specs.document_serve_below.Headline.{BytesWritten, MadeAlone, MessagesRead, OneLegalHistory}
 use Rattle.pide_program.specs.Limit.{input_limit}

@@ -8,7 +8,7 @@ use Rattle.core_rules.specs.Shown.{parts_shown}
 use Rattle.session_rules.specs.Session.{Session, document}
 use Rattle.thread_serve.specs.keeping_rules_below.Items.{session_in}
 use Rattle.thread_serve.specs.document_session_below.Contents.{SessionState}
-use Rattle.session_laws.specs.Reported.{part_reports}
+use Rattle.session_rules.specs.Reported.{part_reports}
 
 -- what the session has after its list
 abbrev pub listed_session : {S : Type 0} → Lang S → SessionState → Session

@@ -5,7 +5,7 @@ ghost use Rattle.thread_serve.specs.document_session_below.Contents.{SessionStat
 ghost use Rattle.pide_program.specs.Outcomes.{IsSameOutcome, IsServedAlone};
 
 use byte_message::one_reading;
-use session_laws::alone_law;
+use session_rules::alone_law;
 use toplevel::Isar;
 
 /// What one thread makes of messages is a function of the bytes that it takes: two runs that are

@@ -10,4 +10,3 @@ pub mod Joined
 pub mod Forms
 pub mod Told
 pub mod Questions
-pub use Rattle.proof_state.specs as proof_state_below

@@ -2,9 +2,9 @@
 use Rattle.std.proofs.Common.{◌≡◌, ℕ, List, [], ◌∷◌, ◌++◌, codes, refl, sym, ◌∙◌, ap, subst}
 use Rattle.nj_formula.specs.declared.formula.Formula.{Formula}
 use Rattle.nj_formula.specs.Meaning.{meaning}
-use Rattle.nj_print.specs.Prints.{Prints}
-use Rattle.nj_print.specs.Primed.{IsPrimed}
-use Rattle.nj_print.proofs.KnownPrints.{some_print, one_print, some_primed, one_primed}
+use Rattle.nj_syntax.specs.Prints.{Prints}
+use Rattle.nj_syntax.specs.Primed.{IsPrimed}
+use Rattle.nj_syntax.proofs.KnownPrints.{some_print, one_print, some_primed, one_primed}
 use Rattle.proof_state.specs.declared.subgoal.Subgoal.{Subgoal}
 use Rattle.proof_state.specs.declared.subgoal.Subgoal.TheVariants.{Show, AssumeShow, FixShow}
 use Rattle.proof_state.specs.declared.levels.Levels.{Levels}

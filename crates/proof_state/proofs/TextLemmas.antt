@@ -4,8 +4,8 @@ use Rattle.std.specs.Prelude.{codes, Result, Ok, Err, OnOk}
 use Rattle.std.proofs.lemmas.List.{drop_all}
 use Rattle.nj_formula.specs.declared.formula.Formula.{Formula}
 use Rattle.nj_formula.specs.Meaning.{meaning}
-use Rattle.nj_print.specs.Prints.{Prints}
-use Rattle.nj_print.specs.Primed.{IsPrimed}
+use Rattle.nj_syntax.specs.Prints.{Prints}
+use Rattle.nj_syntax.specs.Primed.{IsPrimed}
 use Rattle.proof_state.specs.declared.subgoal.Subgoal.{Subgoal}
 use Rattle.proof_state.specs.Describes.{Adds, Then, Word, SaysFixed, SaysSubgoal, SaysSubgoals}
 

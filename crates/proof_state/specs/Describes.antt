@@ -2,8 +2,8 @@
 use Rattle.std.specs.Prelude.{◌≡◌, ℕ, List, [], ◌∷◌, ◌++◌, codes}
 use Rattle.nj_formula.specs.declared.formula.Formula.{Formula}
 use Rattle.nj_formula.specs.Meaning.{meaning}
-use Rattle.nj_print.specs.Prints.{Prints}
-use Rattle.nj_print.specs.Primed.{IsPrimed}
+use Rattle.nj_syntax.specs.Prints.{Prints}
+use Rattle.nj_syntax.specs.Primed.{IsPrimed}
 use Rattle.proof_state.specs.declared.subgoal.Subgoal.{Subgoal}
 use Rattle.proof_state.specs.declared.subgoal.Subgoal.TheVariants.{Show, AssumeShow, FixShow}
 use Rattle.proof_state.specs.declared.block.Block.{Block}

@@ -8,7 +8,7 @@ use crate::block::Block;
 use crate::levels::Levels;
 use crate::subgoal::Subgoal;
 use nj_formula::{Formula, Name};
-use nj_print::{print, print_body};
+use nj_syntax::{print, print_body};
 use std::alloc::{AllocError, Global};
 
 impl Levels {

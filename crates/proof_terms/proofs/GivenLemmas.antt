@@ -1,7 +1,7 @@
 -- What a call gives, and what follows from it.
 use Rattle.std.proofs.Common.{◌≡◌, ℕ, zero, suc, ◌-◌, List, [], ◌∷◌, length, Result, Ok, Err, refl, ap, sym, subst, ◌∙◌, arith}
 use Rattle.std.specs.Prelude.{IsErrAnd}
-use Rattle.outer_tokens.specs.declared.token.Token.{Token}
+use Rattle.outer_syntax.specs.declared.token.Token.{Token}
 use Rattle.nj_kernel.specs.declared.rule.Rule.{Rule}
 use Rattle.proof_terms.specs.declared.fault.TermError.{TermError}
 use Rattle.proof_terms.specs.declared.fault.TermError.TheVariants.{Fault, NoMemory}

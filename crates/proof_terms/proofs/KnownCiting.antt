@@ -2,10 +2,10 @@
 use Rattle.std.proofs.Common.{◌≡◌, ℕ, ◌==◌, Bool, true, false, if◌then◌else◌, List, [], ◌∷◌, Ok, refl, inl, inr, subst}
 use Rattle.std.specs.List.{AllByRecursion}
 use Rattle.pide_base.specs.declared.range.Range.{Range}
-use Rattle.outer_tokens.specs.declared.kind.Kind.{Kind}
-use Rattle.outer_tokens.specs.declared.kind.Kind.TheVariants as kind
-use Rattle.outer_tokens.specs.declared.token.Token.{Token}
-use Rattle.outer_tokens.specs.Tokens.{text_of}
+use Rattle.outer_syntax.specs.declared.kind.Kind.{Kind}
+use Rattle.outer_syntax.specs.declared.kind.Kind.TheVariants as kind
+use Rattle.outer_syntax.specs.declared.token.Token.{Token}
+use Rattle.outer_syntax.specs.Tokens.{text_of}
 use Rattle.proof_terms.specs.Marks.{is_ascii, mark, marks}
 use Rattle.proof_terms.specs.declared.mark.Mark.TheVariants.{Opens, Closes, Name, Long, Other}
 use Rattle.proof_terms.specs.declared.term.Term.{Term}

@@ -8,10 +8,10 @@ use Rattle.std.proofs.lemmas.Slice.Eq.{bytes_eq-Decides}
 use Rattle.nj_kernel.specs.RuleNames.{rule_name}
 use Rattle.nj_kernel.specs.declared.rule.Rule.{Rule}
 use Rattle.nj_kernel.specs.declared.rule.Rule.TheVariants.{ConjI, ConjE1, ConjE2, DisjI1, DisjI2, DisjE, ImpI, ImpE, NotI, NotE, FalseE, AllI, AllE, ExI, ExE}
-use Rattle.outer_tokens.specs.Words.{same}
-use Rattle.outer_tokens.specs.declared.token.Token.{Token}
-use Rattle.outer_tokens.specs.declared.kind.Kind.{Kind}
-use Rattle.outer_tokens.specs.declared.kind.Kind.TheVariants.{Ident, LongIdent, Sym}
+use Rattle.outer_syntax.specs.Words.{same}
+use Rattle.outer_syntax.specs.declared.token.Token.{Token}
+use Rattle.outer_syntax.specs.declared.kind.Kind.{Kind}
+use Rattle.outer_syntax.specs.declared.kind.Kind.TheVariants.{Ident, LongIdent, Sym}
 use Rattle.pide_base.specs.declared.range.Range.{Range}
 use Rattle.proof_terms.specs.declared.mark.Mark.{Mark}
 use Rattle.proof_terms.specs.declared.mark.Mark.TheVariants.{Name, Long, Opens, Closes, Other}

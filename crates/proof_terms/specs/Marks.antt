@@ -2,11 +2,11 @@
 use Rattle.std.specs.Prelude.{ℕ, Bool, ◌==◌, if◌then◌else◌, nat_lt, List, [], ◌∷◌, map}
 use Rattle.std.specs.List.{list_all}
 use Rattle.pide_base.specs.declared.range.Range.{Range}
-use Rattle.outer_tokens.specs.Contents.{content_of}
-use Rattle.outer_tokens.specs.Tokens.{text_of}
-use Rattle.outer_tokens.specs.declared.kind.Kind.{Kind}
-use Rattle.outer_tokens.specs.declared.kind.Kind.TheVariants.{Ident, LongIdent, String, Cartouche, Sym}
-use Rattle.outer_tokens.specs.declared.token.Token.{Token}
+use Rattle.outer_syntax.specs.Contents.{content_of}
+use Rattle.outer_syntax.specs.Tokens.{text_of}
+use Rattle.outer_syntax.specs.declared.kind.Kind.{Kind}
+use Rattle.outer_syntax.specs.declared.kind.Kind.TheVariants.{Ident, LongIdent, String, Cartouche, Sym}
+use Rattle.outer_syntax.specs.declared.token.Token.{Token}
 use Rattle.proof_terms.specs.declared.mark.Mark.{Mark}
 use Rattle.proof_terms.specs.declared.mark.Mark.TheVariants.{Opens, Closes, Name, Long, Quoted, Other}
 

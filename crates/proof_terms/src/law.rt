@@ -2,7 +2,7 @@
 
 ghost use Rattle.std.specs.Prelude.{◌≡◌, ℕ, List, Result, Ok};
 ghost use Rattle.std.specs.List.{AllByRecursion};
-ghost use Rattle.outer_tokens.specs.declared.token.Token.{Token};
+ghost use Rattle.outer_syntax.specs.declared.token.Token.{Token};
 ghost use Rattle.proof_terms.specs.declared.fault.TermFault.{TermFault};
 ghost use Rattle.proof_terms.specs.declared.mark.Mark.{Mark};
 ghost use Rattle.proof_terms.specs.declared.term.Term.{Term};

@@ -13,7 +13,7 @@ use crate::term::Cite;
 use nj_formula::{Formula, Name, ObjTerm, Shared};
 use nj_kernel::Rule;
 use nj_syntax::{FormulaFault, parse, parse_term};
-use outer_tokens::{Kind, Token, content, scalars};
+use outer_syntax::{Kind, Token, content, scalars};
 use sqlite_items::Items;
 use std::alloc::{AllocError, Global};
 

@@ -10,7 +10,7 @@ use crate::reader::{Reader, Start, malformed};
 use crate::term::Term;
 use nj_formula::Shared;
 use nj_kernel::Rule;
-use outer_tokens::Token;
+use outer_syntax::Token;
 use std::alloc::Global;
 
 /// How many rules may be nested in a proof term.

@@ -4,7 +4,7 @@ ghost use Rattle.nj_kernel.specs.RuleNames.{rule_name};
 ghost use Rattle.proof_terms.specs.RuleNames.{rule_of};
 
 use nj_kernel::Rule;
-use outer_tokens::spells;
+use outer_syntax::spells;
 
 /// All rules of natural deduction.
 const RULES: [Rule; 15] = [

@@ -5,11 +5,11 @@ use Rattle.std.specs.List.Sorted.{IsStrictlyIncreasing}
 use Rattle.text_words.specs.Members.{has}
 use Rattle.pide_base.specs.Ids.{IsId}
 use Rattle.pide_base.specs.declared.part.Part.{Part}
-use Rattle.task_queue.specs.Ready.{IsReadyPart}
+use Rattle.core_tables.specs.Ready.{IsReadyPart}
 use Rattle.core_tables.specs.declared.versions.Live.{Live}
 use Rattle.core_tables.specs.Live.{version_of}
 use Rattle.exec_rules.specs.declared.version.Version.{Version}
-use Rattle.exec_lists.specs.Parts.{is_unfinished}
+use Rattle.core_jobs.specs.Parts.{is_unfinished}
 use Rattle.language.specs.Lang.{Lang}
 use Rattle.core_rules.specs.declared.event.Event.{Event}
 use Rattle.core_rules.specs.Numbered.{next_number}

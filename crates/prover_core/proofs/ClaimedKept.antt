@@ -5,9 +5,9 @@ use Rattle.std.specs.Prelude.{◌==◌, not, ◌&&◌}
 use Rattle.text_words.specs.Members.{has}
 use Rattle.std.specs.Option.{option_map}
 use Rattle.pide_base.specs.declared.part.Part.{Part}
-use Rattle.task_queue.specs.declared.task.Standing.{Standing as Task}
-use Rattle.task_queue.specs.Ready.{with_standing}
-use Rattle.task_queue.specs.Changes.{taken_task}
+use Rattle.core_tables.specs.declared.task.Standing.{Standing as Task}
+use Rattle.core_tables.specs.Ready.{with_standing}
+use Rattle.core_tables.specs.Changes.{taken_task}
 use Rattle.language.specs.Lang.{Lang}
 use Rattle.core_rules.specs.declared.event.Event.{Event}
 use Rattle.core_rules.specs.declared.event.Event.TheVariants.{Claimed}

@@ -7,9 +7,9 @@ use Rattle.pide_base.specs.declared.part.PartKind.TheVariants as kind
 use Rattle.core_tables.specs.declared.execution.Execution.{Execution}
 use Rattle.core_tables.specs.declared.execution.Done.{Done as Brought}
 use Rattle.core_tables.specs.Finish.{finished_in}
-use Rattle.task_queue.specs.declared.task.Standing.{Standing as Task}
+use Rattle.core_tables.specs.declared.task.Standing.{Standing as Task}
 use Rattle.text_words.specs.Members.{has}
-use Rattle.task_queue.specs.Changes.{without}
+use Rattle.core_tables.specs.Changes.{without}
 use Rattle.language.specs.Lang.{Lang}
 use Rattle.core_rules.specs.declared.event.Event.{Event}
 use Rattle.core_rules.specs.declared.event.Event.TheVariants.{Finished}

@@ -6,7 +6,7 @@ use Rattle.pide_base.specs.declared.part.Part.{Part}
 use Rattle.pide_base.specs.declared.part.PartKind.{PartKind}
 use Rattle.pide_base.specs.declared.part.PartKind.TheVariants as kind
 use Rattle.core_tables.specs.declared.execution.Execution.{Execution}
-use Rattle.task_queue.specs.declared.task.Standing.{Standing as Task}
+use Rattle.core_tables.specs.declared.task.Standing.{Standing as Task}
 use Rattle.language.specs.Lang.{Lang}
 use Rattle.core_rules.specs.declared.event.Event.{Event}
 use Rattle.core_rules.specs.Standing.{Done, standing, held}

@@ -6,9 +6,9 @@ use Rattle.std.specs.Option.{option_map, option_map_or}
 use Rattle.pide_base.specs.declared.part.Part.{Part}
 use Rattle.pide_base.specs.declared.part.PartKind.{PartKind}
 use Rattle.pide_base.specs.declared.part.PartKind.TheVariants as kind
-use Rattle.task_queue.specs.declared.task.Standing.{Standing as Task}
+use Rattle.core_tables.specs.declared.task.Standing.{Standing as Task}
 use Rattle.text_words.specs.Members.{has}
-use Rattle.task_queue.specs.Changes.{without}
+use Rattle.core_tables.specs.Changes.{without}
 use Rattle.language.specs.Lang.{Lang}
 use Rattle.core_rules.specs.declared.event.Event.{Event}
 use Rattle.core_rules.specs.Parts.{same_kind, forks, evaluation}

@@ -24,7 +24,7 @@ use Rattle.core_jobs.specs.declared.input.Input.{Input as Taken}
 use Rattle.core_jobs.specs.Jobs.{JobContent, setting_of}
 use Rattle.prover_core.specs.Progress.{next_of}
 use Rattle.prover_core.specs.Tasks.{present_kind}
-use Rattle.job_inputs.specs.Inputs.{state_of, found_input}
+use Rattle.core_jobs.specs.Inputs.{state_of, found_input}
 use Rattle.prover_core.specs.Kept.{Tables, IsKept}
 use Rattle.prover_core.proofs.FirstOf.{first_present}
 use Rattle.prover_core.proofs.TipLive.{Laws, tip_live}

@@ -2,9 +2,9 @@
 use Rattle.std.proofs.Common.{◌≡◌, ◌↔◌, ℕ, false, List, Option, Some, None, sym, subst, ◌∙◌}
 use Rattle.std.specs.Option.{IfSome, IfNone, option_map}
 use Rattle.pide_base.specs.declared.part.Part.{Part}
-use Rattle.task_queue.specs.declared.task.Standing.{Standing as Task}
-use Rattle.task_queue.specs.Ready.{IsReadyPart, IsNext, with_standing}
-use Rattle.task_queue.specs.Changes.{taken_task}
+use Rattle.core_tables.specs.declared.task.Standing.{Standing as Task}
+use Rattle.core_tables.specs.Ready.{IsReadyPart, IsNext, with_standing}
+use Rattle.core_tables.specs.Changes.{taken_task}
 use Rattle.language.specs.Lang.{Lang}
 use Rattle.core_rules.specs.declared.event.Event.{Event}
 use Rattle.core_rules.specs.Doc.{doc}

@@ -3,10 +3,10 @@ use Rattle.std.proofs.Common.{◌≡◌, ℕ, true, false, List, Option, refl, a
 use Rattle.std.specs.Prelude.{Bool}
 use Rattle.std.specs.Option.{option_map_or}
 use Rattle.pide_base.specs.declared.part.Part.{Part}
-use Rattle.task_queue.specs.declared.priority.Priority.TheVariants as priority
-use Rattle.task_queue.specs.declared.task.Standing.{Standing as Task}
-use Rattle.task_queue.specs.Ready.{IsReadyPart, IsNext, comes_first, priority_of as priority_in}
-use Rattle.task_queue.specs.Order.{goes_before}
+use Rattle.core_tables.specs.declared.priority.Priority.TheVariants as priority
+use Rattle.core_tables.specs.declared.task.Standing.{Standing as Task}
+use Rattle.core_tables.specs.Ready.{IsReadyPart, IsNext, comes_first, priority_of as priority_in}
+use Rattle.core_tables.specs.Order.{goes_before}
 use Rattle.language.specs.Lang.{Lang}
 use Rattle.core_rules.specs.declared.event.Event.{Event}
 use Rattle.core_rules.specs.Doc.{Doc}

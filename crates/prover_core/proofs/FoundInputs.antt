@@ -20,7 +20,7 @@ use Rattle.core_rules.specs.Sources.{HandsOn, AllHandOn, HandOnBy, BeginsFrom}
 use Rattle.core_jobs.specs.declared.input.Input.{Input as Taken}
 use Rattle.core_jobs.specs.declared.input.Input.TheVariants.{State, Start}
 use Rattle.core_jobs.specs.Jobs.{taken_from}
-use Rattle.job_inputs.specs.Inputs.{found_state, both_there, all_imported, found_imports, found_input}
+use Rattle.core_jobs.specs.Inputs.{found_state, both_there, all_imported, found_imports, found_input}
 
 -- something is there, and it is this
 abbrev pub Has : {A : Type 0} → Option A → Type 0

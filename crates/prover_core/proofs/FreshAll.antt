@@ -4,10 +4,10 @@ use Rattle.std.proofs.lemmas.Bool.{eqb-true, ne_eqb}
 use Rattle.std.proofs.lemmas.List.{reverse-append, length-append}
 use Rattle.std.specs.Prelude.{◌==◌, flat_map}
 use Rattle.std.specs.Option.{MatchOption, option_map, option_map_or}
-use Rattle.task_queue.specs.declared.task.Standing.{Standing}
-use Rattle.task_queue.specs.declared.task.Task.{Task}
+use Rattle.core_tables.specs.declared.task.Standing.{Standing}
+use Rattle.core_tables.specs.declared.task.Task.{Task}
 use Rattle.text_words.specs.Members.{has}
-use Rattle.task_queue.specs.Changes.{waiting}
+use Rattle.core_tables.specs.Changes.{waiting}
 use Rattle.core_tables.specs.declared.execution.Execution.{Execution}
 use Rattle.update_plans.specs.declared.known.Known.{Known}
 use Rattle.update_plans.specs.declared.beginning.Fresh.{Fresh}

@@ -7,7 +7,7 @@ use Rattle.text_words.proofs.KnownMembers.{each_has}
 use Rattle.doc_nodes.specs.Imports.{NodeList}
 use Rattle.core_tables.specs.declared.execution.Execution.{Execution}
 use Rattle.core_tables.specs.Finish.{after_cancelling}
-use Rattle.task_queue.specs.declared.task.Standing.{Standing as Task}
+use Rattle.core_tables.specs.declared.task.Standing.{Standing as Task}
 use Rattle.exec_rules.specs.declared.home.Home.{Home}
 use Rattle.exec_rules.specs.Kept.{BlobList}
 use Rattle.language.specs.Lang.{Lang}

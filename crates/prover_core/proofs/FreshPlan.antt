@@ -2,7 +2,7 @@
 use Rattle.std.proofs.Common.{◌≡◌, ◌⊎◌, inl, inr, ℕ, suc, ◌+◌, ◌<◌, ◌≤◌, true, cond, not, List, [], ◌∷◌, length, map, Some, None, refl, ap, sym, subst, ◌∙◌, arith}
 use Rattle.std.proofs.lemmas.Bool.{eq-eqb, ne_eqb, cases_lt, and_parts}
 use Rattle.text_words.specs.Members.{has}
-use Rattle.task_queue.specs.declared.task.Task.{Task}
+use Rattle.core_tables.specs.declared.task.Task.{Task}
 use Rattle.exec_rules.specs.declared.home.Home.{Home}
 use Rattle.core_rules.specs.declared.event.Event.{Event}
 use Rattle.core_rules.specs.Numbered.{numbered, grown}

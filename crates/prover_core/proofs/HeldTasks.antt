@@ -3,8 +3,8 @@ use Rattle.std.proofs.Common.{◌≡◌, ℕ, Bool, true, false, cond, Option, S
 use Rattle.std.proofs.lemmas.Bool.{false≢true}
 use Rattle.std.specs.Prelude.{is_some}
 use Rattle.pide_base.specs.declared.part.Part.{Part}
-use Rattle.task_queue.specs.declared.task.Standing.{Standing as Task}
-use Rattle.task_queue.specs.Changes.{IsHeld}
+use Rattle.core_tables.specs.declared.task.Standing.{Standing as Task}
+use Rattle.core_tables.specs.Changes.{IsHeld}
 use Rattle.language.specs.Lang.{Lang}
 use Rattle.core_rules.specs.declared.event.Event.{Event}
 use Rattle.core_rules.specs.Standing.{held}

@@ -25,7 +25,7 @@ use Rattle.core_rules.specs.Sources.{is_evaluation, IsSource, HasHome}
 use Rattle.core_jobs.specs.declared.input.Input.{Input as Taken}
 use Rattle.core_jobs.specs.Jobs.{setting_of}
 use Rattle.prover_core.specs.Progress.{Completed, part, completed_in, progress_by, behind_eval, result}
-use Rattle.job_inputs.specs.Inputs.{state_of, state_left, found_input}
+use Rattle.core_jobs.specs.Inputs.{state_of, state_left, found_input}
 use Rattle.prover_core.specs.Kept.{Tables, IsKept, IsKnown}
 use Rattle.prover_core.proofs.Olders.{olders}
 use Rattle.prover_core.proofs.OpenRows.{row_known}

@@ -4,7 +4,7 @@ use Rattle.std.proofs.lemmas.Bool.{false≢true}
 use Rattle.std.specs.Prelude.{slice_get, find, is_some, ◌↔◌}
 use Rattle.std.specs.Option.{option_map, option_and_then, option_map_or}
 use Rattle.text_words.proofs.KnownLists.{position_found}
-use Rattle.import_rounds.specs.Looks.{marked}
+use Rattle.doc_nodes.specs.Looks.{marked}
 use Rattle.shared_map.specs.Pairs.{found, has_key}
 use Rattle.doc_nodes.specs.declared.node.Entry.{Entry}
 use Rattle.doc_nodes.specs.declared.node.Node.{Node}

@@ -4,8 +4,8 @@ use Rattle.std.specs.List.{Contains}
 use Rattle.std.proofs.lemmas.Bool.{cases_lt}
 use Rattle.std.proofs.lemmas.List.{get_or_default}
 use Rattle.pide_base.specs.declared.part.Part.{Part}
-use Rattle.task_queue.specs.Ready.{Standings, priority_of, comes_first, IsReadyPart, AreReady, IsNext}
-use Rattle.task_queue.proofs.KnownOrder.{not_itself, not_both}
+use Rattle.core_tables.specs.Ready.{Standings, priority_of, comes_first, IsReadyPart, AreReady, IsNext}
+use Rattle.core_tables.proofs.KnownOrder.{not_itself, not_both}
 
 -- where none is there, none is ready
 pub none_is_ready : (all : Standings) (parts : List Part) (part : Part) → length parts < 1 → AreReady all parts

@@ -4,7 +4,7 @@ use Rattle.std.proofs.Math.Bool.{or-false}
 use Rattle.std.specs.Prelude.{◌==◌, nat_lt, is_some}
 use Rattle.text_words.specs.Members.{has}
 use Rattle.text_words.proofs.KnownMembers.{has_both, has_passing}
-use Rattle.task_queue.specs.Ready.{Standings}
+use Rattle.core_tables.specs.Ready.{Standings}
 use Rattle.version_losses.specs.Leaving.{below}
 use Rattle.prover_core.specs.Settling.{is_looked_at}
 

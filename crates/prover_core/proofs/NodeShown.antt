@@ -19,9 +19,9 @@ use Rattle.core_rules.specs.declared.event.Event.{Event}
 use Rattle.core_rules.specs.Assigned.{assigns, is_assigned}
 use Rattle.core_rules.specs.Doc.{doc}
 use Rattle.prover_core.specs.Kept.{Tables, IsKept}
-use Rattle.exec_lists.specs.Parts.{told_part, rows_known, is_unfinished}
+use Rattle.core_jobs.specs.Parts.{told_part, rows_known, is_unfinished}
 use Rattle.prover_core.specs.Results.{AreResultsIn}
-use Rattle.exec_lists.specs.declared.results.NodeResults.{NodeResults}
+use Rattle.core_jobs.specs.declared.results.NodeResults.{NodeResults}
 use Rattle.prover_core.proofs.ShownRows.{rows_shown, open_risen}
 
 -- what a version assigns that is found is assigned

@@ -3,9 +3,9 @@ use Rattle.std.proofs.Common.{◌≡◌, ◌⊎◌, inl, inr, ℕ, ◌<◌, ◌�
 use Rattle.std.proofs.lemmas.Bool.{cases_lt}
 use Rattle.std.specs.Prelude.{AllPairs}
 use Rattle.pide_base.specs.declared.part.Part.{Part}
-use Rattle.task_queue.specs.declared.priority.Priority.{Priority}
-use Rattle.task_queue.specs.Order.{height, goes_before}
-use Rattle.task_queue.specs.Ready.{Standings, priority_of, comes_first}
+use Rattle.core_tables.specs.declared.priority.Priority.{Priority}
+use Rattle.core_tables.specs.Order.{height, goes_before}
+use Rattle.core_tables.specs.Ready.{Standings, priority_of, comes_first}
 
 -- what is taken before has the same priority or a higher one, and where it has the same, a lower id
 older : (p q : Priority) (e f : ℕ) → goes_before p e q f ≡ true → height q ≤ height p

@@ -3,7 +3,7 @@ use Rattle.std.proofs.Common.{◌≡◌, ℕ, suc, ◌<◌, ◌≤◌, false, no
 use Rattle.std.specs.Option.{option_map_or}
 use Rattle.text_words.specs.Members.{has}
 use Rattle.doc_nodes.specs.Imports.{NodeList}
-use Rattle.task_queue.specs.Changes.{waiting}
+use Rattle.core_tables.specs.Changes.{waiting}
 use Rattle.exec_rules.specs.declared.home.Home.{Home}
 use Rattle.exec_rules.specs.Kept.{BlobList}
 use Rattle.exec_rules.specs.declared.home.Input.TheVariants as input

@@ -6,8 +6,8 @@ use Rattle.std.specs.Prelude.{flat_map, min}
 use Rattle.text_words.specs.Members.{has}
 use Rattle.core_tables.specs.Live.{History, tip_of}
 use Rattle.core_tables.specs.declared.execution.Execution.{Execution}
-use Rattle.task_queue.specs.declared.task.Standing.{Standing}
-use Rattle.task_queue.specs.declared.task.Task.{Task}
+use Rattle.core_tables.specs.declared.task.Standing.{Standing}
+use Rattle.core_tables.specs.declared.task.Task.{Task}
 use Rattle.exec_rules.specs.declared.home.Home.{Home}
 use Rattle.exec_rules.specs.declared.version.Version.{Version}
 use Rattle.language.specs.Lang.{Lang}

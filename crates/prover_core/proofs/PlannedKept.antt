@@ -7,8 +7,8 @@ use Rattle.pide_base.specs.Ids.{id_end}
 use Rattle.core_tables.specs.Live.{History}
 use Rattle.core_tables.specs.declared.execution.Execution.{Execution}
 use Rattle.core_tables.specs.Finish.{after_cancelling}
-use Rattle.task_queue.specs.declared.task.Standing.{Standing as Task}
-use Rattle.task_queue.specs.Changes.{waiting}
+use Rattle.core_tables.specs.declared.task.Standing.{Standing as Task}
+use Rattle.core_tables.specs.Changes.{waiting}
 use Rattle.exec_rules.specs.declared.home.Home.{Home}
 use Rattle.exec_rules.specs.declared.version.Version.{Version}
 use Rattle.exec_rules.specs.Assigning.{Assignment}

@@ -6,9 +6,9 @@ use Rattle.text_words.specs.Members.{has}
 use Rattle.pide_base.specs.declared.part.Part.{Part}
 use Rattle.pide_base.specs.declared.part.PartKind.{PartKind}
 use Rattle.pide_base.specs.declared.part.PartKind.TheVariants as kind
-use Rattle.task_queue.specs.declared.task.Standing.{Standing as Task}
-use Rattle.task_queue.specs.Tasks.{is_ready as is_ready_task}
-use Rattle.task_queue.specs.Ready.{IsReadyPart}
+use Rattle.core_tables.specs.declared.task.Standing.{Standing as Task}
+use Rattle.core_tables.specs.Tasks.{is_ready as is_ready_task}
+use Rattle.core_tables.specs.Ready.{IsReadyPart}
 use Rattle.language.specs.Lang.{Lang}
 use Rattle.core_rules.specs.declared.event.Event.{Event}
 use Rattle.core_rules.specs.Assigned.{assigns, is_assigned}

@@ -15,7 +15,7 @@ use Rattle.core_rules.specs.Doc.{Doc}
 use Rattle.core_rules.specs.Shown.{PartShown, shown_with}
 use Rattle.prover_core.specs.Progress.{Completed, InOrder, part, completed_in, progress_by, result, execution_by}
 use Rattle.prover_core.specs.Kept.{IsKnown}
-use Rattle.exec_lists.specs.Parts.{parts_by}
+use Rattle.core_jobs.specs.Parts.{parts_by}
 use Rattle.prover_core.specs.Results.{is_reported}
 use Rattle.prover_core.proofs.KindsNext.{is_in, finished_is}
 

@@ -20,10 +20,10 @@ use Rattle.core_rules.specs.Doc.{Doc, doc}
 use Rattle.core_rules.specs.Shown.{PartShown, shown_with, commands_parts}
 use Rattle.core_rules.proofs.KnownNumbers.{numbered_within, numbered_positive}
 use Rattle.prover_core.specs.Kept.{Tables, IsKept}
-use Rattle.exec_lists.specs.Parts.{parts_known, rows_known, is_unfinished}
+use Rattle.core_jobs.specs.Parts.{parts_known, rows_known, is_unfinished}
 use Rattle.prover_core.specs.Results.{is_reported}
 use Rattle.prover_core.proofs.OpenRows.{row_known, done_closed}
-use Rattle.import_rounds.proofs.KnownRising.{risen_range}
+use Rattle.doc_nodes.proofs.KnownRising.{risen_range}
 use Rattle.prover_core.proofs.ShownParts.{execution_shown}
 
 filter_flat : {A B : Type 0} (test : B → Bool) (f : A → List B) (xs : List A) → filter test (flat_map f xs) ≡ flat_map (λ x. filter test (f x)) xs

@@ -15,7 +15,7 @@ use Rattle.core_rules.specs.Standing.{is_finished, is_open}
 use Rattle.core_rules.specs.Doc.{doc}
 use Rattle.core_rules.specs.Stuck.{is_stuck, is_stuck_in, is_over, is_settled, stuck_in}
 use Rattle.prover_core.specs.Kept.{Tables, IsKept}
-use Rattle.exec_lists.specs.Parts.{is_unfinished}
+use Rattle.core_jobs.specs.Parts.{is_unfinished}
 use Rattle.prover_core.proofs.ShownRows.{open_risen}
 
 -- what is stuck in a settled version is what is open in it

@@ -18,7 +18,7 @@ use Rattle.core_rules.specs.Sources.{HasHome}
 use Rattle.core_rules.specs.Stuck.{is_settled, stuck_in}
 use Rattle.core_rules.proofs.KnownNumbers.{numbered_within, numbered_positive}
 use Rattle.core_jobs.specs.declared.done.Done.{Done}
-use Rattle.exec_lists.specs.Parts.{is_unfinished}
+use Rattle.core_jobs.specs.Parts.{is_unfinished}
 use Rattle.prover_core.specs.Progress.{completed_in, row_by}
 use Rattle.prover_core.specs.Kept.{Tables, IsKept, IsBehind}
 use Rattle.prover_core.specs.Settling.{is_looked_at}

@@ -4,7 +4,7 @@ use Rattle.text_words.specs.Members.{has}
 use Rattle.doc_nodes.specs.Imports.{NodeList}
 use Rattle.core_tables.specs.Live.{History}
 use Rattle.core_tables.specs.declared.execution.Execution.{Execution}
-use Rattle.task_queue.specs.declared.task.Standing.{Standing as Task}
+use Rattle.core_tables.specs.declared.task.Standing.{Standing as Task}
 use Rattle.exec_rules.specs.declared.home.Home.{Home}
 use Rattle.exec_rules.specs.declared.version.Version.{Version}
 use Rattle.exec_rules.specs.Kept.{BlobList}

@@ -8,7 +8,7 @@ use Rattle.core_tables.specs.declared.versions.Live.{Live}
 use Rattle.core_tables.specs.Live.{History, newest}
 use Rattle.core_tables.specs.declared.execution.Execution.{Execution}
 use Rattle.core_tables.specs.Finish.{after_cancelling}
-use Rattle.task_queue.specs.declared.task.Standing.{Standing as Task}
+use Rattle.core_tables.specs.declared.task.Standing.{Standing as Task}
 use Rattle.exec_rules.specs.declared.home.Home.{Home}
 use Rattle.exec_rules.specs.declared.version.Version.{Version}
 use Rattle.exec_rules.specs.Kept.{BlobList}

@@ -1,7 +1,7 @@
 -- New executions, with their tasks, as they are put into tables (this project's own).
 use Rattle.std.specs.Prelude.{◌≡◌, ℕ, suc, ◌<◌, ◌≤◌, ◌==◌, true, false, if◌then◌else◌, List, [], ◌∷◌, ⊤, Option, Some, None}
 use Rattle.std.specs.Option.{option_map_or}
-use Rattle.task_queue.specs.declared.task.Standing.{Standing}
+use Rattle.core_tables.specs.declared.task.Standing.{Standing}
 use Rattle.text_words.specs.Members.{has}
 use Rattle.core_tables.specs.declared.execution.Execution.{Execution}
 use Rattle.update_plans.specs.declared.known.Known.{Known}

@@ -5,7 +5,7 @@ use Rattle.pide_base.specs.Ids.{id_end}
 use Rattle.pide_base.specs.declared.part.Part.{Part}
 use Rattle.core_tables.specs.Live.{History, tip_of}
 use Rattle.core_tables.specs.declared.execution.Execution.{Execution}
-use Rattle.task_queue.specs.declared.task.Standing.{Standing as Task}
+use Rattle.core_tables.specs.declared.task.Standing.{Standing as Task}
 use Rattle.exec_rules.specs.declared.home.Home.{Home}
 use Rattle.exec_rules.specs.declared.version.Version.{Version}
 use Rattle.exec_assign.specs.Fitting.{RowsFit}

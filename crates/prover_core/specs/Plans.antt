@@ -6,8 +6,8 @@ use Rattle.pide_base.specs.declared.part.PartKind.{PartKind}
 use Rattle.pide_base.specs.declared.part.PartKind.TheVariants as kind
 use Rattle.core_tables.specs.declared.execution.Execution.{Execution}
 use Rattle.core_tables.specs.declared.execution.Progress.TheVariants as progress
-use Rattle.task_queue.specs.declared.task.Task.{Task}
-use Rattle.task_queue.specs.declared.task.Standing.{Standing}
+use Rattle.core_tables.specs.declared.task.Task.{Task}
+use Rattle.core_tables.specs.declared.task.Standing.{Standing}
 use Rattle.doc_nodes.specs.Imports.{NodeList}
 use Rattle.exec_rules.specs.declared.home.Home.{Home}
 use Rattle.exec_rules.specs.declared.home.Input.{Input}

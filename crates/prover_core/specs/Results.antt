@@ -7,8 +7,8 @@ use Rattle.language.specs.Lang.{Lang}
 use Rattle.core_rules.specs.declared.event.Event.{Event}
 use Rattle.core_rules.specs.Doc.{doc}
 use Rattle.core_rules.specs.Shown.{PartShown, parts_shown, pending}
-use Rattle.exec_lists.specs.declared.results.NodeResults.{NodeResults}
-use Rattle.exec_lists.specs.Parts.{told_part}
+use Rattle.core_jobs.specs.declared.results.NodeResults.{NodeResults}
+use Rattle.core_jobs.specs.Parts.{told_part}
 
 -- the part is finished
 abbrev pub is_reported : PartShown → Bool

@@ -3,7 +3,7 @@ use Rattle.std.specs.Prelude.{◌≡◌, ℕ, ◌==◌, nat_lt, Bool, true, fals
 use Rattle.text_words.specs.Members.{has}
 use Rattle.pide_base.specs.declared.part.Part.{Part}
 use Rattle.core_tables.specs.Live.{version_of}
-use Rattle.task_queue.specs.Ready.{Standings}
+use Rattle.core_tables.specs.Ready.{Standings}
 use Rattle.exec_rules.specs.declared.version.Version.{Version}
 use Rattle.language.specs.Lang.{Lang}
 use Rattle.core_rules.specs.declared.event.Event.{Event}

@@ -4,18 +4,17 @@ ghost use Rattle.std.specs.Option.{option_map, option_map_or};
 ghost use Rattle.std.specs.HashMap.{hash_map_len, spare};
 ghost use Rattle.core_tables.specs.Rows.{execution_of};
 ghost use Rattle.text_words.specs.Members.{has};
-ghost use Rattle.task_queue.specs.Tasks.{standing};
-ghost use Rattle.task_queue.specs.Changes.{waiting, nobody_waits};
-ghost use Rattle.task_queue.specs.Ready.{with_standing};
+ghost use Rattle.core_tables.specs.Tasks.{standing};
+ghost use Rattle.core_tables.specs.Changes.{waiting, nobody_waits};
+ghost use Rattle.core_tables.specs.Ready.{with_standing};
 ghost use Rattle.prover_core.specs.Looked.{looked};
 ghost use Rattle.prover_core.specs.Plans.{begun_as};
 ghost use Rattle.prover_core.specs.Fresh.{with_fresh, AreNew};
 
 use crate::following::same;
 use crate::table::Table;
-use core_tables::{Execs, Execution};
+use core_tables::{Execs, Execution, TaskQueue};
 use pide_base::{Part, PartKind};
-use task_queue::TaskQueue;
 use update_plans::{Fresh, Known};
 
 /// New executions are put into the tables, and their tasks into the queue. The first stands last.

@@ -6,16 +6,15 @@ ghost use Rattle.std.specs.HashMap.{hash_map_len, spare};
 ghost use Rattle.text_words.specs.Members.{has};
 ghost use Rattle.core_tables.specs.Rows.{execution_of};
 ghost use Rattle.core_tables.specs.Finish.{after_cancelling};
-ghost use Rattle.task_queue.specs.Tasks.{standing};
-ghost use Rattle.task_queue.specs.Ready.{with_standing};
+ghost use Rattle.core_tables.specs.Tasks.{standing};
+ghost use Rattle.core_tables.specs.Ready.{with_standing};
 ghost use Rattle.prover_core.specs.Looked.{looked};
 ghost use Rattle.prover_core.specs.Plans.{ranked};
 
 use crate::cancelling::ask_to_stop;
 use crate::table::Table;
-use core_tables::{Cancelling, Execs};
+use core_tables::{Cancelling, Execs, Priority, TaskQueue};
 use pide_base::{ExecId, PartKind};
-use task_queue::{Priority, TaskQueue};
 use update_plans::{Known, Sight};
 
 /// Executions that the tip has no more are cancelled where a part of them is unfinished, and have

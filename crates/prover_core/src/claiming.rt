@@ -2,8 +2,8 @@
 ghost use Rattle.std.specs.Prelude.{◌≡◌, ◌+◌, ◌<◌, ◌≤◌, ℕ, false, length, Some, None, IfOk, IfSome, IfNone, OnOk};
 ghost use Rattle.std.specs.HashMap.{hash_map_len, spare};
 ghost use Rattle.pide_base.specs.declared.part.Part.{Part};
-ghost use Rattle.task_queue.specs.Tasks.{standing};
-ghost use Rattle.task_queue.specs.Ready.{IsNext, IsReadyPart};
+ghost use Rattle.core_tables.specs.Tasks.{standing};
+ghost use Rattle.core_tables.specs.Ready.{IsNext, IsReadyPart};
 ghost use Rattle.core_jobs.specs.Fits.{IsJobOf};
 ghost use Rattle.core_rules.specs.Standing.{held, has_ended};
 ghost use Rattle.core_rules.specs.Doc.{doc};
@@ -15,15 +15,14 @@ ghost use Rattle.prover_core.specs.Claims.{ClaimedSo};
 use crate::following::same;
 use crate::prover::Core;
 use crate::table::{Table, put, reserve_one};
-use core_jobs::Job;
+use core_jobs::{Job, input_of};
 use core_rules::{Event, first_law, holders_law, homes_law, tip_law};
+use core_tables::TaskQueue;
 use doc_nodes::Shared;
-use job_inputs::input_of;
 use joined_results::{both, each_of_three};
 use language::Language;
 use pide_base::{Flag, Part};
 use std::alloc::{AllocError, Global};
-use task_queue::TaskQueue;
 use text_edits::Text;
 
 /// What a claim gives.

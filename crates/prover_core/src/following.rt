@@ -3,18 +3,17 @@ ghost use Rattle.std.specs.Prelude.{◌≡◌, ◌≢◌, ◌+◌, ◌<◌, ◌�
 ghost use Rattle.std.specs.Option.{option_map, option_map_or};
 ghost use Rattle.pide_base.specs.declared.part.PartKind.TheVariants as kinds;
 ghost use Rattle.text_words.specs.Members.{has};
-ghost use Rattle.task_queue.specs.Tasks.{standing};
-ghost use Rattle.task_queue.specs.Changes.{without, IsHeld};
+ghost use Rattle.core_tables.specs.Tasks.{standing};
+ghost use Rattle.core_tables.specs.Changes.{without, IsHeld};
 ghost use Rattle.core_rules.specs.Parts.{same_kind};
 ghost use Rattle.prover_core.specs.Brought.{brought, forks_told};
 ghost use Rattle.prover_core.specs.Progress.{kind_behind};
 ghost use Rattle.prover_core.specs.Tasks.{task_behind};
 
 use core_jobs::Done;
-use core_tables::Done as Brought;
+use core_tables::{Done as Brought, Inputs, Priority, Task, TaskQueue};
 use pide_base::{ExecId, Part, PartKind};
 use std::alloc::Global;
-use task_queue::{Inputs, Priority, Task, TaskQueue};
 
 /// Whether the tip has a part of the execution that is to be worked on.
 pub(crate) fn is_present(queue: &TaskQueue, exec: ExecId) -> bool

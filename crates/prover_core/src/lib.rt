@@ -26,7 +26,7 @@ mod table;
 mod updating;
 
 pub use claiming::Claim;
-pub use exec_lists::{NodeResults, PartResult};
+pub use core_jobs::{NodeResults, PartResult};
 pub use finishing::{Finish, GiveUp};
 pub use plan::Plan;
 pub use planning::PlanFault;

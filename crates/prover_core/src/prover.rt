@@ -8,7 +8,7 @@ use crate::planning::shared_version;
 use crate::table::Table;
 use core_jobs::Done;
 use core_rules::Event;
-use core_tables::{Execs, Versions};
+use core_tables::{Execs, TaskQueue, Versions};
 use doc_nodes::Nodes;
 use exec_rules::{Blobs, Version};
 use language::Language;
@@ -18,7 +18,6 @@ use sqlite_items::Items;
 use std::alloc::{AllocError, Global};
 use std::collections::HashMap;
 use std::marker::Model;
-use task_queue::TaskQueue;
 use update_plans::Known;
 use version_losses::Losses;
 
@@ -48,7 +47,7 @@ impl<L: Language> Model for Core<L> {
     ghost use Rattle.std.specs.Prelude.{◌-◌, min, length, vec_len, vec_capacity};
     ghost use Rattle.std.specs.HashMap.{hash_map_len, spare};
     ghost use Rattle.core_tables.specs.Rows.{execution_of};
-    ghost use Rattle.task_queue.specs.Tasks.{standing};
+    ghost use Rattle.core_tables.specs.Tasks.{standing};
     ghost use Rattle.prover_core.specs.Looked.{looked};
     ghost use Rattle.prover_core.specs.States.{CoreState, Room};
     ghost use Rattle.prover_core.specs.Kept.{Tables, IsKept};

@@ -3,8 +3,8 @@ ghost use Rattle.std.specs.Prelude.{IfOk};
 ghost use Rattle.prover_core.specs.Results.{AreResults};
 
 use crate::prover::Core;
+use core_jobs::{NodeResults, results_at};
 use core_rules::places_law;
-use exec_lists::{NodeResults, results_at};
 use language::Language;
 use pide_base::{NodeName, VersionId};
 use shared_map::Exactly;

@@ -3,8 +3,8 @@ ghost use Rattle.std.specs.Prelude.{◌≡◌, ◌<◌, ◌≤◌, ℕ, true, fa
 ghost use Rattle.text_words.specs.Members.{has};
 ghost use Rattle.pide_base.specs.Ids.{IsId};
 ghost use Rattle.pide_base.specs.declared.part.Part.{Part};
-ghost use Rattle.task_queue.specs.Tasks.{standing};
-ghost use Rattle.task_queue.specs.Ready.{IsReadyPart, priority_of, comes_first};
+ghost use Rattle.core_tables.specs.Tasks.{standing};
+ghost use Rattle.core_tables.specs.Ready.{IsReadyPart, priority_of, comes_first};
 ghost use Rattle.core_tables.specs.declared.versions.Live.{Live};
 ghost use Rattle.core_tables.specs.Live.{version_of};
 ghost use Rattle.exec_rules.specs.declared.version.Version.{Version};
@@ -16,12 +16,12 @@ ghost use Rattle.prover_core.specs.Settling.{IsSettled, SettledSo, is_looked_at}
 use crate::following::{is_present, same};
 use crate::prover::Core;
 use crate::table::Table;
+use core_jobs::open_among;
 use core_rules::{holders_law, homes_law, tip_law};
-use exec_lists::open_among;
+use core_tables::{Priority, TaskQueue};
 use language::Language;
 use pide_base::{ExecId, Part, VersionId};
 use std::alloc::{AllocError, Global};
-use task_queue::{Priority, TaskQueue};
 use version_losses::{Losses, add_below};
 
 /// How far a version is.

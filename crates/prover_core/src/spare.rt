@@ -2,15 +2,14 @@
 ghost use Rattle.std.specs.Prelude.{◌≡◌, ◌≤◌, ◌+◌, ℕ, length, flat_map, vec_len, vec_capacity, IfSome, OnOk};
 ghost use Rattle.std.specs.HashMap.{spare};
 ghost use Rattle.core_tables.specs.Rows.{execution_of};
-ghost use Rattle.task_queue.specs.Tasks.{standing};
+ghost use Rattle.core_tables.specs.Tasks.{standing};
 ghost use Rattle.prover_core.specs.Looked.{looked};
 
 use crate::table::Table;
-use core_tables::{Execs, Versions};
+use core_tables::{Execs, TaskQueue, Versions};
 use exec_rules::Version;
 use pide_base::ExecId;
 use std::alloc::AllocError;
-use task_queue::TaskQueue;
 use update_plans::{Fresh, Known};
 use version_losses::Losses;
 

@@ -5,8 +5,8 @@ use Rattle.std.proofs.ByRecursion.{All-append}
 use Rattle.std.proofs.lemmas.Bool.{ne_eqb}
 use Rattle.std.proofs.lemmas.Fmt.{decimal_by_steps}
 use Rattle.pide_base.specs.declared.range.Range.{Range}
-use Rattle.xml_tree.specs.declared.tree.Attribute.{Attribute}
-use Rattle.xml_tree.specs.Normal.{IsPlain, IsAttribute}
+use Rattle.yxml.specs.declared.tree.Attribute.{Attribute}
+use Rattle.yxml.specs.Normal.{IsPlain, IsAttribute}
 use Rattle.report_markup.specs.Element.{with_offsets}
 use Rattle.report_markup.proofs.Words.{offset_fits, end_offset_fits}
 

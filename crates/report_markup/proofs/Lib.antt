@@ -7,3 +7,10 @@ mod Ordered
 mod Sorts
 mod Words
 mod Written
+mod OrderLemmas
+mod InsertLemmas
+mod CrossLemmas
+mod InnermostLemmas
+mod SearchLemmas
+mod StandLemmas
+mod BoundLemmas

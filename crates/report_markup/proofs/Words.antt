@@ -1,6 +1,6 @@
 -- The words of kinds and keys can be names and keys in YXML.
 use Rattle.std.proofs.Common.{◌≡◌, ℕ, ◌==◌, Bool, true, false, not, ◌&&◌, List, [], ◌∷◌, codes, refl}
-use Rattle.xml_tree.specs.Normal.{Lacks, IsFilled}
+use Rattle.yxml.specs.Normal.{Lacks, IsFilled}
 use Rattle.report_markup.specs.declared.kind.ReportKind.{ReportKind}
 use Rattle.report_markup.specs.declared.kind.ReportKind.TheVariants.{Command, Theory, Import, Def, Formula, Error, Proved, Ref, State, Loaded, Suggest}
 use Rattle.report_markup.specs.declared.property.PropertyKey.{PropertyKey}

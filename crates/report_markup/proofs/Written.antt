@@ -2,11 +2,11 @@
 use Rattle.std.proofs.Common.{◌≡◌, ℕ, ◌+◌, List, [], ◌∷◌, ◌++◌, map, refl, sym, subst, ap, ◌∙◌, append_assoc, arith, codes, decimal}
 use Rattle.std.specs.List.{flat_map, AllByRecursion}
 use Rattle.std.proofs.lemmas.List.{append-nil}
-use Rattle.xml_tree.specs.declared.tree.Tree.TheVariants.{Text, rolls-Elem, rolls-Text}
-use Rattle.xml_tree.specs.declared.tree.Tree.TheOpen.{Tree-F}
-use Rattle.xml_tree.specs.declared.tree.Tree.TheFolds.{fold-roll-Tree}
-use Rattle.xml_tree.specs.Marks.{Mark, opening, closing, words, marks, mark_step, tree_marks}
-use Rattle.xml_tree.specs.Normal.{IsNormal, IsFit, IsPlain, IsAttribute, AreApart, height, height_step, tree_height}
+use Rattle.yxml.specs.declared.tree.Tree.TheVariants.{Text, rolls-Elem, rolls-Text}
+use Rattle.yxml.specs.declared.tree.Tree.TheOpen.{Tree-F}
+use Rattle.yxml.specs.declared.tree.Tree.TheFolds.{fold-roll-Tree}
+use Rattle.yxml.specs.Marks.{Mark, opening, closing, words, marks, mark_step, tree_marks}
+use Rattle.yxml.specs.Normal.{IsNormal, IsFit, IsPlain, IsAttribute, AreApart, height, height_step, tree_height}
 use Rattle.yxml.specs.Spelling.{yxml, spellings, mark_spelling, attribute_spelling}
 use Rattle.report_markup.specs.declared.report.Report.{Report}
 use Rattle.report_markup.specs.Words.{kind_word}

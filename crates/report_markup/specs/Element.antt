@@ -1,8 +1,8 @@
 -- Reports in YXML.
 use Rattle.std.specs.Prelude.{ℕ, List, [], ◌∷◌, map, codes, decimal}
-use Rattle.xml_tree.specs.declared.tree.Attribute.{Attribute}
-use Rattle.xml_tree.specs.declared.tree.Tree.{Tree}
-use Rattle.xml_tree.specs.declared.tree.Tree.TheVariants.{Elem, Text}
+use Rattle.yxml.specs.declared.tree.Attribute.{Attribute}
+use Rattle.yxml.specs.declared.tree.Tree.{Tree}
+use Rattle.yxml.specs.declared.tree.Tree.TheVariants.{Elem, Text}
 use Rattle.pide_base.specs.declared.range.Range.{Range}
 use Rattle.report_markup.specs.declared.property.Property.{Property}
 use Rattle.report_markup.specs.declared.report.Report.{Report}

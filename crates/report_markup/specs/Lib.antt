@@ -5,3 +5,9 @@ pub mod Ranges
 pub mod Sorting
 pub mod Texts
 pub mod Words
+pub mod Bounds
+pub mod Items
+pub mod Crossing
+pub mod Innermost
+pub mod Standing
+pub mod Answers

@@ -1,7 +1,7 @@
 //! Reports written as YXML, with no tree in between.
 ghost use Rattle.std.specs.Prelude.{◌≡◌, ◌++◌, ◌∷◌, [], ℕ, List, map, decimal, OnOk, string_bytes};
 ghost use Rattle.std.specs.List.{flat_map, AllByRecursion};
-ghost use Rattle.xml_tree.specs.Normal.{IsNormal, IsAttribute, IsPlain};
+ghost use Rattle.yxml.specs.Normal.{IsNormal, IsAttribute, IsPlain};
 ghost use Rattle.yxml.specs.Spelling.{yxml, attribute_spelling};
 ghost use Rattle.report_markup.specs.Element.{element, property_attribute};
 

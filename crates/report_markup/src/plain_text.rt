@@ -1,7 +1,7 @@
 //! Texts that reports share.
 ghost use Rattle.std.specs.Prelude.{◌≡◌, [], IfOk, IsTrue, ◌↔◌, string_bytes};
 ghost use Rattle.std.specs.Arc.{arc_str_bytes};
-ghost use Rattle.xml_tree.specs.Normal.{IsPlain};
+ghost use Rattle.yxml.specs.Normal.{IsPlain};
 
 use std::alloc::{AllocError, Global};
 use std::marker::Model;
@@ -25,7 +25,7 @@ pub struct PlainText {
 impl Model for PlainText {
     ghost use Rattle.std.specs.Prelude.{ℕ, List};
     ghost use Rattle.report_markup.specs.Texts.{text_bytes};
-    ghost use Rattle.xml_tree.specs.Normal.{IsPlain};
+    ghost use Rattle.yxml.specs.Normal.{IsPlain};
 
     ghost Value = { List ℕ };
 

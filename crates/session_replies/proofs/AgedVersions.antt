@@ -7,7 +7,7 @@ use Rattle.core_rules.specs.declared.event.Event.{Event}
 use Rattle.core_rules.specs.declared.event.Event.TheVariants as event
 use Rattle.core_rules.specs.Doc.{doc}
 use Rattle.core_rules.specs.Legal.{IsLegal}
-use Rattle.import_rounds.proofs.KnownRising.{RisesFrom}
+use Rattle.doc_nodes.proofs.KnownRising.{RisesFrom}
 
 -- each id is at least a, at most b, and above the one before it
 abbrev AreAged : ℕ → ℕ → List (Live Version) → Type 0

@@ -4,8 +4,8 @@ use Rattle.std.specs.Prelude.{flat_map}
 use Rattle.text_edits.specs.declared.edit.Edit.{Edit}
 use Rattle.report_markup.specs.declared.report.Report.{Report}
 use Rattle.snapshots.specs.Gathered.{gathered, AllMovable}
-use Rattle.exec_lists.specs.declared.results.PartResult.{PartResult}
-use Rattle.exec_lists.specs.Parts.{told_part}
+use Rattle.core_jobs.specs.declared.results.PartResult.{PartResult}
+use Rattle.core_jobs.specs.Parts.{told_part}
 use Rattle.session_rules.specs.Shown.{placed_reports}
 use Rattle.session_replies.specs.Marked.{AreMovable, assigned_part}
 

@@ -6,9 +6,9 @@ use Rattle.std.proofs.lemmas.List.Kept.{AllPairs-from_increasing}
 use Rattle.std.specs.List.{filter, range_with_len}
 use Rattle.std.specs.List.Sorted.{IsStrictlyIncreasing}
 use Rattle.text_words.specs.Members.{has}
-use Rattle.import_rounds.proofs.KnownRising.{RisesFrom, rises_from_pairs, has_above}
+use Rattle.doc_nodes.proofs.KnownRising.{RisesFrom, rises_from_pairs, has_above}
 use Rattle.text_words.proofs.KnownMembers.{has_itself}
-use Rattle.reply_writing.specs.Forms.{IsRising}
+use Rattle.reply_messages.specs.Forms.{IsRising}
 
 pub rising : (a : ℕ) (xs : List ℕ) → RisesFrom a xs → IsRising xs
 rising a [] r = tt

@@ -11,7 +11,7 @@ use Rattle.report_markup.specs.Ranges.{moved}
 use Rattle.report_markup.specs.Sorting.{ordered_reports}
 use Rattle.snapshots.specs.Converted.{left_by}
 use Rattle.snapshots.specs.Gathered.{Movable}
-use Rattle.reply_writing.specs.Forms.{IsRising}
+use Rattle.reply_messages.specs.Forms.{IsRising}
 use Rattle.doc_nodes.specs.declared.node.Node.{Node}
 use Rattle.core_tables.specs.declared.versions.Live.{Live}
 use Rattle.exec_rules.specs.declared.version.Version.{Version}
@@ -25,8 +25,8 @@ use Rattle.core_rules.specs.Legal.{IsLegal}
 use Rattle.core_rules.specs.Shown.{PartShown, parts_shown, scratch_shown}
 use Rattle.core_rules.specs.Standing.{is_open}
 use Rattle.core_rules.specs.Updates.{node_in}
-use Rattle.exec_lists.specs.declared.results.NodeResults.{NodeResults}
-use Rattle.exec_lists.specs.Parts.{told_part}
+use Rattle.core_jobs.specs.declared.results.NodeResults.{NodeResults}
+use Rattle.core_jobs.specs.Parts.{told_part}
 use Rattle.prover_core.specs.Results.{is_reported, AreResultsIn}
 use Rattle.session_rules.specs.Shown.{placed_reports, finished_reports}
 use Rattle.session_replies.specs.Edited.{PlacesFit}

@@ -15,7 +15,7 @@ use Rattle.message_values.specs.declared.refusal.Refusal.TheVariants.{UnknownVer
 use Rattle.message_values.specs.Asked.{or_refused}
 use Rattle.buffer_rules.specs.Trying.{◌>>=◌}
 use Rattle.buffer_rules.specs.Texts.{edit_all}
-use Rattle.reply_writing.specs.declared.told.Told.TheVariants as tells
+use Rattle.reply_messages.specs.declared.told.Told.TheVariants as tells
 use Rattle.core_rules.specs.declared.event.Event.{Event}
 use Rattle.core_rules.specs.declared.event.Event.TheVariants as event
 use Rattle.core_rules.specs.Assigned.{is_assigned}
@@ -23,8 +23,8 @@ use Rattle.core_rules.specs.Legal.{IsLegal}
 use Rattle.core_rules.specs.Shown.{pending}
 use Rattle.core_rules.specs.Standing.{is_open}
 use Rattle.core_rules.specs.Updates.{node_in}
-use Rattle.exec_lists.specs.declared.results.NodeResults.{NodeResults}
-use Rattle.exec_lists.specs.Parts.{told_part}
+use Rattle.core_jobs.specs.declared.results.NodeResults.{NodeResults}
+use Rattle.core_jobs.specs.Parts.{told_part}
 use Rattle.prover_core.specs.Answers.{CancelledSo}
 use Rattle.prover_core.specs.Results.{AreResultsIn}
 use Rattle.session_rules.specs.declared.service.Service.{Service}

@@ -1,9 +1,9 @@
 -- What an update assigns, as a reply tells it.
 use Rattle.std.specs.Prelude.{ℕ, List, map}
 use Rattle.exec_rules.specs.Listed.{Told}
-use Rattle.reply_writing.specs.declared.told.CommandRow.{CommandRow}
-use Rattle.reply_writing.specs.declared.told.NodeRows.{NodeRows}
-use Rattle.reply_writing.specs.Lent.{row_of}
+use Rattle.reply_messages.specs.declared.told.CommandRow.{CommandRow}
+use Rattle.reply_messages.specs.declared.told.NodeRows.{NodeRows}
+use Rattle.reply_messages.specs.Lent.{row_of}
 use Rattle.session_replies.specs.declared.assigned.NodeLent.{NodeLent}
 
 -- a command with its executions

@@ -3,8 +3,8 @@ use Rattle.std.specs.Prelude.{ℕ}
 use Rattle.core_tables.specs.declared.execs.Cancelling.{Cancelling}
 use Rattle.core_tables.specs.declared.execs.Cancelling.TheVariants as answer
 use Rattle.message_values.specs.declared.refusal.Refusal.TheVariants.{UnknownExecution}
-use Rattle.reply_writing.specs.declared.told.Told.{Told}
-use Rattle.reply_writing.specs.declared.told.Told.TheVariants as tells
+use Rattle.reply_messages.specs.declared.told.Told.{Told}
+use Rattle.reply_messages.specs.declared.told.Told.TheVariants as tells
 
 -- by what asking the core to cancel came to
 abbrev pub cancelling_told : ℕ → Cancelling → Told

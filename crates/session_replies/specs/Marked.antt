@@ -10,7 +10,7 @@ use Rattle.snapshots.specs.Converted.{left_by}
 use Rattle.snapshots.specs.Gathered.{Movable}
 use Rattle.message_values.specs.declared.protocol.Protocol.{Protocol}
 use Rattle.core_rules.specs.Shown.{PartShown}
-use Rattle.exec_lists.specs.declared.results.PartResult.{PartResult}
+use Rattle.core_jobs.specs.declared.results.PartResult.{PartResult}
 use Rattle.session_rules.specs.Shown.{placed_reports, protocol_reports}
 
 -- what is shown of parts: their reports at the places of the version's text, as pending edits leave

@@ -1,8 +1,8 @@
 -- The bytes of one reply.
 use Rattle.std.specs.Prelude.{ℕ, List}
 use Rattle.byte_message.specs.Stream.{plain_spelling}
-use Rattle.reply_writing.specs.declared.told.Told.{Told}
-use Rattle.reply_writing.specs.Replies.{reply_chunks}
+use Rattle.reply_messages.specs.declared.told.Told.{Told}
+use Rattle.reply_messages.specs.Replies.{reply_chunks}
 
 -- a reply as a byte message
 abbrev pub reply_spelling : Told → List ℕ

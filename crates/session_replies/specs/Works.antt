@@ -1,8 +1,8 @@
 -- Jobs of a session, and what comes of them (this project's own).
 use Rattle.std.specs.Prelude.{ℕ, List}
 use Rattle.message_values.specs.declared.protocol.Protocol.{Protocol}
-use Rattle.reply_writing.specs.declared.told.Told.{Told}
-use Rattle.reply_writing.specs.declared.told.Told.TheVariants as tells
+use Rattle.reply_messages.specs.declared.told.Told.{Told}
+use Rattle.reply_messages.specs.declared.told.Told.TheVariants as tells
 use Rattle.core_jobs.specs.declared.done.Done.{Done}
 use Rattle.core_jobs.specs.Jobs.{JobContent}
 use Rattle.session_rules.specs.Shown.{protocol_reports}

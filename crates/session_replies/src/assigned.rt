@@ -1,7 +1,7 @@
 //! The reply to an update.
 ghost use Rattle.std.specs.Prelude.{◌≡◌, map, IfOk};
-ghost use Rattle.reply_writing.specs.declared.told.Told.TheVariants as tells;
-ghost use Rattle.reply_writing.specs.Lent.{executions_of, row_of, rows_of};
+ghost use Rattle.reply_messages.specs.declared.told.Told.TheVariants as tells;
+ghost use Rattle.reply_messages.specs.Lent.{executions_of, row_of, rows_of};
 ghost use Rattle.exec_assign.specs.Told.{told_row, told_command, told_node};
 ghost use Rattle.session_replies.specs.Spelling.{reply_spelling};
 ghost use Rattle.session_replies.specs.Assigned.{command_told, node_told, nodes_told, node_of};
@@ -9,7 +9,7 @@ ghost use Rattle.session_replies.specs.Assigned.{command_told, node_told, nodes_
 use exec_assign::{ToldCommand, ToldNode};
 use exec_rules::Row;
 use pide_base::{NodeName, VersionId};
-use reply_writing::{AssignedNode, AssignedRow, Executions};
+use reply_messages::{AssignedNode, AssignedRow, Executions};
 use sqlite_items::Items;
 use std::alloc::{AllocError, Global};
 
@@ -28,7 +28,7 @@ pub fn assign(alloc: Global, version: VersionId, nodes: &[ToldNode]) -> Result<V
 {
     let rows = rows_of_nodes(alloc, nodes)?;
     let nodes = lent(alloc, &rows)?;
-    reply_writing::assign(alloc, version, &nodes)
+    reply_messages::assign(alloc, version, &nodes)
 }
 
 /// The nodes with their rows.

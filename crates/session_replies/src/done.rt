@@ -1,6 +1,6 @@
 //! What comes of a job.
 ghost use Rattle.std.specs.Prelude.{◌≡◌};
-ghost use Rattle.reply_writing.specs.declared.told.Told.TheVariants as tells;
+ghost use Rattle.reply_messages.specs.declared.told.Told.TheVariants as tells;
 ghost use Rattle.session_replies.specs.Spelling.{reply_spelling};
 ghost use Rattle.session_replies.specs.Works.{work_report};
 
@@ -22,7 +22,7 @@ pub struct SessionDone<S> {
 
 impl<S> Model for SessionDone<S> {
     ghost use Rattle.std.specs.Prelude.{◌≡◌};
-    ghost use Rattle.reply_writing.specs.declared.told.Told.TheVariants as tells;
+    ghost use Rattle.reply_messages.specs.declared.told.Told.TheVariants as tells;
     ghost use Rattle.session_replies.specs.Spelling.{reply_spelling};
     ghost use Rattle.session_replies.specs.Works.{WorkDone, work_report};
 

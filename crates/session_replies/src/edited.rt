@@ -2,12 +2,12 @@
 ghost use Rattle.std.specs.Prelude.{◌≡◌, ◌<◌, ◌≤◌, ◌^◌, ℕ, length, IfOk, OnOk};
 ghost use Rattle.text_edits.specs.Offsets.{convert};
 ghost use Rattle.buffer_rules.specs.Texts.{edit_once, edit_all};
-ghost use Rattle.sheet_edits.specs.Telling.{Tells};
+ghost use Rattle.editor_buffer.specs.Telling.{Tells};
 ghost use Rattle.session_replies.specs.Edited.{text_of, PlacesFit};
 
 use buffer_rules::edits_law;
+use editor_buffer::PrepareError;
 use message_values::Refusal;
-use sheet_edits::PrepareError;
 use std::alloc::{AllocError, Global};
 use text_edits::{Edit, EditFault, Text, apply, places_stay_within};
 

@@ -1,6 +1,6 @@
 //! Jobs.
 ghost use Rattle.std.specs.Prelude.{◌≡◌, IfOk};
-ghost use Rattle.reply_writing.specs.declared.told.Told.TheVariants as tells;
+ghost use Rattle.reply_messages.specs.declared.told.Told.TheVariants as tells;
 ghost use Rattle.session_replies.specs.Spelling.{reply_spelling};
 ghost use Rattle.session_replies.specs.Works.{work_report};
 ghost use Rattle.core_jobs.specs.Questions.{questions_by};
@@ -28,7 +28,7 @@ pub struct SessionJob<S> {
 
 impl<S> Model for SessionJob<S> {
     ghost use Rattle.std.specs.Prelude.{◌≡◌};
-    ghost use Rattle.reply_writing.specs.declared.told.Told.TheVariants as tells;
+    ghost use Rattle.reply_messages.specs.declared.told.Told.TheVariants as tells;
     ghost use Rattle.session_replies.specs.Spelling.{reply_spelling};
     ghost use Rattle.session_replies.specs.Works.{Work};
 

@@ -31,5 +31,5 @@ pub use marked::markup;
 pub use plain::{cancelling, settled};
 pub use ran::SessionRan;
 pub use removed::removed_versions;
-pub use reply_writing::{claimed, dropped, protocol, refused};
+pub use reply_messages::{claimed, dropped, protocol, refused};
 pub use reported::report;

@@ -2,18 +2,18 @@
 ghost use Rattle.std.specs.Prelude.{◌≡◌, map, IfOk};
 ghost use Rattle.snapshots.specs.Seen.{seen};
 ghost use Rattle.snapshots.specs.Gathered.{gathered, AllMovable};
-ghost use Rattle.reply_writing.specs.Forms.{IsRising};
-ghost use Rattle.reply_writing.specs.declared.told.Told.TheVariants as tells;
-ghost use Rattle.exec_lists.specs.Parts.{told_part};
+ghost use Rattle.reply_messages.specs.Forms.{IsRising};
+ghost use Rattle.reply_messages.specs.declared.told.Told.TheVariants as tells;
+ghost use Rattle.core_jobs.specs.Parts.{told_part};
 ghost use Rattle.session_rules.specs.Replies.{is_outdated};
 ghost use Rattle.session_rules.specs.Shown.{protocol_reports};
 ghost use Rattle.session_replies.specs.Spelling.{reply_spelling};
 ghost use Rattle.session_replies.specs.Marked.{shown_of, marked, AreMovable, assigned_part};
 
-use exec_lists::{NodeResults, PartResult};
+use core_jobs::{NodeResults, PartResult};
 use message_values::Protocol;
 use pide_base::{NodeName, VersionId};
-use reply_writing::Reports;
+use reply_messages::Reports;
 use snapshots::{AssignedPart, Shown, Snapshot, snapshot};
 use sqlite_items::Items;
 use std::alloc::{AllocError, Global};
@@ -42,7 +42,7 @@ pub fn markup<'a>(
     let reports = told_reports(alloc, protocol, text, shown)?;
     let reports = Reports::Shown(&reports);
     let outdated = is_outdated(edits);
-    reply_writing::markup(alloc, version, node, reports, &results.pending, outdated)
+    reply_messages::markup(alloc, version, node, reports, &results.pending, outdated)
 }
 
 /// What is shown of the parts.

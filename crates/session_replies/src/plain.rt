@@ -1,14 +1,14 @@
 //! Replies that list what the caller has, and that to a cancellation.
 ghost use Rattle.std.specs.Prelude.{◌≡◌, IfOk};
-ghost use Rattle.reply_writing.specs.Forms.{IsRising};
-ghost use Rattle.reply_writing.specs.declared.told.Told.TheVariants as tells;
+ghost use Rattle.reply_messages.specs.Forms.{IsRising};
+ghost use Rattle.reply_messages.specs.declared.told.Told.TheVariants as tells;
 ghost use Rattle.session_replies.specs.Spelling.{reply_spelling};
 ghost use Rattle.session_replies.specs.Cancelled.{cancelling_told};
 
 use core_tables::Cancelling;
 use message_values::Refusal;
 use pide_base::{ExecId, VersionId};
-use reply_writing::{cancelled, idle, refused};
+use reply_messages::{cancelled, idle, refused};
 use std::alloc::{AllocError, Global};
 
 /// The reply to a cancellation, by what it came to: that no such execution is assigned, that it was
@@ -29,5 +29,5 @@ pub fn settled(alloc: Global, version: VersionId, stuck: &[ExecId]) -> Result<Ve
     ensures { IfOk result (λ bytes. bytes.items ≡ reply_spelling (tells.Settled version
         stuck.now)) }
 {
-    reply_writing::settled(alloc, version, stuck)
+    reply_messages::settled(alloc, version, stuck)
 }

@@ -1,6 +1,6 @@
 //! The reply to a removal of versions.
 ghost use Rattle.std.specs.Prelude.{◌≡◌, ℕ, List, IfOk};
-ghost use Rattle.reply_writing.specs.declared.told.Told.TheVariants as tells;
+ghost use Rattle.reply_messages.specs.declared.told.Told.TheVariants as tells;
 ghost use Rattle.session_replies.specs.Spelling.{reply_spelling};
 ghost use Rattle.session_replies.specs.Removed.{IsRisen};
 
@@ -13,7 +13,7 @@ pub fn removed_versions(alloc: Global, ids: &[VersionId]) -> Result<Vec<u8>, All
         → IfOk result (λ bytes. bytes.items ≡ reply_spelling (tells.Removed risen)) }
 {
     let risen = rising(alloc, ids)?;
-    reply_writing::removed(alloc, &risen)
+    reply_messages::removed(alloc, &risen)
 }
 
 /// The same ids, rising, each once.

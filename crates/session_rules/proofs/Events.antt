@@ -9,9 +9,9 @@ use Rattle.message_values.specs.declared.editor_message.EditorMessage.TheVariant
 use Rattle.message_values.specs.declared.refusal.Refusal.{Refusal}
 use Rattle.message_values.specs.declared.refusal.Refusal.TheVariants.{ProtocolFixed, NothingToStep}
 use Rattle.buffer_laws.specs.buffer_rules_below.Trying.{◌>>=◌}
-use Rattle.buffer_laws.specs.core_rules_below.declared.event.Event.TheVariants as event
-use Rattle.buffer_laws.specs.core_rules_below.Ready.{first_ready}
-use Rattle.buffer_laws.specs.core_rules_below.Standing.{held, has_ended}
+use Rattle.core_rules.specs.declared.event.Event.TheVariants as event
+use Rattle.core_rules.specs.Ready.{first_ready}
+use Rattle.core_rules.specs.Standing.{held, has_ended}
 use Rattle.session_rules.specs.declared.service.Service.{Service}
 use Rattle.session_rules.specs.Heard.{Heard, Message, Claimed, Finished, Dropped, Ended}
 use Rattle.session_rules.specs.Session.{Session, answered}

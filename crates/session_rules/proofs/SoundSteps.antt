@@ -15,13 +15,13 @@ use Rattle.buffer_laws.specs.buffer_rules_below.Trying.{◌>>=◌}
 use Rattle.buffer_laws.specs.buffer_rules_below.Updates.{Asked}
 use Rattle.buffer_laws.specs.buffer_rules_below.Preparing.{Buffer, prepared}
 use Rattle.buffer_laws.specs.buffer_rules_below.Preparing as buffer
-use Rattle.buffer_laws.specs.core_rules_below.declared.event.Event.{Event}
-use Rattle.buffer_laws.specs.core_rules_below.declared.event.Event.TheVariants as event
-use Rattle.buffer_laws.specs.core_rules_below.Assigned.{is_assigned}
-use Rattle.buffer_laws.specs.core_rules_below.Doc.{Doc, doc, assignment_of, updated_doc}
-use Rattle.buffer_laws.specs.core_rules_below.Legal.{IsLegal as IsLegalList, MayFollow as MayFollowList}
-use Rattle.buffer_laws.specs.core_rules_below.Standing.{has_ended, is_open}
-use Rattle.buffer_laws.specs.core_rules_below.Updates.{FitsUpdate}
+use Rattle.core_rules.specs.declared.event.Event.{Event}
+use Rattle.core_rules.specs.declared.event.Event.TheVariants as event
+use Rattle.core_rules.specs.Assigned.{is_assigned}
+use Rattle.core_rules.specs.Doc.{Doc, doc, assignment_of, updated_doc}
+use Rattle.core_rules.specs.Legal.{IsLegal as IsLegalList, MayFollow as MayFollowList}
+use Rattle.core_rules.specs.Standing.{has_ended, is_open}
+use Rattle.core_rules.specs.Updates.{FitsUpdate}
 use Rattle.session_rules.specs.Session.{Session, document, with_event}
 use Rattle.session_rules.specs.Updating.{runs_out, with_buffer, removed_by}
 use Rattle.session_rules.specs.Updating as updating

@@ -3,7 +3,7 @@
 use Rattle.std.specs.Prelude.{◌≡◌, suc, zero, false, List, [], ◌∷◌, ⊤, Option, Some, None}
 use Rattle.exec_rules.specs.declared.version.Version.{Version}
 use Rattle.language.specs.Lang.{Lang}
-use Rattle.buffer_laws.specs.core_rules_below.Stuck.{is_settled}
+use Rattle.core_rules.specs.Stuck.{is_settled}
 use Rattle.session_rules.specs.declared.service.Service.{Service}
 use Rattle.session_rules.specs.Heard.{Heard, Message, Claimed, Finished, Dropped, Ended}
 use Rattle.session_rules.specs.Session.{Session, document}

@@ -1,7 +1,7 @@
 -- What a session has after a history, the newest entry first (this project's own).
 use Rattle.std.specs.Prelude.{List, [], ◌∷◌}
 use Rattle.language.specs.Lang.{Lang}
-use Rattle.buffer_laws.specs.core_rules_below.declared.event.Event.TheVariants as event
+use Rattle.core_rules.specs.declared.event.Event.TheVariants as event
 use Rattle.session_rules.specs.declared.service.Service.{Service}
 use Rattle.session_rules.specs.Heard.{Heard, Message, Claimed, Finished, Dropped, Ended}
 use Rattle.session_rules.specs.Session.{Session, empty_session, with_event, answered}

@@ -6,11 +6,11 @@ use Rattle.language.specs.Lang.{Lang}
 use Rattle.message_values.specs.declared.editor_message.EditorMessage.{EditorMessage}
 use Rattle.message_values.specs.declared.editor_message.EditorMessage.TheVariants as asks
 use Rattle.message_values.specs.declared.refusal.Refusal.{Refusal}
-use Rattle.buffer_laws.specs.core_rules_below.declared.event.Event.{Event}
-use Rattle.buffer_laws.specs.core_rules_below.declared.event.Event.TheVariants as event
-use Rattle.buffer_laws.specs.core_rules_below.Standing.{has_ended}
-use Rattle.buffer_laws.specs.core_rules_below.Stuck.{is_settled}
-use Rattle.buffer_laws.specs.core_rules_below.Legal.{MayWork}
+use Rattle.core_rules.specs.declared.event.Event.{Event}
+use Rattle.core_rules.specs.declared.event.Event.TheVariants as event
+use Rattle.core_rules.specs.Standing.{has_ended}
+use Rattle.core_rules.specs.Stuck.{is_settled}
+use Rattle.core_rules.specs.Legal.{MayWork}
 use Rattle.session_rules.specs.declared.service.Service.{Service}
 use Rattle.session_rules.specs.Services.{free_workers}
 use Rattle.session_rules.specs.Heard.{Heard, Message, Claimed, Finished, Dropped, Ended}

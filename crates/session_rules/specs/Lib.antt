@@ -12,4 +12,12 @@ pub mod Shown
 pub mod Replies
 pub mod Small
 pub mod Worked
+pub mod OneThread
+pub mod Runs
+pub mod Keeping
+pub mod Promises
+pub mod Reporting
+pub mod Checked
+pub mod Reported
+pub mod Updates
 pub use Rattle.buffer_laws.specs as buffer_laws_below

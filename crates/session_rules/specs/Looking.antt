@@ -10,9 +10,9 @@ use Rattle.message_values.specs.declared.refusal.Refusal.TheVariants.{UnknownVer
 use Rattle.message_values.specs.Asked.{or_refused}
 use Rattle.buffer_laws.specs.buffer_rules_below.Trying.{◌>>=◌}
 use Rattle.buffer_laws.specs.buffer_rules_below.Texts.{edit_all}
-use Rattle.buffer_laws.specs.core_rules_below.Standing.{held}
-use Rattle.buffer_laws.specs.core_rules_below.Ready.{first_ready}
-use Rattle.buffer_laws.specs.core_rules_below.Updates.{node_in}
+use Rattle.core_rules.specs.Standing.{held}
+use Rattle.core_rules.specs.Ready.{first_ready}
+use Rattle.core_rules.specs.Updates.{node_in}
 use Rattle.session_rules.specs.declared.service.Service.{Service}
 use Rattle.session_rules.specs.Services.{is_held_by_script}
 use Rattle.session_rules.specs.Session.{Session, document}

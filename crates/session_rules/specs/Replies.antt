@@ -13,16 +13,16 @@ use Rattle.message_values.specs.declared.editor_message.EditorMessage.{EditorMes
 use Rattle.message_values.specs.declared.editor_message.EditorMessage.TheVariants as asks
 use Rattle.message_values.specs.declared.refusal.Refusal.{Refusal}
 use Rattle.buffer_laws.specs.buffer_rules_below.Trying.{◌>>=◌}
-use Rattle.reply_writing.specs.declared.told.NodeRows.{NodeRows}
-use Rattle.reply_writing.specs.declared.told.Told.{Told}
-use Rattle.reply_writing.specs.declared.told.Told.TheVariants as tells
-use Rattle.reply_writing.specs.Replies.{reply_chunks}
-use Rattle.buffer_laws.specs.core_rules_below.Numbered.{numbered}
-use Rattle.buffer_laws.specs.core_rules_below.Doc.{Doc}
-use Rattle.buffer_laws.specs.core_rules_below.Parts.{reports_of}
-use Rattle.buffer_laws.specs.core_rules_below.Shown.{pending}
-use Rattle.buffer_laws.specs.core_rules_below.Standing.{is_open}
-use Rattle.buffer_laws.specs.core_rules_below.Stuck.{stuck_in}
+use Rattle.reply_messages.specs.declared.told.NodeRows.{NodeRows}
+use Rattle.reply_messages.specs.declared.told.Told.{Told}
+use Rattle.reply_messages.specs.declared.told.Told.TheVariants as tells
+use Rattle.reply_messages.specs.Replies.{reply_chunks}
+use Rattle.core_rules.specs.Numbered.{numbered}
+use Rattle.core_rules.specs.Doc.{Doc}
+use Rattle.core_rules.specs.Parts.{reports_of}
+use Rattle.core_rules.specs.Shown.{pending}
+use Rattle.core_rules.specs.Standing.{is_open}
+use Rattle.core_rules.specs.Stuck.{stuck_in}
 use Rattle.session_rules.specs.declared.service.Service.{Service}
 use Rattle.session_rules.specs.Heard.{Heard, Message, Claimed, Finished, Dropped, Ended}
 use Rattle.session_rules.specs.Session.{Session, document}

@@ -4,8 +4,8 @@ use Rattle.std.specs.List.{list_any, range_with_len}
 use Rattle.message_values.specs.declared.mode.Mode.{Mode}
 use Rattle.message_values.specs.declared.mode.Mode.TheVariants as mode
 use Rattle.message_values.specs.Workers.{most_workers}
-use Rattle.buffer_laws.specs.core_rules_below.declared.event.Event.{Event}
-use Rattle.buffer_laws.specs.core_rules_below.Standing.{held}
+use Rattle.core_rules.specs.declared.event.Event.{Event}
+use Rattle.core_rules.specs.Standing.{held}
 use Rattle.session_rules.specs.declared.service.Service.{Service}
 use Rattle.session_rules.specs.declared.service.Service.TheVariants.{Workers, Script}
 

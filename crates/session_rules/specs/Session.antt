@@ -6,8 +6,8 @@ use Rattle.message_values.specs.declared.protocol.Protocol.TheVariants.{Scalars}
 use Rattle.message_values.specs.declared.refusal.Refusal.{Refusal}
 use Rattle.buffer_laws.specs.buffer_rules_below.Preparing.{Buffer}
 use Rattle.buffer_laws.specs.buffer_rules_below.Preparing as buffer
-use Rattle.buffer_laws.specs.core_rules_below.declared.event.Event.{Event}
-use Rattle.buffer_laws.specs.core_rules_below.Doc.{Doc, doc}
+use Rattle.core_rules.specs.declared.event.Event.{Event}
+use Rattle.core_rules.specs.Doc.{Doc, doc}
 
 -- the editor's document; what happened to executions, the newest first; the protocol; and whether
 -- a message came

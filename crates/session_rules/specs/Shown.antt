@@ -12,8 +12,8 @@ use Rattle.exec_rules.specs.declared.version.Version.{Version}
 use Rattle.language.specs.Lang.{Lang}
 use Rattle.message_values.specs.declared.protocol.Protocol.{Protocol}
 use Rattle.message_values.specs.declared.protocol.Protocol.TheVariants.{Scalars, Symbols}
-use Rattle.buffer_laws.specs.core_rules_below.declared.event.Event.{Event}
-use Rattle.buffer_laws.specs.core_rules_below.Shown.{PartShown, scratch_shown}
+use Rattle.core_rules.specs.declared.event.Event.{Event}
+use Rattle.core_rules.specs.Shown.{PartShown, scratch_shown}
 
 -- the reports of a part where it is finished, at the places of the version's text
 abbrev pub placed_reports : PartShown → List Report

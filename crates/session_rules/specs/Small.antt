@@ -6,8 +6,8 @@ use Rattle.message_values.specs.declared.item.Item.{Item}
 use Rattle.message_values.specs.declared.item.Change.TheVariants as change
 use Rattle.buffer_laws.specs.buffer_rules_below.Examples.{all_wanted}
 use Rattle.text_edits.specs.declared.edit.Edit.TheVariants.{Insert}
-use Rattle.reply_writing.specs.declared.told.Told.{Told}
-use Rattle.buffer_laws.specs.core_rules_below.Small.{small}
+use Rattle.reply_messages.specs.declared.told.Told.{Told}
+use Rattle.core_rules.specs.Small.{small}
 use Rattle.session_rules.specs.declared.service.Service.TheVariants.{Workers, Script}
 use Rattle.session_rules.specs.Heard.{Heard, Message}
 use Rattle.session_rules.specs.Replies.{entry_replies}

@@ -11,9 +11,9 @@ use Rattle.message_values.specs.declared.refusal.Refusal.TheVariants.{VersionNot
 use Rattle.buffer_laws.specs.buffer_rules_below.Trying.{◌>>=◌}
 use Rattle.buffer_laws.specs.buffer_rules_below.Updates.{Asked}
 use Rattle.buffer_laws.specs.buffer_rules_below.Preparing.{Buffer, prepared}
-use Rattle.buffer_laws.specs.core_rules_below.declared.event.Event.TheVariants as event
-use Rattle.buffer_laws.specs.core_rules_below.Assigned.{is_assigned}
-use Rattle.buffer_laws.specs.core_rules_below.Doc.{Doc, assignment_of}
+use Rattle.core_rules.specs.declared.event.Event.TheVariants as event
+use Rattle.core_rules.specs.Assigned.{is_assigned}
+use Rattle.core_rules.specs.Doc.{Doc, assignment_of}
 use Rattle.session_rules.specs.Session.{Session, document, with_event}
 
 -- the update would give an execution an id past the last

@@ -6,9 +6,9 @@ use Rattle.text_edits.specs.declared.edit.Edit.TheVariants.{Insert}
 use Rattle.message_values.specs.declared.editor_message.EditorMessage.TheVariants as asks
 use Rattle.message_values.specs.declared.protocol.Protocol.TheVariants.{Symbols}
 use Rattle.message_values.specs.declared.refusal.Refusal.TheVariants as refusal
-use Rattle.reply_writing.specs.declared.told.NodeRows.{NodeRows}
-use Rattle.reply_writing.specs.declared.told.Told.TheVariants as tells
-use Rattle.buffer_laws.specs.core_rules_below.Small.{eval}
+use Rattle.reply_messages.specs.declared.told.NodeRows.{NodeRows}
+use Rattle.reply_messages.specs.declared.told.Told.TheVariants as tells
+use Rattle.core_rules.specs.Small.{eval}
 use Rattle.session_rules.specs.Heard.{Heard, Message, Claimed, Finished, Dropped}
 use Rattle.session_rules.specs.Small.{update, settle, snapshot, cancel, remove, claim, finish, two_commands, alone, scripted}
 

@@ -2,7 +2,7 @@
 
 ghost use Rattle.std.specs.Prelude.{List};
 ghost use Rattle.buffer_laws.specs.Fitting.{Agrees};
-ghost use Rattle.buffer_laws.specs.core_rules_below.Legal.{IsLegal as IsLegalList};
+ghost use Rattle.core_rules.specs.Legal.{IsLegal as IsLegalList};
 ghost use Rattle.session_rules.specs.declared.service.Service.{Service};
 ghost use Rattle.session_rules.specs.Heard.{Heard};
 ghost use Rattle.session_rules.specs.History.{session};

@@ -24,7 +24,7 @@ use Rattle.session_rules.specs.Heard.{Heard}
 use Rattle.session_rules.specs.History.{session}
 use Rattle.session_rules.specs.Session.{Session, document}
 use Rattle.session_rules.specs.Shown.{placed_reports}
-use Rattle.session_laws.proofs.KnownWaited.{live_at}
+use Rattle.session_rules.proofs.KnownWaited.{live_at}
 use Rattle.isar_rules.specs.Isar.{isar}
 use Rattle.isar_rules.specs.Kept.{errors_in}
 use Rattle.soundness_laws.specs.Believed.{IsSoundAt, IsTheoryAt}
@@ -32,7 +32,7 @@ use Rattle.soundness_laws.specs.Seen.{HasNoPending, HasSettled, IsQuiet, IsWhole
 use Rattle.soundness_laws.proofs.Believing.{Laws, sound_at}
 use Rattle.soundness_laws.proofs.NodeTheories.{theory_at}
 use Rattle.soundness_laws.proofs.TextTheories.{Just}
-use Rattle.session_laws.proofs.KnownLiveVersions.{each_live}
+use Rattle.session_rules.proofs.KnownLiveVersions.{each_live}
 use Rattle.soundness_laws.proofs.Required.{IsAssigned, whole_from}
 use Rattle.soundness_laws.proofs.Resting.{none_pending}
 use Rattle.soundness_laws.proofs.Telling.{clean_told, none_told}

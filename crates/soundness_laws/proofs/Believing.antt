@@ -25,18 +25,18 @@ use Rattle.core_rules.specs.Settings.{Setting, state_behind}
 use Rattle.core_rules.specs.Shown.{parts_shown, scratch_shown}
 use Rattle.core_rules.specs.Sources.{HasHome}
 use Rattle.session_rules.specs.Shown.{placed_reports}
-use Rattle.session_laws.specs.Promises.{are_all_shown}
-use Rattle.session_laws.proofs.KnownExact.{all_seen}
+use Rattle.session_rules.specs.Promises.{are_all_shown}
+use Rattle.session_rules.proofs.KnownExact.{all_seen}
 use Rattle.isar_rules.specs.declared.state.State.{State}
 use Rattle.isar_rules.specs.Isar.{isar}
 use Rattle.isar_rules.specs.Kept.{errors_in}
-use Rattle.theory_laws.specs.Clean.{AreClean}
-use Rattle.theory_laws.specs.Facts.{FactsFollow}
-use Rattle.theory_laws.specs.Imports.{AreCleanFrom, IsAxiomFrom, Needs, itself, imports}
+use Rattle.soundness_laws.specs.Clean.{AreClean}
+use Rattle.soundness_laws.specs.Facts.{FactsFollow}
+use Rattle.soundness_laws.specs.Imports.{AreCleanFrom, IsAxiomFrom, Needs, itself, imports}
 use Rattle.soundness_laws.specs.Believed.{IsSoundAt}
 use Rattle.soundness_laws.specs.Seen.{HasNoPending, IsQuiet, OfEachNeeded}
 use Rattle.soundness_laws.proofs.CleanParts.{commands_clean}
-use Rattle.theory_laws.proofs.KnownFine.{fine}
+use Rattle.soundness_laws.proofs.KnownFine.{fine}
 use Rattle.soundness_laws.proofs.ScratchRuns.{IsRunOf, all_run, each_on, found_of}
 
 -- what holds of documents, of what they show, and of theories

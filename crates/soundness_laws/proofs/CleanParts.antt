@@ -17,11 +17,11 @@ use Rattle.core_rules.specs.Settings.{Setting, made_of, forked, printed, state_b
 use Rattle.core_rules.specs.Shown.{PartShown, shown_with, scratch_parts, scratches_parts}
 use Rattle.core_rules.specs.Standing.{is_finished}
 use Rattle.session_rules.specs.Shown.{placed_reports}
-use Rattle.session_laws.specs.Promises.{are_all_shown}
+use Rattle.session_rules.specs.Promises.{are_all_shown}
 use Rattle.isar_rules.specs.declared.state.State.{State}
 use Rattle.isar_rules.specs.Isar.{isar}
-use Rattle.theory_laws.specs.Clean.{AreClean, told_reports}
-use Rattle.theory_laws.proofs.KnownFine.{AreFine, behind, both, front, unmoved, without_errors}
+use Rattle.soundness_laws.specs.Clean.{AreClean, told_reports}
+use Rattle.soundness_laws.proofs.KnownFine.{AreFine, behind, both, front, unmoved, without_errors}
 
 module _ (h : List Event) where
   -- a part that is shown is shown with its reports

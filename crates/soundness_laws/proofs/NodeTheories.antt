@@ -15,8 +15,8 @@ use Rattle.core_rules.specs.Legal.{IsLegal}
 use Rattle.core_rules.specs.Scratch.{Run, final, scratch}
 use Rattle.isar_rules.specs.declared.state.State.{State}
 use Rattle.isar_rules.specs.Isar.{isar}
-use Rattle.theory_laws.specs.Imports.{AreCleanFrom}
-use Rattle.theory_laws.specs.Theories.{IsStatedFrom, IsTheoryOf}
+use Rattle.soundness_laws.specs.Imports.{AreCleanFrom}
+use Rattle.soundness_laws.specs.Theories.{IsStatedFrom, IsTheoryOf}
 use Rattle.soundness_laws.specs.Believed.{IsTheoryAt}
 use Rattle.soundness_laws.specs.Seen.{IsQuiet, OfEachNeeded}
 use Rattle.soundness_laws.proofs.Believing.{Laws, clean_from, length_run, run_at}

@@ -4,7 +4,7 @@ use Rattle.std.proofs.lemmas.Bool.{eq-eqb, lt-ltb}
 use Rattle.std.proofs.Math.Bool.{or-true}
 use Rattle.std.specs.Prelude.{slice_get, nat_lt}
 use Rattle.std.specs.Option.{option_map_or}
-use Rattle.import_rounds.specs.Looks.{aims_at}
+use Rattle.doc_nodes.specs.Looks.{aims_at}
 use Rattle.doc_nodes.specs.declared.node.Node.{Node}
 use Rattle.doc_nodes.specs.Imports.{NodeList, aims, is_ordered, place_of}
 use Rattle.doc_nodes.specs.Prefix.{own_wanted, wanted_prefix}
@@ -14,7 +14,7 @@ use Rattle.exec_rules.specs.declared.version.Version.{Version}
 use Rattle.exec_rules.specs.Assigning.{entries_at, entries_in}
 use Rattle.core_rules.specs.FromScratch.{assigned_to}
 use Rattle.core_rules.proofs.KnownPlaces.{place_found, aims_found, rows_found}
-use Rattle.theory_laws.specs.Imports.{IsListed, Needs, itself, imports}
+use Rattle.soundness_laws.specs.Imports.{IsListed, Needs, itself, imports}
 use Rattle.soundness_laws.specs.Seen.{IsWhole, OfEachNeeded}
 
 -- what an update leaves: what is wanted is assigned, and a node without commands has no imports

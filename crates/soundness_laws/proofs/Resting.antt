@@ -18,8 +18,8 @@ use Rattle.core_rules.specs.Parts.{parts_of}
 use Rattle.core_rules.specs.Standing.{is_finished, is_open}
 use Rattle.core_rules.specs.Stuck.{is_over, is_stuck, is_stuck_in}
 use Rattle.core_rules.proofs.KnownNumbers.{numbered_positive, numbered_within}
-use Rattle.session_laws.proofs.KnownExact.{rows_have}
-use Rattle.session_laws.proofs.KnownSeen.{none_passes}
+use Rattle.session_rules.proofs.KnownExact.{rows_have}
+use Rattle.session_rules.proofs.KnownSeen.{none_passes}
 use Rattle.isar_rules.specs.Isar.{isar}
 use Rattle.soundness_laws.specs.Seen.{HasNoPending, HasSettled}
 use Rattle.soundness_laws.proofs.Believing.{Laws}

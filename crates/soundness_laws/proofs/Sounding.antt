@@ -14,12 +14,12 @@ use Rattle.isar_rules.specs.declared.state.State.{State}
 use Rattle.isar_rules.specs.Isar.{isar}
 use Rattle.isar_rules.specs.Kept.{errors_in}
 use Rattle.text_check.specs.OneText.{entries_of, markup_of, text_name, one_node, one_sheet, reported}
-use Rattle.theory_laws.specs.Axioms.{IsAxiomOf}
-use Rattle.theory_laws.specs.Clean.{AreClean, told_reports}
-use Rattle.theory_laws.specs.Facts.{FactsFollow}
+use Rattle.soundness_laws.specs.Axioms.{IsAxiomOf}
+use Rattle.soundness_laws.specs.Clean.{AreClean, told_reports}
+use Rattle.soundness_laws.specs.Facts.{FactsFollow}
 use Rattle.text_check.proofs.KnownOneNode.{order_one}
 use Rattle.soundness_laws.specs.Sound.{IsSound}
-use Rattle.theory_laws.proofs.KnownFine.{AreFine, behind, fine, front, unmoved, unordered, without_errors}
+use Rattle.soundness_laws.proofs.KnownFine.{AreFine, behind, fine, front, unmoved, unordered, without_errors}
 
 -- a node alone rests on its own axioms
 abbrev pub RestsOnItself : ℕ × Run State → Type 0

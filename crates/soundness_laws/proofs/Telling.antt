@@ -9,7 +9,7 @@ use Rattle.exec_rules.specs.declared.version.Version.{Version}
 use Rattle.message_values.specs.declared.protocol.Protocol.TheVariants.{Scalars}
 use Rattle.message_values.specs.declared.refusal.Refusal.{Refusal}
 use Rattle.buffer_rules.specs.Trying.{◌>>=◌}
-use Rattle.reply_writing.specs.declared.told.Told.TheVariants as tells
+use Rattle.reply_messages.specs.declared.told.Told.TheVariants as tells
 use Rattle.core_rules.specs.Shown.{pending, scratch_shown}
 use Rattle.session_rules.specs.declared.service.Service.{Service}
 use Rattle.session_rules.specs.Heard.{Heard}
@@ -18,11 +18,11 @@ use Rattle.session_rules.specs.Looking.{Looked, looked_at}
 use Rattle.session_rules.specs.Replies.{markup, or_refusal}
 use Rattle.session_rules.specs.Session.{Session, document}
 use Rattle.session_rules.specs.Shown.{placed_reports, finished_reports, protocol_reports}
-use Rattle.session_laws.proofs.KnownLooked.{seen_version}
+use Rattle.session_rules.proofs.KnownLookedVersion.{seen_version}
 use Rattle.isar_rules.specs.Isar.{isar}
 use Rattle.isar_rules.specs.Kept.{errors_in}
 use Rattle.soundness_laws.specs.Seen.{HasNoPending, TellsNoError}
-use Rattle.theory_laws.proofs.KnownFine.{AreFine, fine, unordered, without_errors}
+use Rattle.soundness_laws.proofs.KnownFine.{AreFine, fine, unordered, without_errors}
 
 -- where no edits are pending, none is left out
 unleft : (rs : List Report) → AreFine (left_by [] rs) → AreFine rs

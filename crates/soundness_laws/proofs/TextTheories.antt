@@ -12,9 +12,9 @@ use Rattle.isar_rules.specs.declared.state.State.{State}
 use Rattle.isar_rules.specs.Isar.{isar}
 use Rattle.isar_rules.specs.Kept.{errors_in}
 use Rattle.text_check.specs.OneText.{markup_of, text_name}
-use Rattle.theory_laws.specs.Clean.{AreClean}
-use Rattle.theory_laws.specs.Imports.{AreCleanFrom, Needs, itself}
-use Rattle.theory_laws.specs.Theories.{IsStatedFrom, IsStatedIn, IsTheoryOf}
+use Rattle.soundness_laws.specs.Clean.{AreClean}
+use Rattle.soundness_laws.specs.Imports.{AreCleanFrom, Needs, itself}
+use Rattle.soundness_laws.specs.Theories.{IsStatedFrom, IsStatedIn, IsTheoryOf}
 use Rattle.soundness_laws.specs.Sound.{IsTheory}
 use Rattle.soundness_laws.proofs.Sounding.{clean, commands_are, node_of, only, run, text_fine}
 

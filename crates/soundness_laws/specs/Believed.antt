@@ -5,9 +5,9 @@ use Rattle.exec_rules.specs.Kept.{BlobList}
 use Rattle.core_rules.specs.Scratch.{final_at, scratch}
 use Rattle.isar_rules.specs.declared.state.State.{State}
 use Rattle.isar_rules.specs.Isar.{isar}
-use Rattle.theory_laws.specs.Facts.{FactsFollow}
-use Rattle.theory_laws.specs.Imports.{IsAxiomFrom}
-use Rattle.theory_laws.specs.Theories.{IsStatedFrom, IsTheoryOf}
+use Rattle.soundness_laws.specs.Facts.{FactsFollow}
+use Rattle.soundness_laws.specs.Imports.{IsAxiomFrom}
+use Rattle.soundness_laws.specs.Theories.{IsStatedFrom, IsTheoryOf}
 
 -- the theory that the node at a place comes to when all nodes are checked from nothing: each of its
 -- facts is derived from finitely many axioms of this node and its imports, direct or not

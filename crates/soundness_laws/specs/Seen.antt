@@ -5,7 +5,7 @@ use Rattle.doc_nodes.specs.Imports.{place_of}
 use Rattle.exec_rules.specs.declared.version.Version.{Version}
 use Rattle.exec_rules.specs.Assigning.{entries_in, rows_in}
 use Rattle.message_values.specs.declared.editor_message.EditorMessage.TheVariants as asks
-use Rattle.reply_writing.specs.declared.told.Told.TheVariants as tells
+use Rattle.reply_messages.specs.declared.told.Told.TheVariants as tells
 use Rattle.core_rules.specs.declared.event.Event.{Event}
 use Rattle.core_rules.specs.Doc.{doc}
 use Rattle.core_rules.specs.Shown.{parts_shown, pending}
@@ -16,7 +16,7 @@ use Rattle.session_rules.specs.Replies.{entry_replies}
 use Rattle.session_rules.specs.Shown.{placed_reports}
 use Rattle.isar_rules.specs.Isar.{isar}
 use Rattle.isar_rules.specs.Kept.{errors_in}
-use Rattle.theory_laws.specs.Imports.{Needs}
+use Rattle.soundness_laws.specs.Imports.{Needs}
 
 -- each command of the node of a name has an evaluation
 abbrev pub IsWhole : Version → List ℕ → Type 0

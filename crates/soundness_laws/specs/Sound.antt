@@ -4,9 +4,9 @@ use Rattle.core_rules.specs.Scratch.{Run, final, scratch}
 use Rattle.isar_rules.specs.declared.state.State.{State}
 use Rattle.isar_rules.specs.Isar.{isar}
 use Rattle.text_check.specs.OneText.{text_name, one_node}
-use Rattle.theory_laws.specs.Axioms.{IsAxiomOf}
-use Rattle.theory_laws.specs.Facts.{FactsFollow}
-use Rattle.theory_laws.specs.Theories.{IsStatedIn, IsTheoryOf}
+use Rattle.soundness_laws.specs.Axioms.{IsAxiomOf}
+use Rattle.soundness_laws.specs.Facts.{FactsFollow}
+use Rattle.soundness_laws.specs.Theories.{IsStatedIn, IsTheoryOf}
 
 -- the text comes to this when it is checked from nothing, as the only node of a document
 abbrev pub ComesTo : List ℕ → Run State → Type 0

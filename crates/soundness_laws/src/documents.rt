@@ -15,10 +15,11 @@ ghost use Rattle.isar_rules.specs.Isar.{isar};
 ghost use Rattle.soundness_laws.specs.Believed.{IsSoundAt, IsTheoryAt};
 ghost use Rattle.soundness_laws.specs.Seen.{HasSettled, IsQuiet, IsWhole, OfEachNeeded, ShowsNoError, TellsNoError};
 
+use crate::theories::facts_law;
+use crate::theory_laws::sound_facts_law;
 use core_rules::{core_law, covers_law, homes_law, places_law};
 use doc_nodes::{order_law, wanted_law};
 use session_rules::events_law;
-use theory_laws::{facts_law, sound_law as theories_law};
 use toplevel::Isar;
 
 /// At each moment of each legal history, for each node of each live version: where the node and all
@@ -60,7 +61,7 @@ pub fn sound_law()
     events_law::<Isar>();
     order_law();
     wanted_law();
-    theories_law();
+    sound_facts_law();
 }
 
 /// At each moment of each legal history, for each node of each live version that has a command:
@@ -80,6 +81,6 @@ pub fn theory_law()
     places_law::<Isar>();
     events_law::<Isar>();
     order_law();
-    theories_law();
+    sound_facts_law();
     facts_law();
 }

@@ -7,8 +7,8 @@ ghost use Rattle.session_rules.specs.Services.{mode_of};
 ghost use Rattle.mirror_rules.specs.Events.{MirrorEvent, stream};
 ghost use Rattle.mirror_rules.specs.Images.{Mirror};
 ghost use Rattle.mirror_rules.specs.Moves.{Going, Move, mirrored};
-ghost use Rattle.editor_laws.specs.mirror_laws_below.Shown.{SeesSo};
-ghost use Rattle.editor_laws.specs.mirror_laws_below.Streams.{EndsWith};
+ghost use Rattle.editor_laws.specs.Shown.{SeesSo};
+ghost use Rattle.editor_laws.specs.Streams.{EndsWith};
 ghost use Rattle.editor_laws.specs.Heard.{FollowsMessages};
 
 use editor_laws::{isar_law, messages_law};

@@ -5,7 +5,8 @@ ghost use Rattle.isar_rules.specs.Kept.{errors_in};
 ghost use Rattle.text_check.specs.OneText.{markup_of};
 ghost use Rattle.soundness_laws.specs.Sound.{IsSound, IsTheory};
 
-use theory_laws::{alone_law, facts_law};
+use crate::theories::facts_law;
+use crate::theory_laws::alone_law;
 
 /// Where the markup of a text has no error, all facts of its theory follow by natural deduction from
 /// its own axioms. `text_theory_law` says which facts these are: each lemma is among them.

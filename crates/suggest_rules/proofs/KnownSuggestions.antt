@@ -4,8 +4,8 @@ use Rattle.std.specs.Fmt.{digits}
 use Rattle.nj_formula.proofs.KnownMeaning.{meaning-Atom, meaning-And, meaning-Implies}
 use Rattle.nj_formula.proofs.KnownFormulas.{out-Implies}
 use Rattle.proof_terms.proofs.KnownTerms.{fold-Fact, fold-ImpI, fold-ConjI, fold-ConjE1, fold-ConjE2}
-use Rattle.nj_print.specs.Printed.{formula_text}
-use Rattle.nj_print.proofs.KnownSpoken.{says_atom}
+use Rattle.nj_syntax.specs.Printed.{formula_text}
+use Rattle.nj_syntax.proofs.KnownSpoken.{says_atom}
 use Rattle.suggest_rules.specs.Search.{found_by, found_within, suggested}
 use Rattle.suggest_rules.specs.TermText.{by_text}
 use Rattle.suggest_rules.specs.Worked.{prop, swap, peirce, swapped_by}

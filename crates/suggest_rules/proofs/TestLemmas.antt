@@ -3,7 +3,7 @@ use Rattle.std.proofs.Common.{◌≡◌, ◌⊎◌, ℕ, Bool, true, false, List
 use Rattle.std.proofs.lemmas.Bool.{both_ways}
 use Rattle.nj_formula.specs.declared.argument.Argument.{Argument}
 use Rattle.nj_formula.specs.Statement.{Statement, atom, conj, implies}
-use Rattle.proof_checks.specs.proof_state_below.Same.{decide, is_first}
+use Rattle.proof_state.specs.Same.{decide, is_first}
 use Rattle.proof_state.proofs.KnownFirst.{is_first_of}
 
 differs : {P : Type 0} (d : P ⊎ (P → ⊥)) → (P → ⊥) → is_first d ≡ false

@@ -4,10 +4,10 @@ use Rattle.std.specs.Fmt.{decimal}
 use Rattle.std.specs.List.{list_any}
 use Rattle.std.specs.Str.{bytes_eq}
 use Rattle.nj_formula.specs.declared.formula.Formula.{Formula}
-use Rattle.nj_print.specs.Primed.{with_primes}
-use Rattle.outer_tokens.specs.Words.{same}
+use Rattle.nj_syntax.specs.Primed.{with_primes}
+use Rattle.outer_syntax.specs.Words.{same}
 use Rattle.theory_ctx.specs.declared.local.Local.{Local}
-use Rattle.nj_print.specs.Printed.{least_failing}
+use Rattle.nj_syntax.specs.Printed.{least_failing}
 use Rattle.suggest_rules.specs.declared.names.Names.{Names}
 
 -- the facts but for those of this name

@@ -5,10 +5,10 @@ use Rattle.nj_formula.specs.declared.formula.Formula.{Formula}
 use Rattle.nj_kernel.specs.declared.rule.Rule.{Rule}
 use Rattle.nj_kernel.specs.declared.rule.Rule.TheVariants as R
 use Rattle.nj_kernel.specs.RuleNames.{rule_name}
-use Rattle.nj_print.specs.ArgumentText.{argument_text}
+use Rattle.nj_syntax.specs.ArgumentText.{argument_text}
 use Rattle.proof_terms.specs.declared.term.Term.{Term, fold-Term}
 use Rattle.proof_terms.specs.declared.term.Term.TheOpen.{Term-F}
-use Rattle.nj_print.specs.Printed.{formula_text}
+use Rattle.nj_syntax.specs.Printed.{formula_text}
 
 -- a rule with what stands in it, each after a space
 abbrev pub ruled : Rule → List (List ℕ) → List ℕ

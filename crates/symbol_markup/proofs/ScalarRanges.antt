@@ -10,9 +10,9 @@ use Rattle.std.specs.declared.cmp.Ordering.{Ordering}
 use Rattle.std.specs.declared.cmp.Ordering.TheVariants.{Less, Equal, Greater}
 use Rattle.std.proofs.lemmas.Bool.{cases_lt, eqb-true, false_from_ne_true}
 use Rattle.pide_base.specs.declared.range.Range.{Range}
-use Rattle.symbols.specs.Symbols.{IsBoundary, symbols_of}
-use Rattle.symbols.specs.Boundaries.{boundaries}
-use Rattle.symbols.proofs.KnownStops.{place-within}
+use Rattle.outer_syntax.specs.Symbols.{IsBoundary, symbols_of}
+use Rattle.outer_syntax.specs.Boundaries.{boundaries}
+use Rattle.outer_syntax.proofs.KnownStops.{place-within}
 use Rattle.report_markup.specs.declared.report.Report.{Report}
 use Rattle.report_markup.specs.Order.{said_cmp, report_cmp}
 use Rattle.report_markup.specs.Sorting.{insert_if, insert_report, ordered_reports}

@@ -3,8 +3,8 @@ use Rattle.std.proofs.Common.{◌≡◌, ◌⊎◌, inl, inr, ℕ, ◌+◌, ◌<
 use Rattle.std.specs.Prelude.{count_by, nat_le}
 use Rattle.std.proofs.lemmas.Bool.{cases_lt, cond-true, cond-false, le-leb, lt-leb}
 use Rattle.std.proofs.lemmas.List.Sums.{sum_by-cons}
-use Rattle.symbols.specs.Symbols.{IsSymbolAt, AreSymbols, AreSymbolsBetween, symbols_of}
-use Rattle.symbols.proofs.KnownStops.{same-stop}
+use Rattle.outer_syntax.specs.Symbols.{IsSymbolAt, AreSymbols, AreSymbolsBetween, symbols_of}
+use Rattle.outer_syntax.proofs.KnownStops.{same-stop}
 use Rattle.symbol_markup.specs.Places.{IsSymbolPlace, symbol_place}
 
 abbrev pub ended : ℕ → List (ℕ × ℕ) → ℕ

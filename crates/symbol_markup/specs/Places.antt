@@ -2,8 +2,8 @@
 use Rattle.std.specs.Prelude.{◌≡◌, ◌⊎◌, ℕ, ◌+◌, ◌-◌, ◌<◌, List, length, count_by, nat_le, slice_get}
 use Rattle.std.specs.Option.{option_map_or}
 use Rattle.pide_base.specs.declared.range.Range.{Range}
-use Rattle.symbols.specs.Symbols.{IsBoundary, IsInside, symbols_of}
-use Rattle.symbols.specs.Boundaries.{boundaries}
+use Rattle.outer_syntax.specs.Symbols.{IsBoundary, IsInside, symbols_of}
+use Rattle.outer_syntax.specs.Boundaries.{boundaries}
 
 -- one more than the number of the symbol that begins at the place or has it inside, or of all
 -- symbols at the text's end

@@ -4,12 +4,12 @@ ghost use Rattle.std.specs.List.{AllByRecursion};
 ghost use Rattle.pide_base.specs.declared.range.Range.{Range};
 ghost use Rattle.report_markup.specs.declared.report.Report.{Report};
 ghost use Rattle.report_markup.specs.Sorting.{ordered_reports};
-ghost use Rattle.symbols.specs.Symbols.{IsBoundary, symbols_of};
+ghost use Rattle.outer_syntax.specs.Symbols.{IsBoundary, symbols_of};
 ghost use Rattle.symbol_markup.specs.Places.{IsSymbolPlace, symbol_place, symbol_range};
 ghost use Rattle.symbol_markup.specs.Places.{StandsOnSymbols, scalar_place, scalar_range};
 ghost use Rattle.symbol_markup.specs.Told.{in_symbols, at_scalars};
 
-use symbols::{one_list, places_are_numbered};
+use outer_syntax::{one_symbol_list, places_are_numbered};
 
 /// Each place of a text has one number, that of the function. Later places have no lower ones, so
 /// ranges that are equal, nested or disjoint stay so; and places behind the end have the end's.
@@ -24,7 +24,7 @@ pub fn places_in_symbols()
     ensures counted { (text : List ℕ) (place : ℕ) →
         symbol_place text place ≤ length (symbols_of text) + 1 }
 {
-    one_list();
+    one_symbol_list();
 }
 
 /// Places between symbols are had back from their numbers, and so are ranges that stand on symbols

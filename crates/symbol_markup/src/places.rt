@@ -1,13 +1,13 @@
 //! The places of one text, counted in symbols.
 ghost use Rattle.std.specs.Prelude.{◌≡◌, ◌+◌, ◌≤◌, ◌&&◌, nat_le, length, IfOk};
-ghost use Rattle.symbols.specs.Symbols.{symbols_of};
+ghost use Rattle.outer_syntax.specs.Symbols.{symbols_of};
 ghost use Rattle.symbol_markup.specs.Places.{symbol_place, symbol_range, scalar_place, scalar_range};
 
 use crate::laws::places_in_symbols;
+use outer_syntax::{Boundaries, places_are_numbered};
 use pide_base::Range;
 use std::alloc::{AllocError, Global};
 use std::marker::Model;
-use symbols::{Boundaries, places_are_numbered};
 
 /// Where the symbols of a text begin, as a table that is made once. Contracts see the text.
 #[derive(Drop)]
@@ -18,7 +18,7 @@ pub struct SymbolPlaces<'a> {
 
 impl<'a> Model for SymbolPlaces<'a> {
     ghost use Rattle.std.specs.Prelude.{◌≡◌, ℕ, List};
-    ghost use Rattle.symbols.specs.Boundaries.{boundaries};
+    ghost use Rattle.outer_syntax.specs.Boundaries.{boundaries};
 
     ghost Value = { List ℕ };
 

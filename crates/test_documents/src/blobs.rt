@@ -1,9 +1,8 @@
-//! The names of blobs, and the blob that a command asks for (`doc_blobs`).
+//! The names of blobs, and the blob that a command asks for (`doc_nodes`).
 use crate::drawn::{name_of, node};
 use crate::shared::scalars_of;
-use doc_blobs::needs;
-use doc_headers::{Header, header};
-use doc_nodes::{Aliases, BlobName, ImportGraph, Node, NodeAliases, aliases_of};
+use doc_nodes::{Aliases, BlobName, ImportGraph, Node, NodeAliases, aliases_of, needs};
+use outer_syntax::{Header, header};
 use script_lines::{Fault, joined};
 use shared_map::SharedMap;
 use sqlite_items::Items;

@@ -1,9 +1,9 @@
 //! Nodes as scripts draw them: a name, and words as `imports=B,C`, `keywords=claim:lemma`,
 //! `commands=1,2*,3` (a star behind what is visible) and `required`.
 use crate::shared::items_of;
-use doc_headers::KeywordPair;
 use doc_nodes::{Entry, Node, Shared};
 use joined_results::both;
+use outer_syntax::KeywordPair;
 use pide_base::{CommandId, NodeName, Range};
 use script_lines::{Fault, number};
 use sqlite_items::Items;

@@ -1,7 +1,7 @@
-//! Graphs of imports by places (`import_rounds`): a word for each node has the places of its
+//! Graphs of imports by places (`doc_nodes`): a word for each node has the places of its
 //! imports between commas, `-` for an import that is no node, and `.` where there is none.
 use crate::listed::{put_flags, put_numbers};
-use import_rounds::{in_rounds, marks_of};
+use doc_nodes::{in_rounds, marks_of};
 use script_lines::{Fault, place};
 use sqlite_items::Items;
 use std::alloc::Global;

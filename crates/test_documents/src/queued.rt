@@ -1,10 +1,10 @@
-//! The queue of tasks: which part is taken when (`task_queue`). Executions are told by their
+//! The queue of tasks: which part is taken when (`core_tables`). Executions are told by their
 //! numbers.
 use crate::walk::answer_walk;
+use core_tables::{Inputs, Priority, Task, TaskQueue};
 use pide_base::{ExecId, Part, PartKind};
 use script_lines::{Fault, number};
 use std::alloc::Global;
-use task_queue::{Inputs, Priority, Task, TaskQueue};
 
 /// A queue under calls.
 #[derive(Drop)]

@@ -1,9 +1,8 @@
-//! Markup trees (`markup_tree`): what is kept, what a range is refused for, and what contains a
+//! Markup trees (`report_markup`): what is kept, what a range is refused for, and what contains a
 //! range.
 use crate::drawn_reports::{range_of, report_of};
-use markup_tree::{AddError, MarkupTree};
 use pide_base::Range;
-use report_markup::Report;
+use report_markup::{AddError, MarkupTree, Report};
 use script_lines::Fault;
 use std::alloc::{AllocError, Global};
 

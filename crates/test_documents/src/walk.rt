@@ -1,9 +1,9 @@
 //! A walk of the queue of tasks beside one that looks through a plain list.
 use crate::queued::{done, id, put};
+use core_tables::{Inputs, Priority, TaskQueue};
 use pide_base::{ExecId, Part, PartKind};
 use script_lines::Fault;
 use std::alloc::{AllocError, Global};
-use task_queue::{Inputs, Priority, TaskQueue};
 
 /// A task of the plain list. Only evaluations are put in, visible or not.
 #[derive(Drop)]

@@ -6,7 +6,7 @@ use Rattle.core_jobs.specs.Fits.{IsJobOf}
 use Rattle.core_rules.specs.declared.event.Event.{Event}
 use Rattle.core_rules.specs.Standing.{held}
 use Rattle.core_rules.specs.Doc.{doc}
-use Rattle.document_edits.specs.NameSets.{AreChanged}
+use Rattle.editor_buffer.specs.NameSets.{AreChanged}
 use Rattle.buffer_rules.specs.Nodes.{AreKept}
 use Rattle.editor_buffer.specs.Preparation.{Preparation}
 use Rattle.buffer_rules.specs.Updates.{Asked}

@@ -1,9 +1,8 @@
 //! The editor's buffer under updates (`editor_buffer`).
 use crate::asking::Asked;
 use doc_nodes::{Node, Nodes};
-use editor_buffer::{Buffer, Prepared};
+use editor_buffer::{Buffer, PrepareError, Prepared};
 use script_lines::{Fault, place};
-use sheet_edits::PrepareError;
 use std::alloc::{AllocError, Global};
 
 /// A buffer under updates.

@@ -1,12 +1,13 @@
-//! One node as the editor has it (`sheet_edits`), and its commands (`node_commands`).
+//! One node as the editor has it (`editor_buffer`), and its commands (`editor_buffer`).
 use crate::sharing::shared;
 use buffer_rules::Sheet;
 use doc_nodes::{Aliases, Entry};
+use editor_buffer::{
+    OldCommands, OpenNode, Source, command_ranges, entries_of, kept_runs, sources, uncut,
+};
 use joined_results::both;
-use node_commands::{OldCommands, Source, command_ranges, entries_of, kept_runs, sources};
 use pide_base::Range;
 use script_lines::Fault;
-use sheet_edits::{OpenNode, uncut};
 use sqlite_items::Items;
 use std::alloc::{AllocError, Global};
 use text_edits::{Edit, Text};

@@ -6,7 +6,7 @@ use doc_nodes::{Entry, ImportGraph, Node, NodeAliases, Nodes, aliases_of};
 use exec_rules::Blobs;
 use joined_results::both;
 use language::{Answer, Imported, Imports, Language, Made};
-use outer_tokens::scalars;
+use outer_syntax::scalars;
 use pide_base::Never;
 use report_markup::Report;
 use script_lines::{Fault, once};

@@ -1,7 +1,7 @@
 //! A plain buffer of one node, which reads everything again.
 use command_spans::{SpanKind, Spans};
 use message_values::Perspective;
-use outer_tokens::scalars;
+use outer_syntax::scalars;
 use pide_base::Range;
 use script_lines::Fault;
 use std::alloc::Global;

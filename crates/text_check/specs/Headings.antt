@@ -1,8 +1,8 @@
 -- What the commands of a text go by besides its text: read off its header (this project's own).
 use Rattle.std.specs.Prelude.{ℕ, List, [], ◌∷◌, find, true, Option, Some, None}
-use Rattle.doc_headers.specs.Reading.{header_in}
-use Rattle.doc_headers.specs.declared.parts.Header.{Header}
-use Rattle.doc_headers.specs.declared.parts.KeywordPair.{KeywordPair}
+use Rattle.outer_syntax.specs.Reading.{header_in}
+use Rattle.outer_syntax.specs.declared.parts.Header.{Header}
+use Rattle.outer_syntax.specs.declared.parts.KeywordPair.{KeywordPair}
 use Rattle.doc_nodes.specs.declared.node.Node.{Node}
 use Rattle.doc_nodes.specs.Imports.{NodeList, is_bad}
 use Rattle.doc_nodes.specs.Aliases.{aliases_at}

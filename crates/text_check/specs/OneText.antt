@@ -8,7 +8,7 @@ use Rattle.pide_base.specs.NodeName.{is_node_name}
 use Rattle.report_markup.specs.declared.report.Report.{Report}
 use Rattle.report_markup.specs.Ranges.{moved}
 use Rattle.report_markup.specs.Sorting.{ordered_reports}
-use Rattle.doc_headers.specs.Reading.{header_in}
+use Rattle.outer_syntax.specs.Reading.{header_in}
 use Rattle.doc_nodes.specs.declared.node.Entry.{Entry}
 use Rattle.doc_nodes.specs.Imports.{NodeList}
 use Rattle.language.specs.Lang.{Lang}

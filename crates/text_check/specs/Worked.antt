@@ -3,7 +3,7 @@ use Rattle.std.specs.Prelude.{◌≡◌, ℕ, List, [], ◌∷◌, codes}
 use Rattle.report_markup.specs.declared.kind.ReportKind.TheVariants as kind
 use Rattle.report_markup.specs.declared.report.Report.{Report}
 use Rattle.isar_rules.specs.Isar.{isar}
-use Rattle.nj_print.specs.Printed.{formula_text}
+use Rattle.nj_syntax.specs.Printed.{formula_text}
 use Rattle.isar_rules.specs.Reports.{name_is, theory_is}
 use Rattle.isar_rules.specs.Small.{said, prop}
 use Rattle.text_check.specs.OneText.{markup_of}

@@ -3,10 +3,10 @@ ghost use Rattle.std.specs.Prelude.{◌≡◌, [], codes, IfOk};
 ghost use Rattle.text_check.specs.OneText.{name_or_scratch};
 ghost use Rattle.text_check.specs.Headings.{alone, begins, bare, heading_of, headed, imports_of};
 
-use doc_headers::{Header, KeywordPair, header, one_header};
 use doc_nodes::{ImportGraph, Node, NodeAliases, Nodes, Shared, aliases_of, import_order};
 use joined_results::{both, each_of_three};
 use language::{Imports, Language};
+use outer_syntax::{Header, KeywordPair, header, one_header};
 use pide_base::NodeName;
 use sqlite_items::Items;
 use std::alloc::{AllocError, Global};

@@ -15,11 +15,11 @@ use Rattle.worker_loop.proofs.KnownHeld.{held_made}
 use Rattle.worker_loop.proofs.KnownRounds.{stands}
 use Rattle.reply_outbox.specs.declared.item.Item.TheVariants as item
 use Rattle.session_rules.specs.declared.entry.Entry.TheVariants as entry
-use Rattle.session_turns.specs.keeping_rules_below.Items.{SessionItem}
-use Rattle.session_turns.specs.document_session_below.declared.working.Claim.{Claim}
-use Rattle.session_turns.specs.document_session_below.declared.working.Claim.TheVariants as claim
-use Rattle.session_turns.specs.view_laws_below.Says.{says}
-use Rattle.session_turns.specs.Reading.{HasClaimed, HasNoEnd}
+use Rattle.document_session.specs.keeping_rules_below.Items.{SessionItem}
+use Rattle.document_session.specs.declared.working.Claim.{Claim}
+use Rattle.document_session.specs.declared.working.Claim.TheVariants as claim
+use Rattle.view_laws.specs.Says.{says}
+use Rattle.thread_serve.specs.Reading.{HasClaimed, HasNoEnd}
 use Rattle.thread_serve.specs.Reader.{Answers, calls_made}
 use Rattle.thread_serve.specs.Waiting.{MayPassTime}
 use Rattle.thread_serve.specs.Joins.{NoEnd, calls_append, made_nothing}

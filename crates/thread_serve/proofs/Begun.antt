@@ -13,12 +13,12 @@ use Rattle.hist_lock.specs.Passes.{view, IsPassOf}
 use Rattle.worker_loop.specs.Held.{held_in}
 use Rattle.reply_outbox.specs.declared.item.Item.TheVariants as item
 use Rattle.session_rules.specs.declared.service.Service.TheVariants.{Workers}
-use Rattle.session_turns.specs.keeping_rules_below.Items.{SessionItem}
-use Rattle.session_turns.specs.view_laws_below.Callers.{whose}
-use Rattle.session_turns.specs.view_laws_below.Histories.{replies_after}
-use Rattle.session_turns.specs.view_laws_below.Says.{says}
-use Rattle.session_turns.specs.view_laws_below.Sent.{bytes_sent, joined_bytes, sent_count}
-use Rattle.session_turns.specs.Reading.{HasNoEnd}
+use Rattle.document_session.specs.keeping_rules_below.Items.{SessionItem}
+use Rattle.view_laws.specs.Callers.{whose}
+use Rattle.view_laws.specs.Histories.{replies_after}
+use Rattle.view_laws.specs.Says.{says}
+use Rattle.view_laws.specs.Sent.{bytes_sent, joined_bytes, sent_count}
+use Rattle.thread_serve.specs.Reading.{HasNoEnd}
 use Rattle.thread_serve.specs.Joins.{NoEnd}
 use Rattle.thread_serve.specs.Reader.{IsAtRest, calls_made}
 use Rattle.thread_serve.specs.Stopped.{IsWriter}

@@ -13,8 +13,8 @@ use Rattle.worker_loop.specs.declared.said.Said.TheVariants as said
 use Rattle.worker_loop.proofs.KnownHeld.{held_made}
 use Rattle.reply_outbox.specs.declared.item.Item.TheVariants as item
 use Rattle.session_rules.specs.declared.entry.Entry.TheVariants as entry
-use Rattle.session_turns.specs.keeping_rules_below.Items.{SessionItem}
-use Rattle.session_turns.specs.document_session_below.Contents.{SessionState}
+use Rattle.document_session.specs.keeping_rules_below.Items.{SessionItem}
+use Rattle.document_session.specs.Contents.{SessionState}
 use Rattle.message_input.specs.declared.answering.Halt.{Halt}
 use Rattle.message_input.specs.declared.answering.Halt.TheVariants as halt
 use Rattle.message_input.specs.Answers.{AnswersSome}
@@ -22,7 +22,7 @@ use Rattle.message_input.specs.Causes.{HasCause, Tells}
 use Rattle.message_input.specs.Inputs.{AnswersSo, AnswersToEnd}
 use Rattle.document_serve.specs.Served.{calls_in}
 use Rattle.document_serve.specs.Headline.{CallsSo, IsFront}
-use Rattle.session_turns.specs.view_laws_below.Says.{says}
+use Rattle.view_laws.specs.Says.{says}
 use Rattle.thread_serve.specs.Reader.{Answers, EndsAll, SeesWhy, calls_made}
 use Rattle.thread_serve.specs.Stopped.{HasRead, IsHalt}
 use Rattle.thread_serve.specs.Joins.{calls_append, same_then}

@@ -10,18 +10,18 @@ use Rattle.reply_outbox.specs.Items.{lengths_sent}
 use Rattle.session_rules.specs.declared.service.Service.{Service}
 use Rattle.session_rules.specs.Heard.{Heard}
 use Rattle.session_rules.specs.Replies.{replies}
-use Rattle.session_turns.specs.keeping_rules_below.Items.{SessionItem, heard_in}
-use Rattle.session_turns.specs.keeping_rules_below.Legal.{AreLegal}
-use Rattle.session_turns.specs.keeping_rules_below.Pieces.{AreWaiting, pieces}
-use Rattle.session_turns.specs.keeping_rules_below.Sent.{IsFrontSent}
-use Rattle.session_turns.specs.document_session_below.Contents.{SessionState}
+use Rattle.document_session.specs.keeping_rules_below.Items.{SessionItem, heard_in}
+use Rattle.document_session.specs.keeping_rules_below.Legal.{AreLegal}
+use Rattle.document_session.specs.keeping_rules_below.Pieces.{AreWaiting, pieces}
+use Rattle.document_session.specs.keeping_rules_below.Sent.{IsFrontSent}
+use Rattle.document_session.specs.Contents.{SessionState}
 use Rattle.document_serve.specs.Served.{replies_in, sent_in}
 use Rattle.document_serve.proofs.KnownSent.{joined, sent_front}
-use Rattle.session_turns.specs.view_laws_below.Callers.{service_of, whose, worker_count}
-use Rattle.session_turns.specs.view_laws_below.Histories.{IsLegalLog}
-use Rattle.session_turns.specs.view_laws_below.Idle.{Waits}
-use Rattle.session_turns.specs.view_laws_below.Sent.{bytes_sent, joined_bytes}
-use Rattle.session_turns.proofs.KnownLegal.{LegalLaw, WorkersLaw}
+use Rattle.view_laws.specs.Callers.{service_of, whose, worker_count}
+use Rattle.view_laws.specs.Histories.{IsLegalLog}
+use Rattle.view_laws.specs.Idle.{Waits}
+use Rattle.view_laws.specs.Sent.{bytes_sent, joined_bytes}
+use Rattle.thread_serve.proofs.KnownLegal.{LegalLaw, WorkersLaw}
 use Rattle.thread_serve.specs.Closed.{IsClosed}
 use Rattle.thread_serve.proofs.Logs.{count_is, from_log, legal_log, to_log}
 

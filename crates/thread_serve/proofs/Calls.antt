@@ -6,10 +6,10 @@ use Rattle.hist_lock.specs.Entries.{own}
 use Rattle.worker_loop.specs.declared.said.Said.TheVariants as said
 use Rattle.reply_outbox.specs.declared.item.Item.TheVariants as item
 use Rattle.session_rules.specs.declared.entry.Entry.TheVariants as entry
-use Rattle.session_turns.specs.keeping_rules_below.Items.{SessionItem}
+use Rattle.document_session.specs.keeping_rules_below.Items.{SessionItem}
 use Rattle.document_serve.specs.Served.{calls_in}
-use Rattle.session_turns.specs.view_laws_below.Callers.{whose}
-use Rattle.session_turns.specs.view_laws_below.Says.{says}
+use Rattle.view_laws.specs.Callers.{whose}
+use Rattle.view_laws.specs.Says.{says}
 use Rattle.thread_serve.specs.Reader.{calls_made}
 use Rattle.thread_serve.specs.Joins.{calls_append}
 

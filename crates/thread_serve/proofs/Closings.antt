@@ -17,12 +17,12 @@ use Rattle.worker_loop.proofs.KnownGathered.{prefix_then}
 use Rattle.reply_outbox.specs.declared.item.Item.TheVariants as item
 use Rattle.session_rules.specs.declared.service.Service.{Service}
 use Rattle.session_rules.specs.declared.service.Service.TheVariants.{Workers}
-use Rattle.session_turns.specs.keeping_rules_below.Items.{SessionItem}
-use Rattle.session_turns.specs.keeping_rules_below.Legal.{AreLegal}
-use Rattle.session_turns.specs.document_session_below.Contents.{SessionState}
-use Rattle.session_turns.specs.view_laws_below.Callers.{service_of, whose}
-use Rattle.session_turns.specs.view_laws_below.Histories.{IsLegalLog}
-use Rattle.session_turns.specs.view_laws_below.Says.{says}
+use Rattle.document_session.specs.keeping_rules_below.Items.{SessionItem}
+use Rattle.document_session.specs.keeping_rules_below.Legal.{AreLegal}
+use Rattle.document_session.specs.Contents.{SessionState}
+use Rattle.view_laws.specs.Callers.{service_of, whose}
+use Rattle.view_laws.specs.Histories.{IsLegalLog}
+use Rattle.view_laws.specs.Says.{says}
 use Rattle.thread_serve.specs.Closed.{IsClosed, WorkersAreFree, made_items}
 
 module _ {S : Type 0} (l : Lang S) where

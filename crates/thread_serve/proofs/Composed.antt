@@ -6,8 +6,8 @@ use Rattle.pide_base.specs.declared.status.Status.TheVariants as status
 use Rattle.language.specs.Lang.{Lang}
 use Rattle.core_rules.specs.Standing.{has_ended}
 use Rattle.reply_outbox.specs.Items.{is_lost}
-use Rattle.session_turns.specs.keeping_rules_below.Items.{session_in}
-use Rattle.session_turns.specs.document_session_below.Contents.{SessionState}
+use Rattle.document_session.specs.keeping_rules_below.Items.{session_in}
+use Rattle.document_session.specs.Contents.{SessionState}
 use Rattle.document_serve.specs.Served.{AllSent, replies_in, sent_in}
 use Rattle.document_serve.specs.Headline.{BytesSent, BytesWritten, Closed}
 use Rattle.thread_serve.specs.Promises.{LosesOnly}

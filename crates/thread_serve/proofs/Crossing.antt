@@ -7,8 +7,8 @@ use Rattle.session_rules.specs.contracts.entry.Entry as entry
 use Rattle.language.specs.declared.language.Language as language
 use Rattle.reply_outbox.specs.declared.past.Past as past
 use Rattle.reply_outbox.specs.contracts.outbox.Outbox as outbox
-use Rattle.session_turns.specs.document_session_below.contracts.session.Session as session
-use Rattle.session_turns.specs.contracts.locked.Locked as locked
+use Rattle.document_session.specs.contracts.session.Session as session
+use Rattle.thread_serve.specs.contracts.locked.Locked as locked
 use Rattle.thread_serve.proofs.CrossingBuffer.{buffer_send}
 use Rattle.thread_serve.proofs.CrossingCore.{core_send}
 use Rattle.thread_serve.proofs.CrossingJobs.{session_job_send}

@@ -3,7 +3,7 @@ use denote.Param.Send.{IsSend, IsSync}
 use Rattle.command_spans.specs.contracts.names.Names as names
 use Rattle.command_spans.specs.contracts.text_spans.Spans as spans
 use Rattle.buffer_rules.specs.contracts.sheet.Sheet as sheet
-use Rattle.sheet_edits.specs.contracts.open_node.OpenNode as open_node
+use Rattle.editor_buffer.specs.contracts.open_node.OpenNode as open_node
 use Rattle.editor_buffer.specs.contracts.buffer.Buffer as buffer
 use Rattle.thread_serve.proofs.CrossingNodes.{nodes}
 

@@ -8,7 +8,7 @@ use Rattle.core_rules.specs.contracts.event.Event as event
 use Rattle.version_losses.specs.contracts.losses.Losses as losses
 use Rattle.update_plans.specs.contracts.known.Known as known
 use Rattle.language.specs.declared.language.Language as language
-use Rattle.prover_core.specs.contracts.prover.Core as core
+use Rattle.document_session.specs.prover_core_below.contracts.prover.Core as core
 use Rattle.thread_serve.proofs.CrossingHomes.{versions}
 use Rattle.thread_serve.proofs.CrossingJobs.{done_send}
 use Rattle.thread_serve.proofs.CrossingLists.{lists}

@@ -6,7 +6,7 @@ use Rattle.core_jobs.specs.contracts.input.Input as input
 use Rattle.core_jobs.specs.contracts.job.Job as job
 use Rattle.core_jobs.specs.contracts.done.Evaluated as evaluated
 use Rattle.core_jobs.specs.contracts.done.Done as done
-use Rattle.session_turns.specs.session_replies_below.contracts.job.SessionJob as session_job
+use Rattle.document_session.specs.session_replies_below.contracts.job.SessionJob as session_job
 use Rattle.thread_serve.proofs.CrossingHomes.{heads}
 use Rattle.thread_serve.proofs.CrossingLists.{lists}
 use Rattle.thread_serve.proofs.CrossingStates.{imports_cross, reports}

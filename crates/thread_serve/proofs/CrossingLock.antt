@@ -9,7 +9,7 @@ use Rattle.atomic_table.proofs.shared.Shared.TheSendSync as tables
 use Rattle.hist_lock.specs.contracts.pass.Pass as pass
 use Rattle.hist_lock.specs.contracts.shared.Shared as lock
 use Rattle.hist_lock.specs.declared.state.State as state
-use Rattle.session_turns.specs.contracts.Crew as crew
+use Rattle.thread_serve.specs.contracts.crew.Crew as crew
 use Rattle.worker_loop.specs.contracts.worker.Shift as shift
 use Rattle.worker_loop.specs.contracts.writer.Wrote as wrote
 use Rattle.thread_serve.specs.contracts.working.Stopped as stopped

@@ -2,7 +2,7 @@
 use denote.Param.Send.{IsSend, IsSync}
 use Rattle.text_edits.specs.contracts.text.Text as text
 use Rattle.pide_base.specs.contracts.node_name.NodeName as name
-use Rattle.doc_headers.specs.contracts.parts.KeywordPair as pair
+use Rattle.outer_syntax.specs.contracts.parts.KeywordPair as pair
 use Rattle.doc_nodes.specs.contracts.blob_name.BlobName as blob_name
 use Rattle.doc_nodes.specs.contracts.alias.Aliases as aliases
 use Rattle.doc_nodes.specs.contracts.node.Entry as entry

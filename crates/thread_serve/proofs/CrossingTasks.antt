@@ -2,10 +2,10 @@
 -- hold may.
 use denote.RattleType.{RattleType}
 use denote.Param.Send.{IsSend, IsSync}
-use Rattle.task_queue.specs.contracts.deque.PartDeque as deque
-use Rattle.task_queue.specs.contracts.waiters.Waiters as waiters
-use Rattle.task_queue.specs.contracts.task.Standing as standing
-use Rattle.task_queue.specs.contracts.queue.TaskQueue as queue
+use Rattle.core_tables.specs.contracts.deque.PartDeque as deque
+use Rattle.core_tables.specs.contracts.waiters.Waiters as waiters
+use Rattle.core_tables.specs.contracts.task.Standing as standing
+use Rattle.core_tables.specs.contracts.queue.TaskQueue as queue
 use Rattle.core_tables.specs.contracts.execution.Progress as progress
 use Rattle.core_tables.specs.contracts.execution.Execution as execution
 use Rattle.core_tables.specs.contracts.execs.Execs as execs

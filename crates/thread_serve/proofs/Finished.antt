@@ -14,11 +14,11 @@ use Rattle.session_rules.specs.declared.service.Service.{Service}
 use Rattle.session_rules.specs.Heard.{all_heard}
 use Rattle.session_rules.specs.History.{session}
 use Rattle.session_rules.specs.Steps.{Nothing, due}
-use Rattle.session_turns.specs.keeping_rules_below.Items.{SessionItem, heard_in}
-use Rattle.session_turns.specs.document_session_below.Contents.{SessionState}
+use Rattle.document_session.specs.keeping_rules_below.Items.{SessionItem, heard_in}
+use Rattle.document_session.specs.Contents.{SessionState}
 use Rattle.document_serve.specs.Runs.{IsSame}
 use Rattle.document_serve.specs.Served.{calls, calls_in, replies_in, sent_in}
-use Rattle.session_turns.specs.view_laws_below.Sent.{bytes_sent}
+use Rattle.view_laws.specs.Sent.{bytes_sent}
 use Rattle.thread_serve.specs.Closed.{IsClosed, WorkersAreFree}
 use Rattle.thread_serve.specs.Laws.{RunLaws}
 use Rattle.thread_serve.specs.Promises.{IsServed, NobodyHolds, status_of}

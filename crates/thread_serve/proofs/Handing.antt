@@ -9,9 +9,9 @@ use Rattle.worker_loop.specs.Sending.{AreSent}
 use Rattle.worker_loop.specs.Written.{Holding, WrittenSo}
 use Rattle.worker_loop.specs.declared.writer.Written.{Written}
 use Rattle.worker_loop.specs.declared.writer.Written.TheVariants as written
-use Rattle.session_turns.specs.keeping_rules_below.Items.{SessionItem}
-use Rattle.session_turns.specs.view_laws_below.Says.{says}
-use Rattle.session_turns.specs.view_laws_below.Sent.{bytes_sent}
+use Rattle.document_session.specs.keeping_rules_below.Items.{SessionItem}
+use Rattle.view_laws.specs.Says.{says}
+use Rattle.view_laws.specs.Sent.{bytes_sent}
 use Rattle.thread_serve.specs.Stopped.{WroteSo}
 
 module _ {S : Type 0} (l : Lang S) (who : ℕ) (v w : View SessionItem) (before after : Holding) (none : v.mine ≡ []) (nothing : bytes_sent l who v.seen ≡ []) where

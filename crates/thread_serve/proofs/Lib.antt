@@ -1,3 +1,14 @@
+pub mod KnownLegal
+mod TurnLogs
+mod Turned
+mod Pieces
+mod Replied
+mod Lists
+mod Turns
+mod Claims
+mod Ended
+mod Sends
+mod Takes
 mod Calls
 mod Answered
 mod Rested

@@ -4,12 +4,12 @@ use Rattle.std.proofs.lemmas.List.{reverse-reverse}
 use Rattle.language.specs.Lang.{Lang}
 use Rattle.session_rules.specs.declared.service.Service.{Service}
 use Rattle.session_rules.specs.declared.service.Service.TheVariants.{Workers}
-use Rattle.session_turns.specs.keeping_rules_below.Items.{SessionItem}
-use Rattle.session_turns.specs.keeping_rules_below.Legal.{AreLegal}
-use Rattle.session_turns.specs.document_session_below.Contents.{SessionState}
-use Rattle.session_turns.specs.view_laws_below.Callers.{service_of, worker_count}
-use Rattle.session_turns.specs.view_laws_below.Histories.{IsLegalLog}
-use Rattle.session_turns.proofs.KnownLegal.{LegalLaw, WorkersLaw}
+use Rattle.document_session.specs.keeping_rules_below.Items.{SessionItem}
+use Rattle.document_session.specs.keeping_rules_below.Legal.{AreLegal}
+use Rattle.document_session.specs.Contents.{SessionState}
+use Rattle.view_laws.specs.Callers.{service_of, worker_count}
+use Rattle.view_laws.specs.Histories.{IsLegalLog}
+use Rattle.thread_serve.proofs.KnownLegal.{LegalLaw, WorkersLaw}
 
 module _ {S : Type 0} (l : Lang S) where
   module _ (count : ℕ) (s : SessionState) (service : s.service ≡ Workers count) (legal : AreLegal l s.service s.items) where

@@ -16,12 +16,12 @@ use Rattle.worker_loop.proofs.KnownHeld.{held_made}
 use Rattle.worker_loop.proofs.KnownRounds.{goes_held}
 use Rattle.reply_outbox.specs.declared.item.Item.TheVariants as item
 use Rattle.session_rules.specs.declared.entry.Entry.TheVariants as entry
-use Rattle.session_turns.specs.keeping_rules_below.Items.{SessionItem}
-use Rattle.session_turns.specs.document_session_below.declared.working.Claim.{Claim}
+use Rattle.document_session.specs.keeping_rules_below.Items.{SessionItem}
+use Rattle.document_session.specs.declared.working.Claim.{Claim}
 use Rattle.message_input.specs.declared.answering.Halt.{Halt}
 use Rattle.message_input.specs.declared.answering.Halt.TheVariants as halt
-use Rattle.session_turns.specs.view_laws_below.Says.{says}
-use Rattle.session_turns.specs.Reading.{HasClaimed}
+use Rattle.view_laws.specs.Says.{says}
+use Rattle.thread_serve.specs.Reading.{HasClaimed}
 use Rattle.thread_serve.specs.Joins.{answers_then, made_nothing}
 use Rattle.thread_serve.specs.Reader.{Answers, IsAtRest, IsReader, SeesWhy}
 use Rattle.thread_serve.proofs.Answered.{claim_answers, made_call, rounds_answer, still_open}

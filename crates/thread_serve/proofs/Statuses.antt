@@ -3,7 +3,7 @@ use Rattle.std.proofs.Common.{◌≡◌, ◌≢◌, ℕ, ◌≤◌, Bool, true, 
 use Rattle.pide_base.specs.declared.status.Status.{Status}
 use Rattle.pide_base.specs.declared.status.Status.TheVariants as status
 use Rattle.byte_message.specs.Stream.{Ending, IsReadAs}
-use Rattle.session_turns.specs.document_session_below.Contents.{SessionState}
+use Rattle.document_session.specs.Contents.{SessionState}
 use Rattle.message_input.specs.Causes.{HasCause, TakesSo}
 use Rattle.document_serve.specs.Served.{calls_in}
 use Rattle.document_serve.specs.Headline.{CallsSo, IsFront, MessagesRead}

@@ -16,13 +16,13 @@ use Rattle.reply_outbox.specs.declared.item.Item.TheVariants as item
 use Rattle.reply_outbox.specs.Items.{is_lost}
 use Rattle.reply_outbox.proofs.KnownLost.{stays_lost}
 use Rattle.session_rules.specs.declared.entry.Entry.TheVariants as entry
-use Rattle.session_turns.specs.keeping_rules_below.Items.{SessionItem, session_in}
-use Rattle.session_turns.specs.document_session_below.Contents.{SessionState}
+use Rattle.document_session.specs.keeping_rules_below.Items.{SessionItem, session_in}
+use Rattle.document_session.specs.Contents.{SessionState}
 use Rattle.document_serve.specs.Served.{calls_in}
-use Rattle.session_turns.specs.view_laws_below.Callers.{whose, worker_count}
-use Rattle.session_turns.specs.view_laws_below.Histories.{IsLegalLog, session_after}
-use Rattle.session_turns.specs.view_laws_below.Says.{says}
-use Rattle.session_turns.proofs.KnownLegal.{LegalLaw, WorkersLaw}
+use Rattle.view_laws.specs.Callers.{whose, worker_count}
+use Rattle.view_laws.specs.Histories.{IsLegalLog, session_after}
+use Rattle.view_laws.specs.Says.{says}
+use Rattle.thread_serve.proofs.KnownLegal.{LegalLaw, WorkersLaw}
 use Rattle.thread_serve.specs.Closed.{IsClosed, WorkersAreFree, made_items}
 use Rattle.thread_serve.specs.Promises.{NobodyHolds}
 use Rattle.thread_serve.specs.Reader.{calls_made}

@@ -11,9 +11,9 @@ use Rattle.reply_outbox.specs.Items.{is_lost}
 use Rattle.session_rules.specs.declared.service.Service.{Service}
 use Rattle.session_rules.specs.Legal.{IsLegal}
 use Rattle.session_rules.specs.Steps.{Nothing, due}
-use Rattle.session_turns.specs.keeping_rules_below.Items.{SessionItem, heard_in}
-use Rattle.session_turns.specs.keeping_rules_below.Legal.{AreLegal}
-use Rattle.session_turns.specs.document_session_below.Contents.{SessionState}
+use Rattle.document_session.specs.keeping_rules_below.Items.{SessionItem, heard_in}
+use Rattle.document_session.specs.keeping_rules_below.Legal.{AreLegal}
+use Rattle.document_session.specs.Contents.{SessionState}
 use Rattle.document_serve.specs.Served.{AllSent, calls_in, replies_in, sent_in}
 use Rattle.thread_serve.specs.Promises.{IsServed}
 

@@ -13,12 +13,12 @@ use Rattle.worker_loop.specs.declared.writer.Written.TheVariants as written
 use Rattle.reply_outbox.specs.Items.{entries, is_lost}
 use Rattle.session_rules.specs.declared.entry.Entry.{Entry}
 use Rattle.session_rules.specs.declared.service.Service.{Service}
-use Rattle.session_turns.specs.keeping_rules_below.Items.{SessionItem}
-use Rattle.session_turns.specs.document_session_below.Contents.{SessionState}
+use Rattle.document_session.specs.keeping_rules_below.Items.{SessionItem}
+use Rattle.document_session.specs.Contents.{SessionState}
 use Rattle.document_serve.specs.Served.{replies_in, sent_in}
 use Rattle.document_serve.specs.Runs.{IsSame}
 use Rattle.document_serve.proofs.KnownSent.{sent_whole}
-use Rattle.session_turns.specs.view_laws_below.Sent.{bytes_sent}
+use Rattle.view_laws.specs.Sent.{bytes_sent}
 use Rattle.thread_serve.specs.Promises.{status_of}
 use Rattle.thread_serve.specs.Rest.{RestSo}
 use Rattle.thread_serve.specs.Stopped.{WroteSo}

@@ -6,11 +6,11 @@ use Rattle.hist_lock.specs.Entries.{own}
 use Rattle.worker_loop.specs.Held.{held_in}
 use Rattle.language.specs.Lang.{Lang}
 use Rattle.session_rules.specs.declared.service.Service.TheVariants.{Workers}
-use Rattle.session_turns.specs.keeping_rules_below.Items.{SessionItem}
-use Rattle.session_turns.specs.keeping_rules_below.Legal.{AreLegal}
-use Rattle.session_turns.specs.document_session_below.Contents.{SessionState}
-use Rattle.session_turns.specs.view_laws_below.Callers.{whose}
-use Rattle.session_turns.specs.view_laws_below.Says.{says}
+use Rattle.document_session.specs.keeping_rules_below.Items.{SessionItem}
+use Rattle.document_session.specs.keeping_rules_below.Legal.{AreLegal}
+use Rattle.document_session.specs.Contents.{SessionState}
+use Rattle.view_laws.specs.Callers.{whose}
+use Rattle.view_laws.specs.Says.{says}
 
 -- the items that a caller made, the oldest first
 abbrev pub made_items : ℕ → SessionState → List SessionItem

@@ -10,10 +10,10 @@ use Rattle.hist_lock.specs.Passes.{view}
 use Rattle.worker_loop.specs.declared.said.Said.TheVariants as said
 use Rattle.reply_outbox.specs.declared.item.Item.TheVariants as item
 use Rattle.session_rules.specs.declared.entry.Entry.TheVariants as entry
-use Rattle.session_turns.specs.keeping_rules_below.Items.{SessionItem}
+use Rattle.document_session.specs.keeping_rules_below.Items.{SessionItem}
 use Rattle.message_input.specs.declared.answering.Halt.{Halt}
 use Rattle.message_input.specs.declared.answering.Halt.TheVariants as halt
-use Rattle.session_turns.specs.view_laws_below.Says.{says}
+use Rattle.view_laws.specs.Says.{says}
 use Rattle.thread_serve.specs.Reader.{Answers, GoesOn, Halts, IsAtRest, calls_made}
 
 -- an item that isn't the end

@@ -14,15 +14,15 @@ use Rattle.session_rules.specs.declared.service.Service.TheVariants.{Workers}
 use Rattle.session_rules.specs.Heard.{Heard}
 use Rattle.session_rules.specs.Legal.{IsLegal}
 use Rattle.session_rules.specs.Replies.{replies}
-use Rattle.session_turns.specs.keeping_rules_below.Items.{SessionItem, heard_in}
-use Rattle.session_turns.specs.keeping_rules_below.Legal.{AreLegal}
-use Rattle.session_turns.specs.keeping_rules_below.Pieces.{pieces}
-use Rattle.session_turns.specs.keeping_rules_below.Sent.{IsFrontSent}
-use Rattle.session_turns.specs.view_laws_below.Callers.{service_of, whose, worker_count}
-use Rattle.session_turns.specs.view_laws_below.Histories.{IsLegalLog, session_after}
-use Rattle.session_turns.specs.view_laws_below.Idle.{Waits}
-use Rattle.session_turns.specs.view_laws_below.Says.{says}
-use Rattle.session_turns.specs.view_laws_below.Sent.{bytes_sent, joined_bytes}
+use Rattle.document_session.specs.keeping_rules_below.Items.{SessionItem, heard_in}
+use Rattle.document_session.specs.keeping_rules_below.Legal.{AreLegal}
+use Rattle.document_session.specs.keeping_rules_below.Pieces.{pieces}
+use Rattle.document_session.specs.keeping_rules_below.Sent.{IsFrontSent}
+use Rattle.view_laws.specs.Callers.{service_of, whose, worker_count}
+use Rattle.view_laws.specs.Histories.{IsLegalLog, session_after}
+use Rattle.view_laws.specs.Idle.{Waits}
+use Rattle.view_laws.specs.Says.{says}
+use Rattle.view_laws.specs.Sent.{bytes_sent, joined_bytes}
 
 -- what lists tell, the newest item first
 pub record ListLaws {S : Type 0} (l : Lang S) : Type 0 where

@@ -1,3 +1,9 @@
+pub mod Contents
+pub mod Ends
+pub mod Room
+pub mod Sending
+pub mod Working
+pub mod Reading
 pub mod Reader
 pub mod Joins
 pub mod Waiting
@@ -7,5 +13,5 @@ pub mod Rest
 pub mod Promises
 pub mod Laws
 pub use Rattle.document_serve.specs as document_serve_below
-pub use Rattle.session_turns.specs.document_session_below as document_session_below
-pub use Rattle.session_turns.specs.keeping_rules_below as keeping_rules_below
+pub use Rattle.document_session.specs as document_session_below
+pub use Rattle.document_session.specs.keeping_rules_below as keeping_rules_below

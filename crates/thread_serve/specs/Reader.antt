@@ -11,11 +11,11 @@ use Rattle.worker_loop.specs.Rounds.{HasSeen}
 use Rattle.worker_loop.specs.declared.said.Said.TheVariants as said
 use Rattle.reply_outbox.specs.declared.item.Item.TheVariants as item
 use Rattle.session_rules.specs.declared.entry.Entry.TheVariants as entry
-use Rattle.session_turns.specs.keeping_rules_below.Items.{SessionItem}
+use Rattle.document_session.specs.keeping_rules_below.Items.{SessionItem}
 use Rattle.message_input.specs.declared.answering.Halt.{Halt}
 use Rattle.message_input.specs.declared.answering.Halt.TheVariants as halt
-use Rattle.session_turns.specs.view_laws_below.Says.{says}
-use Rattle.session_turns.specs.Reading.{HasNoEnd}
+use Rattle.view_laws.specs.Says.{says}
+use Rattle.thread_serve.specs.Reading.{HasNoEnd}
 
 -- the messages of the calls among the items
 abbrev pub calls_made : List SessionItem → List (List (List ℕ))

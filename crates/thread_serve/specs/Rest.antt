@@ -2,7 +2,7 @@
 use Rattle.std.specs.Prelude.{◌≡◌, ℕ, Bool, true, false, List, Option}
 use Rattle.language.specs.Lang.{Lang}
 use Rattle.reply_outbox.specs.Items.{is_lost}
-use Rattle.session_turns.specs.document_session_below.Contents.{SessionState}
+use Rattle.document_session.specs.Contents.{SessionState}
 use Rattle.worker_loop.specs.declared.writer.Written.{Written}
 use Rattle.worker_loop.specs.declared.writer.Written.TheVariants as written
 use Rattle.document_serve.specs.Served.{AllSent, IsLostLast, WritesFront, WritesOn, WritesSome}

@@ -21,14 +21,14 @@ use Rattle.worker_loop.specs.declared.writer.Written.TheVariants as written
 use Rattle.language.specs.Lang.{Lang}
 use Rattle.reply_outbox.specs.declared.item.Item.TheVariants as item
 use Rattle.session_rules.specs.declared.entry.Entry.TheVariants as entry
-use Rattle.session_turns.specs.keeping_rules_below.Items.{SessionItem}
-use Rattle.session_turns.specs.document_session_below.Contents.{SessionState}
+use Rattle.document_session.specs.keeping_rules_below.Items.{SessionItem}
+use Rattle.document_session.specs.Contents.{SessionState}
 use Rattle.message_input.specs.Causes.{HasCause}
 use Rattle.document_serve.specs.Headline.{MessagesRead}
 use Rattle.document_serve.specs.Served.{calls_in}
-use Rattle.session_turns.specs.view_laws_below.Callers.{whose}
-use Rattle.session_turns.specs.view_laws_below.Says.{says}
-use Rattle.session_turns.specs.view_laws_below.Sent.{bytes_sent}
+use Rattle.view_laws.specs.Callers.{whose}
+use Rattle.view_laws.specs.Says.{says}
+use Rattle.view_laws.specs.Sent.{bytes_sent}
 use Rattle.thread_serve.specs.Reader.{calls_made}
 
 -- a pass of the writer, which has this number: it has made nothing and was handed nothing

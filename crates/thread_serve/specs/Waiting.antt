@@ -4,13 +4,13 @@ use Rattle.language.specs.Lang.{Lang}
 use Rattle.hist_lock.specs.declared.view.View.{View}
 use Rattle.worker_loop.specs.Held.{held_in}
 use Rattle.worker_loop.specs.Stays.{Stays}
-use Rattle.session_turns.specs.keeping_rules_below.Items.{SessionItem}
-use Rattle.session_turns.specs.document_session_below.declared.working.Claim.{Claim}
-use Rattle.session_turns.specs.document_session_below.declared.working.Claim.TheVariants as claim
-use Rattle.session_turns.specs.view_laws_below.Histories.{IsLegalLog}
-use Rattle.session_turns.specs.view_laws_below.Idle.{HasNothingToDo}
-use Rattle.session_turns.specs.view_laws_below.Says.{says}
-use Rattle.session_turns.specs.view_laws_below.Works.{IsRightWork}
+use Rattle.document_session.specs.keeping_rules_below.Items.{SessionItem}
+use Rattle.document_session.specs.declared.working.Claim.{Claim}
+use Rattle.document_session.specs.declared.working.Claim.TheVariants as claim
+use Rattle.view_laws.specs.Histories.{IsLegalLog}
+use Rattle.view_laws.specs.Idle.{HasNothingToDo}
+use Rattle.view_laws.specs.Says.{says}
+use Rattle.view_laws.specs.Works.{IsRightWork}
 
 -- it holds the part of a right job; or it holds none, and may wait for another item where it was
 -- told so

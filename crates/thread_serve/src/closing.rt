@@ -6,16 +6,17 @@ ghost use Rattle.hist_lock.specs.Passes.{view, IsPassOf};
 ghost use Rattle.reply_outbox.specs.declared.item.Item.TheVariants.{Opened};
 ghost use Rattle.session_rules.specs.declared.service.Service.TheVariants.{Workers};
 ghost use Rattle.worker_loop.specs.Crew.{AreBack, AreWorkers, HasGathered, HoldNothing};
-ghost use Rattle.session_turns.specs.view_laws_below.Says.{says};
+ghost use Rattle.view_laws.specs.Says.{says};
 ghost use Rattle.thread_serve.specs.Closed.{IsClosed, WorkersAreFree};
 
+use crate::crew::Crew;
+use crate::locked::Locked;
 use crate::working::Workers;
+use document_session::Session;
 use hist_lock::{Pass, Shared};
 use language::Language;
 use reply_outbox::Past;
 use session_rules::{Entry, Service};
-use session_turns::document_session_below::Session;
-use session_turns::{Crew, Locked};
 use std::alloc::AllocFailed;
 use worker_loop::{gather, gather_idle};
 

@@ -8,12 +8,13 @@ ghost use Rattle.worker_loop.specs.Sending.{AreSent};
 ghost use Rattle.worker_loop.specs.declared.writer.Written.TheVariants.{Ended};
 ghost use Rattle.reply_outbox.specs.declared.item.Item.TheVariants.{Opened};
 ghost use Rattle.session_rules.specs.declared.service.Service.TheVariants.{Workers};
-ghost use Rattle.session_turns.specs.view_laws_below.Says.{says};
+ghost use Rattle.view_laws.specs.Says.{says};
 ghost use Rattle.thread_serve.specs.Promises.{IsServed};
 ghost use Rattle.thread_serve.specs.Stopped.{HasRead, HasWritten};
 
 use crate::closing::{Closed, close};
 use crate::laws::run_laws;
+use crate::locked::Locked;
 use crate::reading::Read;
 use crate::rest::write_rest;
 use crate::served::Served;
@@ -24,7 +25,6 @@ use language::Language;
 use pide_base::{Sink, Source, Status};
 use reply_outbox::Past;
 use session_rules::{Entry, Service};
-use session_turns::Locked;
 use worker_loop::Wrote;
 
 /// Takes the session out, writes the replies that are left, and tells how the run ended.

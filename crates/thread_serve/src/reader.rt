@@ -1,6 +1,8 @@
 //! The reader, as what answers messages.
 
 use crate::answering::answer;
+use crate::crew::Crew;
+use crate::locked::Locked;
 use byte_message::Message;
 use hist_lock::{Pass, Shared, State};
 use language::Language;
@@ -8,7 +10,6 @@ use message_input::{Answering, Halt};
 use pide_base::Gate;
 use reply_outbox::Past;
 use session_rules::{Entry, Service};
-use session_turns::{Crew, Locked};
 use std::sync::Wait;
 
 /// Has each message answered at its own turn.

@@ -7,6 +7,8 @@ ghost use Rattle.hist_lock.specs.Passes.{view, IsPassOf};
 ghost use Rattle.thread_serve.specs.Reader.{IsAtRest, calls_made};
 ghost use Rattle.thread_serve.specs.Stopped.{HasRead, IsHalt};
 
+use crate::crew::Crew;
+use crate::locked::Locked;
 use crate::reader::Reader;
 use hist_lock::{Pass, Shared, State};
 use language::Language;
@@ -14,7 +16,6 @@ use message_input::answer_input;
 use pide_base::{Gate, Source, Status};
 use reply_outbox::Past;
 use session_rules::{Entry, Service};
-use session_turns::{Crew, Locked};
 use std::sync::Wait;
 
 /// What the reader brings back.

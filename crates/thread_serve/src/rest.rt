@@ -2,16 +2,16 @@
 ghost use Rattle.std.specs.Prelude.{◌≡◌, ◌≤◌, true, false};
 ghost use Rattle.pide_base.specs.Faults.{Rose};
 ghost use Rattle.reply_outbox.specs.Items.{is_lost};
-ghost use Rattle.session_turns.specs.keeping_rules_below.Legal.{AreLegal};
+ghost use Rattle.document_session.specs.keeping_rules_below.Legal.{AreLegal};
 ghost use Rattle.document_serve.specs.Runs.{IsSame};
 ghost use Rattle.thread_serve.specs.Rest.{RestSo};
 
 use document_serve::write_out;
+use document_session::Session;
 use language::Language;
 use pide_base::Sink;
 use reply_outbox::Past;
 use session_rules::{Entry, Service};
-use session_turns::document_session_below::Session;
 use worker_loop::Written;
 
 /// Writes the replies that the writer left, unless the sink failed before. Answers whether the sink

@@ -10,17 +10,18 @@ ghost use Rattle.message_input.specs.Causes.{BadFrameSo, CompleteSo, DoneSo, Lon
 ghost use Rattle.document_serve.specs.Headline.{BytesSent, BytesWritten, MessagesRead, OneLegalHistory};
 ghost use Rattle.thread_serve.specs.Promises.{IsServed, LosesOnly, NobodyHolds};
 
+use crate::crew::Crew;
 use crate::finishing::finish;
+use crate::locked::Locked;
 use crate::served::Served;
 use crate::together::run_together;
+use document_session::Session;
+use document_session::keeping_rules_below::history_law;
 use hist_lock::{Pass, Role, Shared};
 use language::Language;
 use pide_base::{Gate, Sink, Source, Status};
 use reply_outbox::Past;
 use session_rules::{Entry, Service};
-use session_turns::document_session_below::Session;
-use session_turns::keeping_rules_below::history_law;
-use session_turns::{Crew, Locked};
 use std::alloc::{AllocFailed, Global};
 use std::sync::Wait;
 use std::thread::Threads;

@@ -1,10 +1,10 @@
 //! What a run hands back.
 
+use document_session::Session;
 use language::Language;
 use pide_base::Status;
 use reply_outbox::Past;
 use session_rules::{Entry, Service};
-use session_turns::document_session_below::Session;
 
 /// How a run ended, and the source, the sink and the session that it was given.
 #[derive(Drop)]

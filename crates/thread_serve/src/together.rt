@@ -6,10 +6,12 @@ ghost use Rattle.pide_base.specs.Faults.{Rose};
 ghost use Rattle.hist_lock.specs.Known.{IsSameCaller};
 ghost use Rattle.hist_lock.specs.Passes.{view, IsPassOf};
 ghost use Rattle.worker_loop.specs.Crew.{AreBack, AreWorkers};
-ghost use Rattle.session_turns.specs.view_laws_below.Says.{says};
+ghost use Rattle.view_laws.specs.Says.{says};
 ghost use Rattle.thread_serve.specs.Reader.{IsAtRest, calls_made};
 ghost use Rattle.thread_serve.specs.Stopped.{HasRead, HasWritten, IsWriter};
 
+use crate::crew::Crew;
+use crate::locked::Locked;
 use crate::reading::{Read, read_to_end};
 use crate::working::{Stopped, work_and_write};
 use hist_lock::{Pass, Shared};
@@ -17,7 +19,6 @@ use language::Language;
 use pide_base::{Gate, Sink, Source, Status};
 use reply_outbox::Past;
 use session_rules::{Entry, Service};
-use session_turns::{Crew, Locked};
 use std::sync::Wait;
 use std::thread::{Threads, join};
 

@@ -3,15 +3,17 @@ ghost use Rattle.std.specs.Prelude.{◌≡◌, ◌^◌, ◌<◌, vec_len, IfOk, 
 ghost use Rattle.std.specs.Thread.{IsSync};
 ghost use Rattle.hist_lock.specs.Passes.{view, IsPassOf};
 ghost use Rattle.worker_loop.specs.Crew.{AreBack, AreWorkers};
-ghost use Rattle.session_turns.specs.view_laws_below.Says.{says};
+ghost use Rattle.view_laws.specs.Says.{says};
 ghost use Rattle.thread_serve.specs.Stopped.{HasWritten, IsWriter};
 
+use crate::crew::Crew;
+use crate::locked::Locked;
+use crate::writer::Writer;
 use hist_lock::{Pass, Shared, State};
 use language::Language;
 use pide_base::{Gate, Sink};
 use reply_outbox::Past;
 use session_rules::{Entry, Service};
-use session_turns::{Crew, Locked, Writer};
 use std::alloc::AllocFailed;
 use std::sync::Wait;
 use std::thread::{Threads, join};

@@ -1,9 +1,9 @@
 -- What a command makes is told by its first token and its shape.
 use Rattle.std.proofs.Common.{◌≡◌, ℕ, List, [], ◌∷◌, Option, Some, Ok, Err, map, refl, ap, sym, ◌∙◌}
-use Rattle.outer_tokens.specs.ProperTokens.{proper_from}
-use Rattle.outer_tokens.specs.Words.{is_in_force}
-use Rattle.outer_tokens.specs.declared.token.Token.{Token}
-use Rattle.doc_blobs.specs.Needs.{AliasList, source_tokens}
+use Rattle.outer_syntax.specs.ProperTokens.{proper_from}
+use Rattle.outer_syntax.specs.Words.{is_in_force}
+use Rattle.outer_syntax.specs.declared.token.Token.{Token}
+use Rattle.doc_nodes.specs.Needs.{AliasList, source_tokens}
 use Rattle.isar_rules.specs.declared.shape.Shape.{Shape}
 use Rattle.isar_rules.specs.declared.state.State.{State}
 use Rattle.isar_rules.specs.Effects.{Effect}

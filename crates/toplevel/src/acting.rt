@@ -4,12 +4,12 @@ ghost use Rattle.std.specs.Option.{option_copied};
 ghost use Rattle.isar_rules.specs.declared.state.Place.TheVariants as place;
 ghost use Rattle.isar_rules.specs.Errors.{not_allowed};
 ghost use Rattle.isar_rules.specs.Steps.{acted, tried};
-ghost use Rattle.command_reports.specs.Tries.{Tries, Refuses};
+ghost use Rattle.command_steps.specs.Tries.{Tries, Refuses};
 
-use command_reports::{Halt, refusal};
+use command_steps::{
+    Effect, Halt, Lemma, axiom_made, begun, lemma_made, load_made, makes, proof_made, refusal,
+};
 use isar_rules::{Place, Shape, Theory};
-use proof_steps::theory_steps_below::{Effect, axiom_made, begun, lemma_made, load_made, makes};
-use proof_steps::{Lemma, proof_made};
 use sqlite_items::Items;
 use std::alloc::Global;
 

@@ -2,7 +2,7 @@
 ghost use Rattle.std.specs.Prelude.{◌≡◌, ◌++◌, IfOk, OnOk, map, codes, string_bytes};
 ghost use Rattle.isar_rules.specs.Shown.{place_text, suggested_at, suggestion, print};
 
-use command_reports::{state_report, state_text, suggest_report};
+use command_steps::{state_report, state_text, suggest_report};
 use doc_nodes::Aliases;
 use isar_rules::{Place, State};
 use nj_formula::Name;

@@ -1,7 +1,7 @@
 //! What a command makes of the state before it.
 ghost use Rattle.std.specs.Prelude.{◌≡◌, IfOk};
 ghost use Rattle.std.specs.Option.{option_copied};
-ghost use Rattle.doc_blobs.specs.Needs.{source_tokens};
+ghost use Rattle.doc_nodes.specs.Needs.{source_tokens};
 ghost use Rattle.isar_rules.specs.Steps.{made_effect, step, step_on, tried};
 
 use crate::acting::tried;
@@ -11,7 +11,7 @@ use command_shapes::{begins_by, shape_of};
 use doc_nodes::Aliases;
 use isar_rules::{Shape, State};
 use language::Made;
-use outer_tokens::{Token, next_proper, proper_after};
+use outer_syntax::{Token, next_proper, proper_after};
 use std::alloc::{AllocError, Global};
 
 /// What a command of these tokens and this shape makes.

@@ -1,11 +1,11 @@
 //! The proper tokens of a command's source.
 ghost use Rattle.std.specs.Prelude.{◌≡◌, [], IfOk};
-ghost use Rattle.doc_blobs.specs.Needs.{source_tokens};
+ghost use Rattle.doc_nodes.specs.Needs.{source_tokens};
 ghost use Rattle.isar_rules.specs.Steps.{aliases_at};
 
 use doc_nodes::Aliases;
 use isar_rules::Place;
-use outer_tokens::{Token, proper_under};
+use outer_syntax::{Token, proper_under};
 use std::alloc::{AllocError, Global};
 
 /// The aliases in force at the place: none at the beginning of a node.

@@ -1,6 +1,6 @@
 -- What an update may leave alone, by a table of executions (this project's own).
 use Rattle.std.specs.Prelude.{◌≡◌, ℕ, Bool, true, not, ◌&&◌, List, slice_get, Option, Some, None}
-use Rattle.import_rounds.specs.Looks.{marked}
+use Rattle.doc_nodes.specs.Looks.{marked}
 use Rattle.doc_nodes.specs.declared.node.Node.{Node}
 use Rattle.doc_nodes.specs.Imports.{NodeList}
 use Rattle.core_tables.specs.Rows.{Row as TableRow}

@@ -5,7 +5,7 @@ use Rattle.pide_base.specs.declared.part.PartKind.{PartKind}
 use Rattle.pide_base.specs.declared.part.PartKind.TheVariants as kind
 use Rattle.core_tables.specs.Rows.{Row, execution_of}
 use Rattle.core_tables.specs.Progress.{result_of}
-use Rattle.task_queue.specs.declared.task.Task.{Task}
+use Rattle.core_tables.specs.declared.task.Task.{Task}
 use Rattle.text_words.specs.Members.{has}
 use Rattle.exec_rules.specs.declared.home.Home.{Home}
 use Rattle.exec_rules.specs.declared.home.Input.{Input}

@@ -6,14 +6,13 @@ ghost use Rattle.update_plans.specs.Begun.{first_kind, IsBegun, AreBegun, IsFirs
 
 use crate::known::Known;
 use crate::sources::unfinished;
-use core_tables::Execs;
+use core_tables::{Execs, Priority, Task};
 use doc_nodes::Shared;
 use exec_rules::{Home, Input};
 use joined_results::each_of_three;
 use pide_base::{ExecId, Flag, Part, PartKind};
 use sqlite_items::Items;
 use std::alloc::{AllocError, Global};
-use task_queue::{Priority, Task};
 
 /// A new execution: what is known of it, and the task of its first part.
 #[derive(Drop)]

@@ -2,7 +2,7 @@
 ghost use Rattle.std.specs.Prelude.{◌≡◌, slice_get};
 ghost use Rattle.std.specs.Option.{option_copied};
 ghost use Rattle.shared_map.specs.Pairs.{IsSorted};
-ghost use Rattle.import_rounds.specs.Looks.{marked};
+ghost use Rattle.doc_nodes.specs.Looks.{marked};
 ghost use Rattle.doc_nodes.specs.Names.{in_order};
 ghost use Rattle.exec_rules.specs.Assigning.{assigned_in, rows_in};
 ghost use Rattle.update_plans.specs.Beside.{is_marked};

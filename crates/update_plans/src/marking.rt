@@ -1,7 +1,7 @@
 //! Nodes that an update leaves alone.
 ghost use Rattle.std.specs.Prelude.{◌≡◌, ◌&&◌, ℕ, List, true, slice_get, Some, IfOk};
 ghost use Rattle.std.specs.List.{list_all};
-ghost use Rattle.import_rounds.specs.Looks.{marked};
+ghost use Rattle.doc_nodes.specs.Looks.{marked};
 ghost use Rattle.doc_nodes.specs.declared.node.Node.{Node};
 ghost use Rattle.exec_rules.specs.Assigning.{rows_in};
 ghost use Rattle.exec_rules.specs.Kept.{BlobList};

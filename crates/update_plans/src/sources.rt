@@ -4,11 +4,10 @@ ghost use Rattle.text_words.specs.Members.{has};
 ghost use Rattle.core_rules.specs.Parts.{last_evaluation, lasts_of, sources_of};
 ghost use Rattle.update_plans.specs.Begun.{is_evaluated, AddsUnfinished};
 
-use core_tables::Execs;
+use core_tables::{Execs, Inputs};
 use exec_rules::{Input, Key, Last};
 use pide_base::{ExecId, PartKind};
 use std::alloc::{AllocError, Global};
-use task_queue::Inputs;
 
 /// The evaluations that something is taken up from and that are not finished by the table: one that
 /// the table has not is not.

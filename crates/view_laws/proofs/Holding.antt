@@ -12,7 +12,7 @@ use Rattle.reply_outbox.specs.declared.item.Item.TheVariants as item
 use Rattle.session_rules.specs.declared.entry.Entry.TheVariants as entry
 use Rattle.session_rules.specs.declared.service.Service.{Service}
 use Rattle.session_rules.specs.Services.{mode_of}
-use Rattle.session_laws.proofs.KnownHolding.{message_same}
+use Rattle.session_rules.proofs.KnownHolding.{message_same}
 use Rattle.keeping_rules.specs.Items.{SessionItem, session_in}
 use Rattle.view_laws.specs.Callers.{service_of, whose}
 use Rattle.view_laws.specs.Histories.{session_after}

@@ -9,7 +9,7 @@ use Rattle.reply_outbox.specs.declared.item.Item.TheVariants as item
 use Rattle.reply_outbox.specs.Items.{entries}
 use Rattle.session_rules.specs.declared.entry.Entry.{Entry}
 use Rattle.session_rules.specs.declared.entry.Entry.TheVariants as entry
-use Rattle.session_laws.specs.Runs.{called}
+use Rattle.session_rules.specs.Runs.{called}
 use Rattle.keeping_rules.specs.Items.{SessionItem}
 use Rattle.view_laws.specs.Callers.{maker, whose}
 use Rattle.view_laws.specs.Histories.{history}

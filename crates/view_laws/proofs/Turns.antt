@@ -15,8 +15,8 @@ use Rattle.session_rules.specs.Legal.{IsTurn}
 use Rattle.session_rules.specs.Session.{Session}
 use Rattle.session_rules.specs.Steps.{Due, Nothing, Claims, Finishes, due, due_of}
 use Rattle.session_rules.proofs.KnownScript.{script_claims, script_finishes}
-use Rattle.session_laws.proofs.KnownHolding.{message_same}
-use Rattle.session_laws.proofs.KnownNamed.{AskedLaw, claims_asked, finishes_asked}
+use Rattle.session_rules.proofs.KnownHolding.{message_same}
+use Rattle.session_rules.proofs.KnownNamed.{AskedLaw, claims_asked, finishes_asked}
 use Rattle.keeping_rules.specs.Items.{SessionItem, heard_in, session_in}
 use Rattle.keeping_rules.specs.Legal.{AreLegal, MayStand}
 use Rattle.hist_lock.specs.Entries.{own}

@@ -28,7 +28,7 @@ use Rattle.session_rules.specs.Looking.{looked_at, settles}
 use Rattle.session_rules.specs.Updating.{removed_by, runs_out, with_buffer}
 use Rattle.session_rules.specs.Accepting.{accepted, taken}
 use Rattle.session_rules.specs.History.{session}
-use Rattle.session_laws.proofs.KnownHolding.{not_caught, passed, through}
+use Rattle.session_rules.proofs.KnownHolding.{not_caught, passed, through}
 use Rattle.reply_outbox.specs.declared.item.Item.TheVariants as item
 use Rattle.keeping_rules.specs.Items.{SessionItem, heard_in, session_in}
 

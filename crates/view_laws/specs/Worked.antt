@@ -4,7 +4,7 @@ use Rattle.hist_lock.specs.Entries.{own}
 use Rattle.worker_loop.specs.Held.{held_in}
 use Rattle.message_values.specs.declared.refusal.Refusal.TheVariants.{UnknownFunction}
 use Rattle.reply_outbox.specs.declared.item.Item.TheVariants.{Opened, Made, Sent, Lost}
-use Rattle.reply_writing.specs.declared.told.Told.TheVariants as tells
+use Rattle.reply_messages.specs.declared.told.Told.TheVariants as tells
 use Rattle.core_rules.specs.Small.{small, eval}
 use Rattle.session_rules.specs.declared.entry.Entry.TheVariants.{Call, Claimed, Finished, Ended}
 use Rattle.session_rules.specs.declared.service.Service.TheVariants.{Workers}

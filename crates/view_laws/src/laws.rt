@@ -9,7 +9,7 @@ ghost use Rattle.reply_outbox.specs.declared.item.Item.TheVariants as item;
 ghost use Rattle.session_rules.specs.declared.entry.Entry.TheVariants as entry;
 ghost use Rattle.session_rules.specs.declared.service.Service.TheVariants.{Workers};
 ghost use Rattle.session_rules.specs.Steps.{Nothing, due};
-ghost use Rattle.session_laws.specs.Runs.{called};
+ghost use Rattle.session_rules.specs.Runs.{called};
 ghost use Rattle.keeping_rules.specs.Items.{SessionItem, heard_in};
 ghost use Rattle.keeping_rules.specs.Legal.{AreLegal};
 ghost use Rattle.view_laws.specs.Callers.{maker, whose, worker_count};

@@ -4,10 +4,10 @@ use Rattle.std.specs.Prelude.{ℤ, pos, negsuc}
 use Rattle.std.specs.Fmt.{signed_decimal}
 use Rattle.std.specs.List.{AllByRecursion}
 use Rattle.std.proofs.lemmas.Int.{ints}
-use Rattle.xml_tree.specs.declared.tree.Tree.{Tree}
-use Rattle.xml_tree.specs.Marks.{marks, tree_marks}
-use Rattle.xml_tree.specs.Normal.{IsPlain, IsFilled, IsAttribute, IsNormal, height, tree_height, most_nested}
-use Rattle.xml_tree.proofs.KnownMarks.{tree_height-Elem}
+use Rattle.yxml.specs.declared.tree.Tree.{Tree}
+use Rattle.yxml.specs.Marks.{marks, tree_marks}
+use Rattle.yxml.specs.Normal.{IsPlain, IsFilled, IsAttribute, IsNormal, height, tree_height, most_nested}
+use Rattle.yxml.proofs.KnownMarks.{tree_height-Elem}
 use Rattle.xml_codec.specs.Data.{IsShort, node, int_body, bool_body, string_body, pair_body, list_body, option_body, numbered_from, variant_body}
 use Rattle.xml_codec.specs.Nested.{IsNestable}
 use Rattle.xml_codec.proofs.Graphic.{graphic-decimal, filled-graphic}

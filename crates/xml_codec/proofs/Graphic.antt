@@ -3,7 +3,7 @@ use Rattle.std.proofs.Common.{◌≡◌, ◌≢◌, ℕ, ◌<◌, ◌+◌, ◌^�
 use Rattle.std.specs.Bool.{◌==◌}
 use Rattle.std.proofs.lemmas.Bool.{ne_eqb}
 use Rattle.std.proofs.lemmas.Fmt.{decimal_by_steps}
-use Rattle.xml_tree.specs.Normal.{Lacks, IsFilled}
+use Rattle.yxml.specs.Normal.{Lacks, IsFilled}
 use Rattle.text_words.proofs.KnownLists.{each-both}
 
 -- digits, a sign and the like

@@ -1,6 +1,6 @@
 -- A body whose children are read from the last.
 use Rattle.std.proofs.Common.{◌≡◌, ◌≢◌, ℕ, ◌+◌, List, [], ◌∷◌, ◌++◌, length, Option, Some, None, sym, ap, ◌∙◌, append_assoc, reverse, arith}
-use Rattle.xml_tree.specs.declared.tree.Tree.{Tree}
+use Rattle.yxml.specs.declared.tree.Tree.{Tree}
 use Rattle.xml_codec.specs.Data.{node, list_body}
 
 -- what stands behind the nodes that are read: nothing, or the child at this place, which is no node

@@ -1,7 +1,7 @@
 -- Attributes that are numbered from 0.
 use Rattle.std.proofs.Common.{◌≡◌, ◌≢◌, ℕ, ◌+◌, List, [], ◌∷◌, ◌++◌, length, sym, ap, ◌∙◌, append_assoc, reverse, arith, decimal}
 use Rattle.std.proofs.lemmas.List.{reverse-append}
-use Rattle.xml_tree.specs.declared.tree.Attribute.{Attribute}
+use Rattle.yxml.specs.declared.tree.Attribute.{Attribute}
 use Rattle.xml_codec.specs.Data.{numbered_from}
 
 numbered-append : (n : ℕ) (xs : List (List ℕ)) (y : List ℕ) → numbered_from n (xs ++ y ∷ []) ≡ numbered_from n xs ++ record { key = decimal (n + length xs); value = y } ∷ []

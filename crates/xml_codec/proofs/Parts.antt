@@ -2,12 +2,12 @@
 use Rattle.std.proofs.Common.{◌≡◌, ℕ, ◌≤◌, List, [], ◌∷◌, ◌++◌, sym, ap, subst, append_assoc, arith}
 use Rattle.std.specs.List.{AllByRecursion}
 use Rattle.std.proofs.lemmas.List.{append-nil}
-use Rattle.xml_tree.specs.declared.tree.Attribute.{Attribute}
-use Rattle.xml_tree.specs.declared.tree.Tree.{Tree}
-use Rattle.xml_tree.specs.declared.tree.Tree.TheVariants.{Elem, Text}
-use Rattle.xml_tree.specs.Marks.{Mark, opening, closing, words, marks, tree_marks}
-use Rattle.xml_tree.specs.Normal.{IsFilled, IsAttribute, IsFit, IsApart, AreApart, IsNormal, height, most_nested}
-use Rattle.xml_tree.proofs.KnownMarks.{tree_marks-Elem, tree_marks-Text, tree_height-Text}
+use Rattle.yxml.specs.declared.tree.Attribute.{Attribute}
+use Rattle.yxml.specs.declared.tree.Tree.{Tree}
+use Rattle.yxml.specs.declared.tree.Tree.TheVariants.{Elem, Text}
+use Rattle.yxml.specs.Marks.{Mark, opening, closing, words, marks, tree_marks}
+use Rattle.yxml.specs.Normal.{IsFilled, IsAttribute, IsFit, IsApart, AreApart, IsNormal, height, most_nested}
+use Rattle.yxml.proofs.KnownMarks.{tree_marks-Elem, tree_marks-Text, tree_height-Text}
 use Rattle.text_words.proofs.KnownLists.{each-both}
 
 -- marks that are fit, and of which no text touches what follows

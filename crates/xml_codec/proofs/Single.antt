@@ -3,12 +3,12 @@ use Rattle.std.proofs.Common.{◌≡◌, ◌≢◌, ℕ, ◌<◌, ◌+◌, ◌^�
 use Rattle.std.specs.Prelude.{ℤ}
 use Rattle.std.proofs.lemmas.Fmt.{signed_decimal_injective, decimal_injective}
 use Rattle.std.proofs.lemmas.List.{length-map, append_cancel_right}
-use Rattle.xml_tree.specs.declared.tree.Attribute.{Attribute}
-use Rattle.xml_tree.specs.declared.tree.Tree.{Tree}
-use Rattle.xml_tree.specs.declared.tree.Tree.TheVariants.{Elem, Text}
-use Rattle.xml_tree.specs.Marks.{opening, closing, marks, tree_marks}
-use Rattle.xml_tree.proofs.KnownMarks.{tree_marks-Elem}
-use Rattle.xml_tree.proofs.KnownRebuilt.{same_from_marks}
+use Rattle.yxml.specs.declared.tree.Attribute.{Attribute}
+use Rattle.yxml.specs.declared.tree.Tree.{Tree}
+use Rattle.yxml.specs.declared.tree.Tree.TheVariants.{Elem, Text}
+use Rattle.yxml.specs.Marks.{opening, closing, marks, tree_marks}
+use Rattle.yxml.proofs.KnownMarks.{tree_marks-Elem}
+use Rattle.yxml.proofs.KnownRebuilt.{same_from_marks}
 use Rattle.xml_codec.specs.declared.fault.DataFault.{DataFault}
 use Rattle.xml_codec.specs.declared.fault.DataFault.TheVariants.{Wrong, NoMemory}
 use Rattle.xml_codec.specs.Data.{IsShort, node, int_body, pair_body, list_body, option_body, numbered_from, variant_body}

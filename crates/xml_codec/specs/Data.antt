@@ -1,9 +1,9 @@
 -- The body of a value, by the value's shape (after Isabelle's `XML.Encode`).
 use Rattle.std.specs.Prelude.{ℕ, ℤ, pos, negsuc, ◌<ℤ◌, ◌+◌, ◌-◌, Bool, true, false, List, [], ◌∷◌, map, decimal, Option, Some, None}
 use Rattle.std.specs.Fmt.{signed_decimal}
-use Rattle.xml_tree.specs.declared.tree.Attribute.{Attribute}
-use Rattle.xml_tree.specs.declared.tree.Tree.{Tree}
-use Rattle.xml_tree.specs.declared.tree.Tree.TheVariants.{Elem, Text}
+use Rattle.yxml.specs.declared.tree.Attribute.{Attribute}
+use Rattle.yxml.specs.declared.tree.Tree.{Tree}
+use Rattle.yxml.specs.declared.tree.Tree.TheVariants.{Elem, Text}
 
 -- the smallest number of 19 digits
 abbrev pub int_end : ℕ

@@ -1,6 +1,6 @@
 -- Where a body fails to encode a value.
 use Rattle.std.specs.Prelude.{◌≡◌, ◌≢◌, ℕ, Bool, true, nat_lt, ◌==◌, List, [], ◌∷◌, ◌++◌, length, MatchBool}
-use Rattle.xml_tree.specs.declared.tree.Tree.{Tree}
+use Rattle.yxml.specs.declared.tree.Tree.{Tree}
 use Rattle.xml_codec.specs.declared.fault.DataFault.{DataFault}
 use Rattle.xml_codec.specs.declared.fault.DataFault.TheVariants.{Wrong, NoMemory}
 use Rattle.xml_codec.specs.Data.{node, list_body}

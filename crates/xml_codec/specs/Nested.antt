@@ -1,7 +1,7 @@
 -- Bodies that may stand in an element.
 use Rattle.std.specs.Prelude.{◌<◌, List}
-use Rattle.xml_tree.specs.declared.tree.Tree.{Tree}
-use Rattle.xml_tree.specs.Normal.{IsNormal, height, most_nested}
+use Rattle.yxml.specs.declared.tree.Tree.{Tree}
+use Rattle.yxml.specs.Normal.{IsNormal, height, most_nested}
 
 -- a normal body that leaves room for one more element around it
 pub record IsNestable (body : List Tree) : Type 0 where

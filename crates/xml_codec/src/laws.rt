@@ -1,8 +1,8 @@
 //! Laws over the definitions, as contracts of functions that do nothing.
 ghost use Rattle.std.specs.Prelude.{◌≡◌, ◌≢◌, ◌<◌, ◌≤◌, ◌+◌, ◌^◌, max, length, ℕ, ℤ, Bool, List, Option, Some};
 ghost use Rattle.std.specs.List.{AllByRecursion};
-ghost use Rattle.xml_tree.specs.declared.tree.Tree.{Tree};
-ghost use Rattle.xml_tree.specs.Normal.{IsNormal, IsPlain, height};
+ghost use Rattle.yxml.specs.declared.tree.Tree.{Tree};
+ghost use Rattle.yxml.specs.Normal.{IsNormal, IsPlain, height};
 ghost use Rattle.xml_codec.specs.declared.fault.DataFault.{DataFault};
 ghost use Rattle.xml_codec.specs.Data.{IsShort, int_body, bool_body, string_body, pair_body, list_body, option_body, variant_body};
 ghost use Rattle.xml_codec.specs.Faults.{IsNodesFault, any_number, two, at_most_one};

@@ -1,5 +1,5 @@
 ghost use Rattle.std.specs.Prelude.{◌≡◌, ◌≢◌, ◌∷◌, [], ℤ, Bool, List, ℕ, IfOk, IfErr, IfSome, IfNone, string_bytes};
-ghost use Rattle.xml_tree.specs.Normal.{IsNormal, IsPlain};
+ghost use Rattle.yxml.specs.Normal.{IsNormal, IsPlain};
 ghost use Rattle.xml_codec.specs.Data.{IsShort, int_body, bool_body, string_body};
 ghost use Rattle.xml_codec.specs.Faults.{IsHere};
 
@@ -9,7 +9,7 @@ use crate::number::int_of;
 use itoa::Buffer;
 use sqlite_items::Items;
 use std::alloc::{AllocError, Global};
-use xml_tree::{Body, Tree, XmlString};
+use yxml::{Body, Tree, XmlString};
 
 /// The body of an integer of at most 18 digits: its decimal text.
 pub fn put_int(alloc: Global, number: i64) -> Result<Body, AllocError>

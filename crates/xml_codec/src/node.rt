@@ -1,5 +1,5 @@
 ghost use Rattle.std.specs.Prelude.{◌≡◌, ◌≢◌, ◌∷◌, [], List, Option, IfOk, IfErr, MatchOption};
-ghost use Rattle.xml_tree.specs.declared.tree.Tree.{Tree};
+ghost use Rattle.yxml.specs.declared.tree.Tree.{Tree};
 ghost use Rattle.xml_codec.specs.Data.{node, pair_body, list_body, option_body};
 ghost use Rattle.xml_codec.specs.Faults.{IsNodesFault, any_number, two, at_most_one};
 
@@ -7,7 +7,7 @@ use crate::fault::DataFault;
 use joined_results::both;
 use sqlite_items::Items;
 use std::alloc::{AllocError, Global};
-use xml_tree::{Body, Tree, XmlName};
+use yxml::{Body, Tree, XmlName};
 
 /// The body of one tree.
 pub(crate) fn one_tree(alloc: Global, tree: Tree) -> Result<Body, AllocError>

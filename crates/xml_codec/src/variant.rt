@@ -1,5 +1,5 @@
 ghost use Rattle.std.specs.Prelude.{◌≡◌, ◌≢◌, ◌<◌, ◌^◌, ◌==◌, ◌↔◌, ◌∷◌, [], ℕ, List, IsTrue, IfOk, IfErr, IfSome, IfNone, MatchOption, decimal};
-ghost use Rattle.xml_tree.specs.declared.tree.Tree.{Tree};
+ghost use Rattle.yxml.specs.declared.tree.Tree.{Tree};
 ghost use Rattle.xml_codec.specs.Data.{numbered_from, variant_body};
 ghost use Rattle.xml_codec.specs.Faults.{IsVariantFault};
 
@@ -10,7 +10,7 @@ use itoa::Buffer;
 use joined_results::both;
 use sqlite_items::Items;
 use std::alloc::{AllocError, Global};
-use xml_tree::{Attribute, Body, Tree, XmlName, XmlString};
+use yxml::{Attribute, Body, Tree, XmlName, XmlString};
 
 /// The body of a variant: one element named by its number, with the values as attributes numbered
 /// from 0, around the body of its argument.

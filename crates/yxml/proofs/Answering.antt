@@ -3,11 +3,11 @@ use Rattle.std.proofs.Common.{◌≡◌, ℕ, ◌+◌, ◌-◌, List, [], ◌∷
 use Rattle.std.specs.Bool.{if◌then◌else◌, ◌==◌}
 use Rattle.std.specs.List.{slice_split}
 use Rattle.std.proofs.lemmas.Bool.{eqb-true}
-use Rattle.xml_tree.specs.declared.tree.Tree.{Tree}
-use Rattle.xml_tree.specs.Bodies.{body_of}
-use Rattle.xml_tree.specs.Marks.{Mark, opening, closing, words, open_after}
-use Rattle.xml_tree.proofs.KnownBuilding.{balanced-marks}
-use Rattle.xml_tree.proofs.KnownNesting.{within-closes}
+use Rattle.yxml.specs.declared.tree.Tree.{Tree}
+use Rattle.yxml.specs.Bodies.{body_of}
+use Rattle.yxml.specs.Marks.{Mark, opening, closing, words, open_after}
+use Rattle.yxml.proofs.KnownBuilding.{balanced-marks}
+use Rattle.yxml.proofs.KnownNesting.{within-closes}
 use Rattle.yxml.specs.declared.fault.YxmlFault.{YxmlFault}
 use Rattle.yxml.specs.declared.fault.YxmlFault.TheVariants.{Unbalanced}
 use Rattle.yxml.specs.Answer.{answer_by, body_in}

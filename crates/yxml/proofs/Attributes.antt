@@ -1,7 +1,7 @@
 -- The attributes of a tag, some of which are read.
 use Rattle.std.proofs.Common.{◌≡◌, ℕ, List, [], ◌∷◌, ◌++◌, Option, Some, None, refl, sym, append_assoc, ap, ◌∙◌}
 use Rattle.std.specs.List.{slice_split}
-use Rattle.xml_tree.specs.declared.tree.Attribute.{Attribute}
+use Rattle.yxml.specs.declared.tree.Attribute.{Attribute}
 use Rattle.yxml.specs.Cut.{IsCut}
 use Rattle.yxml.specs.Reading.{with_attribute, attribute_of, attributes_of, is_y}
 

@@ -3,10 +3,10 @@ use Rattle.std.proofs.Common.{◌≡◌, ◌≢◌, ℕ, ◌+◌, List, [], ◌�
 use Rattle.std.specs.List.{flat_map}
 use Rattle.std.proofs.Math.ListN.{length-append}
 use Rattle.std.proofs.lemmas.List.{append-nil}
-use Rattle.xml_tree.specs.declared.tree.Tree.{Tree}
-use Rattle.xml_tree.specs.declared.tree.Tree.TheVariants.{Elem, Text}
-use Rattle.xml_tree.specs.Marks.{Mark, opening, closing, words, marks, open_after}
-use Rattle.xml_tree.proofs.KnownMarks.{marks-append, tree_marks-Text, tree_marks-Elem}
+use Rattle.yxml.specs.declared.tree.Tree.{Tree}
+use Rattle.yxml.specs.declared.tree.Tree.TheVariants.{Elem, Text}
+use Rattle.yxml.specs.Marks.{Mark, opening, closing, words, marks, open_after}
+use Rattle.yxml.proofs.KnownMarks.{marks-append, tree_marks-Text, tree_marks-Elem}
 use Rattle.yxml.specs.declared.builder.Frame.{Frame}
 use Rattle.yxml.specs.declared.builder.Builder.{Builder}
 use Rattle.yxml.specs.Spelling.{merged_texts}

@@ -3,10 +3,10 @@ use Rattle.std.proofs.Common.{◌≡◌, ◌≢◌, ℕ, ◌<◌, ◌+◌, List,
 use Rattle.std.specs.Bool.{if◌then◌else◌, ◌==◌}
 use Rattle.std.specs.List.{slice_split}
 use Rattle.std.proofs.lemmas.Bool.{ltb-true, eqb-false}
-use Rattle.xml_tree.specs.Marks.{Mark, opening, closing, words, open_after}
-use Rattle.xml_tree.specs.declared.tree.Attribute.{Attribute}
-use Rattle.xml_tree.specs.Normal.{most_nested}
-use Rattle.xml_tree.proofs.KnownNesting.{IsWithin}
+use Rattle.yxml.specs.Marks.{Mark, opening, closing, words, open_after}
+use Rattle.yxml.specs.declared.tree.Attribute.{Attribute}
+use Rattle.yxml.specs.Normal.{most_nested}
+use Rattle.yxml.proofs.KnownNesting.{IsWithin}
 use Rattle.yxml.specs.declared.fault.YxmlFault.{YxmlFault}
 use Rattle.yxml.specs.declared.fault.YxmlFault.TheVariants.{TooDeep, Unbalanced}
 use Rattle.yxml.specs.Reading.{said, tag_said, start_said, attributes_of, nesting_fault, or_later, marks_said, marks_from, first_fault, is_y}

@@ -6,8 +6,8 @@ use Rattle.std.proofs.Math.ListN.{length-take}
 use Rattle.std.proofs.lemmas.List.Splits.{slice_split_first}
 use Rattle.std.proofs.lemmas.List.Sums.{split_at_first}
 use Rattle.std.proofs.lemmas.Bool.{ltb-true}
-use Rattle.xml_tree.specs.declared.tree.Attribute.{Attribute}
-use Rattle.xml_tree.specs.Normal.{Lacks, IsPlain, IsFilled, IsAttribute, IsFit}
+use Rattle.yxml.specs.declared.tree.Attribute.{Attribute}
+use Rattle.yxml.specs.Normal.{Lacks, IsPlain, IsFilled, IsAttribute, IsFit}
 use Rattle.yxml.specs.Reading.{said, tag_said, start_said, attribute_of, attributes_of, with_attribute, marks_said, marks_from, marks_in, is_x, is_y, is_equals}
 use Rattle.text_words.proofs.KnownLists.{each-both, each-part, each-so}
 use Rattle.yxml.proofs.Pieces.{IsPiece, each-piece, all-true}

@@ -1,9 +1,9 @@
 -- What joining texts keeps, and what it gives.
 use Rattle.std.proofs.Common.{◌≢◌, ℕ, ◌+◌, ◌-◌, List, [], ◌∷◌, ◌++◌, refl}
 use Rattle.std.specs.List.{AllByRecursion}
-use Rattle.xml_tree.specs.Marks.{Mark, opening, closing, words}
-use Rattle.xml_tree.specs.Normal.{IsFit, IsApart, AreApart}
-use Rattle.xml_tree.proofs.KnownNesting.{IsWithin}
+use Rattle.yxml.specs.Marks.{Mark, opening, closing, words}
+use Rattle.yxml.specs.Normal.{IsFit, IsApart, AreApart}
+use Rattle.yxml.proofs.KnownNesting.{IsWithin}
 use Rattle.yxml.specs.Spelling.{onto, merged_texts}
 use Rattle.text_words.proofs.KnownLists.{each-both}
 

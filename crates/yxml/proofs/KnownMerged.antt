@@ -1,7 +1,7 @@
 -- Marks whose texts are merged.
 use Rattle.std.proofs.Common.{◌≡◌, ℕ, List, [], ◌∷◌, ◌++◌, refl, sym, ap, append_assoc, ◌+◌, ◌-◌, ◌∙◌}
 use Rattle.yxml.specs.Spelling.{onto, merged_texts}
-use Rattle.xml_tree.specs.Marks.{Mark, opening, closing, words, open_after}
+use Rattle.yxml.specs.Marks.{Mark, opening, closing, words, open_after}
 
 -- two texts are put before marks as their join is
 pub onto_onto : (s t : List ℕ) (ms : List Mark) → onto (words s) (onto (words t) ms) ≡ onto (words (s ++ t)) ms

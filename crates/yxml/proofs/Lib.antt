@@ -1,3 +1,7 @@
+pub mod KnownMarks
+pub mod KnownNesting
+pub mod KnownRebuilt
+pub mod KnownBuilding
 pub mod KnownPieces
 pub mod KnownMerged
 mod Answering

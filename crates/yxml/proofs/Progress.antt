@@ -4,8 +4,8 @@ use Rattle.std.specs.List.{slice_split}
 use Rattle.std.specs.Bool.{if◌then◌else◌}
 use Rattle.std.proofs.lemmas.Bool.{ne_eqb}
 use Rattle.std.proofs.lemmas.List.{append-nil}
-use Rattle.xml_tree.specs.declared.tree.Tree.{Tree}
-use Rattle.xml_tree.specs.Marks.{marks, open_after}
+use Rattle.yxml.specs.declared.tree.Tree.{Tree}
+use Rattle.yxml.specs.Marks.{marks, open_after}
 use Rattle.yxml.specs.declared.builder.Builder.{Builder}
 use Rattle.yxml.specs.declared.fault.YxmlFault.{YxmlFault}
 use Rattle.yxml.specs.declared.fault.YxmlFault.TheVariants.{Unbalanced}

@@ -1,6 +1,6 @@
 -- Texts that are merged, and marks whose texts join nothing behind them.
 use Rattle.std.proofs.Common.{◌≡◌, ℕ, List, [], ◌∷◌, ◌++◌, refl, sym, ap, ◌∙◌, append_assoc}
-use Rattle.xml_tree.specs.Marks.{Mark, opening, closing, words}
+use Rattle.yxml.specs.Marks.{Mark, opening, closing, words}
 use Rattle.yxml.specs.Spelling.{onto, merged_texts}
 use Rattle.yxml.specs.Builder.{IsSettled, text_marks}
 use Rattle.yxml.proofs.KnownMerged.{onto_onto}

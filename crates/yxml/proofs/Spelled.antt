@@ -2,11 +2,11 @@
 use Rattle.std.proofs.Common.{◌≡◌, ◌≢◌, ℕ, ◌+◌, ◌≤◌, List, [], length, Option, Some, None, Result, Ok, Err, IfOk, IfErr, refl, sym, subst, ◌∙◌, arith}
 use Rattle.std.specs.List.{AllByRecursion, slice_split}
 use Rattle.std.proofs.lemmas.List.{append-nil}
-use Rattle.xml_tree.specs.declared.tree.Tree.{Tree}
-use Rattle.xml_tree.specs.Marks.{marks}
-use Rattle.xml_tree.specs.Normal.{IsNormal, IsFit, AreApart, height, most_nested}
-use Rattle.xml_tree.proofs.KnownNesting.{IsWithin, Nests-trees}
-use Rattle.xml_tree.proofs.KnownRebuilt.{same_from_marks}
+use Rattle.yxml.specs.declared.tree.Tree.{Tree}
+use Rattle.yxml.specs.Marks.{marks}
+use Rattle.yxml.specs.Normal.{IsNormal, IsFit, AreApart, height, most_nested}
+use Rattle.yxml.proofs.KnownNesting.{IsWithin, Nests-trees}
+use Rattle.yxml.proofs.KnownRebuilt.{same_from_marks}
 use Rattle.yxml.specs.declared.fault.YxmlFault.{YxmlFault}
 use Rattle.yxml.specs.declared.fault.YxmlFault.TheVariants.{Unbalanced, BadTag, BadAttribute, BadText, TooDeep, NoMemory}
 use Rattle.yxml.specs.Reading.{fault_in, marks_in, is_x}

@@ -7,9 +7,9 @@ use Rattle.std.proofs.Math.Seq.{take-append_seam, drop-append-add}
 use Rattle.std.proofs.lemmas.Bool.{lt-ltb}
 use Rattle.std.proofs.lemmas.List.{append-nil}
 use Rattle.std.proofs.lemmas.List.Splits.{slice_split-cons_no}
-use Rattle.xml_tree.specs.declared.tree.Attribute.{Attribute}
-use Rattle.xml_tree.specs.Marks.{opening, words}
-use Rattle.xml_tree.specs.Normal.{Lacks, IsFilled, IsAttribute}
+use Rattle.yxml.specs.declared.tree.Attribute.{Attribute}
+use Rattle.yxml.specs.Marks.{opening, words}
+use Rattle.yxml.specs.Normal.{Lacks, IsFilled, IsAttribute}
 use Rattle.yxml.specs.Reading.{said, start_said, attribute_of, attributes_of, with_attribute, is_y, is_equals}
 use Rattle.yxml.specs.Spelling.{attribute_spelling}
 use Rattle.text_words.proofs.KnownLists.{each-both}

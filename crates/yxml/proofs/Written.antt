@@ -4,10 +4,10 @@ use Rattle.std.specs.Bool.{if◌then◌else◌, ◌==◌}
 use Rattle.std.specs.List.{AllByRecursion, slice_split}
 use Rattle.std.proofs.lemmas.Bool.{lt-ltb, ne_eqb}
 use Rattle.std.proofs.lemmas.List.{append-nil}
-use Rattle.xml_tree.specs.declared.tree.Tree.{Tree}
-use Rattle.xml_tree.specs.Marks.{Mark, opening, closing, words, marks, open_after}
-use Rattle.xml_tree.specs.Normal.{IsNormal, IsFit, IsApart, AreApart, most_nested}
-use Rattle.xml_tree.proofs.KnownNesting.{IsWithin, Nests-trees}
+use Rattle.yxml.specs.declared.tree.Tree.{Tree}
+use Rattle.yxml.specs.Marks.{Mark, opening, closing, words, marks, open_after}
+use Rattle.yxml.specs.Normal.{IsNormal, IsFit, IsApart, AreApart, most_nested}
+use Rattle.yxml.proofs.KnownNesting.{IsWithin, Nests-trees}
 use Rattle.yxml.specs.declared.fault.YxmlFault.{YxmlFault}
 use Rattle.yxml.specs.declared.fault.YxmlFault.TheVariants.{Unbalanced, TooDeep}
 use Rattle.yxml.specs.Reading.{said, is_x, is_y, nesting_fault, or_later, marks_said, marks_from, first_fault}

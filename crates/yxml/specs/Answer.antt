@@ -1,8 +1,8 @@
 -- What a text spells, as a value.
 use Rattle.std.specs.Prelude.{ℕ, List, Option, Some, None, Result, Ok, Err}
-use Rattle.xml_tree.specs.declared.tree.Tree.{Tree}
-use Rattle.xml_tree.specs.Bodies.{body_of}
-use Rattle.xml_tree.specs.Marks.{Mark}
+use Rattle.yxml.specs.declared.tree.Tree.{Tree}
+use Rattle.yxml.specs.Bodies.{body_of}
+use Rattle.yxml.specs.Marks.{Mark}
 use Rattle.yxml.specs.declared.fault.YxmlFault.{YxmlFault}
 use Rattle.yxml.specs.Reading.{marks_in, fault_in}
 use Rattle.yxml.specs.Spelling.{merged_texts}

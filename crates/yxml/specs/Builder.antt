@@ -1,9 +1,9 @@
 -- What a reader has read, as marks.
 use Rattle.std.specs.Prelude.{◌≡◌, ℕ, List, [], ◌∷◌, ◌++◌, length}
 use Rattle.std.specs.List.{flat_map}
-use Rattle.xml_tree.specs.declared.tree.Tree.{Tree}
-use Rattle.xml_tree.specs.declared.tree.Tree.TheVariants.{Text}
-use Rattle.xml_tree.specs.Marks.{Mark, opening, words, marks, open_after}
+use Rattle.yxml.specs.declared.tree.Tree.{Tree}
+use Rattle.yxml.specs.declared.tree.Tree.TheVariants.{Text}
+use Rattle.yxml.specs.Marks.{Mark, opening, words, marks, open_after}
 use Rattle.yxml.specs.declared.builder.Frame.{Frame}
 use Rattle.yxml.specs.declared.builder.Builder.{Builder}
 use Rattle.yxml.specs.Spelling.{merged_texts}

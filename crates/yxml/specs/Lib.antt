@@ -1,3 +1,7 @@
+pub mod Bodies
+pub mod Marks
+pub mod Names
+pub mod Normal
 pub mod Answer
 pub mod Builder
 pub mod Cut

@@ -1,9 +1,9 @@
 -- What the chunks of a text say: their marks, and the first fault from the left.
 use Rattle.std.specs.Prelude.{ℕ, ◌+◌, ◌==◌, Bool, ◌&&◌, List, [], ◌∷◌, ◌++◌, length, Option, Some, None, Result, Ok, Err, nat_lt, if◌then◌else◌}
 use Rattle.std.specs.List.{slice_split, position_or_len, before_first, after_first}
-use Rattle.xml_tree.specs.declared.tree.Attribute.{Attribute}
-use Rattle.xml_tree.specs.Marks.{Mark, opening, closing, words, open_after}
-use Rattle.xml_tree.specs.Normal.{x_byte, y_byte, equals_sign, most_nested}
+use Rattle.yxml.specs.declared.tree.Attribute.{Attribute}
+use Rattle.yxml.specs.Marks.{Mark, opening, closing, words, open_after}
+use Rattle.yxml.specs.Normal.{x_byte, y_byte, equals_sign, most_nested}
 use Rattle.yxml.specs.declared.fault.YxmlFault.{YxmlFault}
 use Rattle.yxml.specs.declared.fault.YxmlFault.TheVariants.{Unbalanced, BadTag, BadAttribute, BadText, TooDeep}
 

@@ -1,10 +1,10 @@
 -- How a body is written, and which texts spell it.
 use Rattle.std.specs.Prelude.{◌≡◌, ℕ, List, [], ◌∷◌, ◌++◌, None, Result, Ok, Err}
 use Rattle.std.specs.List.{flat_map}
-use Rattle.xml_tree.specs.declared.tree.Attribute.{Attribute}
-use Rattle.xml_tree.specs.declared.tree.Tree.{Tree}
-use Rattle.xml_tree.specs.Marks.{Mark, opening, closing, words, marks}
-use Rattle.xml_tree.specs.Normal.{x_byte, y_byte, equals_sign}
+use Rattle.yxml.specs.declared.tree.Attribute.{Attribute}
+use Rattle.yxml.specs.declared.tree.Tree.{Tree}
+use Rattle.yxml.specs.Marks.{Mark, opening, closing, words, marks}
+use Rattle.yxml.specs.Normal.{x_byte, y_byte, equals_sign}
 use Rattle.yxml.specs.declared.fault.YxmlFault.{YxmlFault}
 use Rattle.yxml.specs.declared.fault.YxmlFault.TheVariants.{NoMemory}
 use Rattle.yxml.specs.Reading.{marks_in, fault_in}

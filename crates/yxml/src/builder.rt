@@ -1,9 +1,11 @@
 ghost use Rattle.std.specs.Prelude.{◌≡◌, ◌≢◌, ◌+◌, ◌∷◌, [], ◌++◌, length, IfOk, OnOk};
 
+use crate::tree::{Attribute, Body, Tree};
+use crate::xml_name::XmlName;
+use crate::xml_string::XmlString;
 use sqlite_items::Items;
 use std::alloc::{AllocError, Global};
 use std::mem;
-use xml_tree::{Attribute, Body, Tree, XmlName, XmlString};
 
 /// An element that is open: what stands before it in its parent, its name and its attributes.
 #[derive(Drop)]
@@ -23,7 +25,7 @@ pub(crate) struct Builder {
 }
 
 impl Builder {
-    ghost use Rattle.xml_tree.specs.Marks.{marks, opening, closing, words};
+    ghost use Rattle.yxml.specs.Marks.{marks, opening, closing, words};
     ghost use Rattle.yxml.specs.Builder.{HasRead, flat, with_text, IsSettled, base};
 
     pub(crate) fn new(alloc: Global) -> Builder

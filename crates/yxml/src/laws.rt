@@ -1,7 +1,7 @@
 //! Laws over the definitions, as contracts of functions that do nothing.
 ghost use Rattle.std.specs.Prelude.{◌≡◌, ◌↔◌, ℕ, List, Some, Ok, Err};
-ghost use Rattle.xml_tree.specs.declared.tree.Tree.{Tree};
-ghost use Rattle.xml_tree.specs.Normal.{IsNormal};
+ghost use Rattle.yxml.specs.declared.tree.Tree.{Tree};
+ghost use Rattle.yxml.specs.Normal.{IsNormal};
 ghost use Rattle.yxml.specs.declared.fault.YxmlFault.{YxmlFault};
 ghost use Rattle.yxml.specs.Answer.{body_in};
 ghost use Rattle.yxml.specs.Reading.{fault_in};

@@ -1,7 +1,7 @@
 ghost use Rattle.std.specs.Prelude.{◌≡◌, ◌≢◌, Some, None, OnOk, IfOk, IfErr, length, List};
 ghost use Rattle.std.specs.List.{slice_split};
-ghost use Rattle.xml_tree.specs.declared.tree.Tree.{Tree};
-ghost use Rattle.xml_tree.specs.Normal.{IsNormal};
+ghost use Rattle.yxml.specs.declared.tree.Tree.{Tree};
+ghost use Rattle.yxml.specs.Normal.{IsNormal};
 ghost use Rattle.yxml.specs.Reading.{said, tag_said, is_y, nesting_fault, marks_said, fault_in};
 ghost use Rattle.yxml.specs.Spelling.{Spells, ReadsAs};
 ghost use Rattle.yxml.specs.Builder.{HasRead};
@@ -10,8 +10,8 @@ use crate::builder::Builder;
 use crate::cut::{cut_at_x, cut_at_y};
 use crate::fault::YxmlFault;
 use crate::tag::read_tag;
+use crate::tree::Body;
 use std::alloc::Global;
-use xml_tree::Body;
 
 /// At most so many elements are nested.
 pub const MAX_DEPTH: usize = 200;

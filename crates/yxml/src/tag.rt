@@ -1,13 +1,15 @@
 ghost use Rattle.std.specs.Prelude.{◌≡◌, ◌≢◌, [], ◌∷◌, Some, None, Ok, Err, IfOk, IfErr};
 ghost use Rattle.std.specs.List.{slice_split};
-ghost use Rattle.xml_tree.specs.Marks.{opening};
+ghost use Rattle.yxml.specs.Marks.{opening};
 ghost use Rattle.yxml.specs.Reading.{attribute_of, attributes_of, tag_said, is_y};
 
 use crate::cut::cut_at_y;
 use crate::fault::YxmlFault;
+use crate::tree::Attribute;
+use crate::xml_name::XmlName;
+use crate::xml_string::XmlString;
 use sqlite_items::Items;
 use std::alloc::Global;
-use xml_tree::{Attribute, XmlName, XmlString};
 
 /// The name and the attributes of an element.
 #[derive(Drop)]

@@ -1,11 +1,11 @@
 ghost use Rattle.std.specs.Prelude.{◌≡◌, ◌++◌, IfOk, OnOk, string_bytes};
 ghost use Rattle.std.specs.List.{flat_map};
-ghost use Rattle.xml_tree.specs.Marks.{marks, tree_marks, opening};
-ghost use Rattle.xml_tree.specs.Normal.{IsNormal};
+ghost use Rattle.yxml.specs.Marks.{marks, tree_marks, opening};
+ghost use Rattle.yxml.specs.Normal.{IsNormal};
 ghost use Rattle.yxml.specs.Spelling.{yxml, mark_spelling, spellings, attribute_spelling, Spells};
 
+use crate::tree::{Attribute, Body, Tree};
 use std::alloc::{AllocError, Global};
-use xml_tree::{Attribute, Body, Tree};
 
 /// What begins a start tag.
 const OPEN: &str = "\u{5}\u{6}";

@@ -18,7 +18,7 @@ use exec_rules::Version;
 use language::Language;
 use made_document::{Summary, Tally, greatest_execution};
 use pide_base::{NodeName, VersionId};
-use session_laws::settled_law;
+use session_rules::settled_law;
 use std::alloc::AllocError;
 use thread_serve::document_session_below::Session;
 

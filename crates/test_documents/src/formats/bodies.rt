@@ -1,7 +1,7 @@
-//! Trees and the strings in them (`xml_tree`).
+//! Trees and the strings in them (`yxml`).
 use script_lines::{Answer, Fault};
 use std::alloc::{AllocError, Global};
-use xml_tree::{Attribute, Body, Tree, XmlString};
+use yxml::{Attribute, Body, Tree, XmlString};
 
 /// Answers a body, with its elements as XML.
 pub(crate) fn told(out: &mut String, body: Result<Body, Fault>) -> Answer {

@@ -4,7 +4,7 @@ use script_lines::{Answer, say};
 use xml_codec::{
     a_body_encodes_one_value, a_faulty_body_encodes_no_value, bodies_are_normal, bodies_nest,
 };
-use xml_tree::{marks_of_joined_bodies, marks_tell_the_body};
+use yxml::{marks_of_joined_bodies, marks_tell_the_body};
 
 /// Calls the laws of streams and of replies.
 pub(crate) fn of_streams(out: &mut String) -> Answer {
@@ -12,7 +12,7 @@ pub(crate) fn of_streams(out: &mut String) -> Answer {
     any_pieces();
     longer_streams();
     written_is_read();
-    reply_reading::what_is_written_is_read_back();
+    reply_messages::what_is_written_is_read_back();
     say(out, "called")
 }
 

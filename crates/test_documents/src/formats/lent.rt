@@ -1,5 +1,5 @@
-//! Bodies that are lent from the texts that spell them (`data_shapes`).
-use data_shapes::{LentAttribute, LentBody, LentElement};
+//! Bodies that are lent from the texts that spell them (`message_values`).
+use message_values::{LentAttribute, LentBody, LentElement};
 use script_lines::{Answer, Fault};
 use std::alloc::{AllocError, Global};
 

@@ -3,7 +3,7 @@ use joined_results::both;
 use sqlite_items::Items;
 use std::alloc::{AllocError, Global};
 use xml_codec::{put_int, put_list, put_option, put_pair, put_string, put_variant};
-use xml_tree::{Body, Tree, XmlString};
+use yxml::{Body, Tree, XmlString};
 
 /// What is written.
 type Written = Result<Body, AllocError>;

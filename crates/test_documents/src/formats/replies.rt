@@ -1,12 +1,11 @@
-//! Replies as they are written, and which chunks are replies (`reply_writing`, `reply_reading`).
+//! Replies as they are written, and which chunks are replies (`reply_messages`, `reply_messages`).
 use crate::formats::messages::first_message;
 use crate::formats::shown::{put_bytes, yxml_of};
 use crate::formats::told_replies;
 use byte_message::Message;
 use message_values::{Protocol, Refusal, Worker};
 use pide_base::{ExecId, Part, PartKind, VersionId};
-use reply_reading::read_reply;
-use reply_writing::{AssignedNode, Reply, Reports, write};
+use reply_messages::{AssignedNode, Reply, Reports, read_reply, write};
 use script_lines::{Answer, Call, Fault, say};
 use snapshots::Shown;
 use std::alloc::{AllocError, Global};

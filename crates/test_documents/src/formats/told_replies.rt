@@ -1,8 +1,8 @@
-//! Replies that tell lists and reports, as they are written (`reply_writing`).
+//! Replies that tell lists and reports, as they are written (`reply_messages`).
 use crate::formats::replies::{Written, lends_nothing, put};
 use joined_results::both;
 use pide_base::{CommandId, ExecId, NodeName, Part, PartKind, Range, VersionId};
-use reply_writing::{AssignedNode, AssignedRow, Executions, Reply, Reports, write};
+use reply_messages::{AssignedNode, AssignedRow, Executions, Reply, Reports, write};
 use report_markup::{PlainText, Property, PropertyKey, Report, ReportKind};
 use script_lines::{Answer, Fault};
 use snapshots::Shown;

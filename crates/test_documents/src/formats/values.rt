@@ -8,7 +8,7 @@ use xml_codec::{
     DataFault, get_bool, get_int, get_list, get_option, get_pair, get_string, get_variant,
     is_short, put_bool, put_int, put_string,
 };
-use xml_tree::{Body, XmlString};
+use yxml::{Body, XmlString};
 
 /// What is read of a body.
 type Read<T> = Result<T, DataFault>;

@@ -1,12 +1,11 @@
-//! YXML: which bodies texts spell, and where the others are at fault (`yxml`, `data_shapes`).
+//! YXML: which bodies texts spell, and where the others are at fault (`yxml`, `message_values`).
 use crate::formats::shown::{nested, yxml_of};
 use crate::formats::{bodies, lent};
 use crate::shared::{Told, put, put_agreed};
 use joined_results::both;
 use script_lines::{Answer, Call, Fault, say};
 use std::alloc::{AllocError, Global};
-use xml_tree::Body;
-use yxml::{YxmlFault, parse_body, write_body};
+use yxml::{Body, YxmlFault, parse_body, write_body};
 
 /// Answers of a text of YXML, which is shown as XML: how its body is written, `again`; its `fault`,
 /// as it is read and as it is lent; its `tree`, in words or as it is `debugged`; what is `lent` of

@@ -1,6 +1,6 @@
-//! Headers of texts (`doc_headers`).
+//! Headers of texts (`outer_syntax`).
 use crate::shared::{put_number, put_scalars, scalars_of};
-use doc_headers::{Header, header, header_stop};
+use outer_syntax::{Header, header, header_stop};
 use script_lines::{Answer, Call, Fault};
 use std::alloc::{AllocError, Global};
 

@@ -1,8 +1,7 @@
 //! The laws of texts.
 use command_spans::kept_tokens;
-use doc_headers::one_header;
+use outer_syntax::{one_header, places_are_numbered};
 use script_lines::{Answer, say};
-use symbols::places_are_numbered;
 use text_edits::{
     a_kept_scalar_is_moved, one_result, places_stay_in_order, places_stay_within,
     revert_undoes_convert,
@@ -20,10 +19,10 @@ pub(crate) fn of_places(out: &mut String) -> Answer {
 
 /// Calls the laws of symbols, tokens, headers and spans.
 pub(crate) fn of_texts(out: &mut String) -> Answer {
-    symbols::one_list();
+    outer_syntax::one_symbol_list();
     places_are_numbered();
-    outer_tokens::one_list();
-    outer_tokens::symbol_law();
+    outer_syntax::one_list();
+    outer_syntax::symbol_law();
     one_header();
     command_spans::one_list();
     kept_tokens();

@@ -1,8 +1,8 @@
-//! Symbols of texts, and places that count them (`symbols`).
+//! Symbols of texts, and places that count them (`outer_syntax`).
 use crate::shared::{put_number, scalars_of};
+use outer_syntax::{Boundaries, named_symbol, symbols};
 use script_lines::{Answer, Call, Fault};
 use std::alloc::{AllocError, Global};
-use symbols::{Boundaries, named_symbol, symbols};
 
 /// Answers of the symbols of a text: `cut` tells their ranges, `to-symbol` how many are before a
 /// place, `to-scalar` the place before one, `numbers` those of the places 0, 0, 1, 3, 7, 8 and 9,

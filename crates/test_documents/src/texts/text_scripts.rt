@@ -3,7 +3,7 @@ use crate::shared::names_of;
 use crate::texts::cut_text::{CutText, Found, cut};
 use crate::texts::told::{edit_of, put_fault, put_spans};
 use crate::texts::whole::put_counts;
-use outer_tokens::{Kind, Token};
+use outer_syntax::{Kind, Token};
 use script_lines::{Answer, Call, Fault, joined};
 use sqlite_items::Items;
 use std::alloc::{AllocError, Global};

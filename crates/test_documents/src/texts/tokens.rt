@@ -1,7 +1,7 @@
-//! Tokens of texts (`outer_tokens`).
+//! Tokens of texts (`outer_syntax`).
 use crate::shared::{names_of, put_quoted, scalars_of};
 use joined_results::both;
-use outer_tokens::{
+use outer_syntax::{
     Kind, Stage, Token, after_token, content, given, is_proper, lex, lex_under, next_proper,
     next_token, proper_after, renamed, scalars,
 };

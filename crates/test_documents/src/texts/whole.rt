@@ -2,7 +2,7 @@
 //! leaves alone.
 use crate::texts::cut_text::{CutText, Found};
 use command_spans::{Span, spans};
-use outer_tokens::{Kind, Token};
+use outer_syntax::{Kind, Token};
 use script_lines::{Answer, Fault, say};
 use sqlite_items::Items;
 use std::alloc::{AllocError, Global};

@@ -1,6 +1,6 @@
-//! The facts that a blob lists (`blob_facts`).
+//! The facts that a blob lists (`command_steps`).
 use crate::shared::scalars_of;
-use blob_facts::{BlobFault, facts_of};
+use command_steps::{BlobFault, facts_of};
 use script_lines::{Answer, Call, Fault};
 use std::alloc::{AllocError, Global};
 

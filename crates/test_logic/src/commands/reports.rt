@@ -1,8 +1,8 @@
-//! Reports of commands and texts of errors (`command_reports`), and the texts that they tell
-//! (`command_reports`, `nj_print`).
+//! Reports of commands and texts of errors (`command_steps`), and the texts that they tell
+//! (`command_steps`, `nj_syntax`).
 use crate::logic::reading::known;
 use crate::shared::{Told, put, scalars_of};
-use command_reports::{
+use command_steps::{
     Halt, announced, def_report, error_report, formula_in, formula_report, import_report,
     loaded_report, local_report, named_refusal, numbered_refusal, refusal, state_report,
     state_text, theory_report,
@@ -10,8 +10,8 @@ use command_reports::{
 use isar_rules::Spot;
 use joined_results::both;
 use nj_formula::{Formula, Name};
-use nj_print::formula_text;
-use outer_tokens::lex_under;
+use nj_syntax::formula_text;
+use outer_syntax::lex_under;
 use pide_base::Range;
 use proof_state::Proof;
 use report_markup::Report;

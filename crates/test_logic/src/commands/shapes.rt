@@ -3,7 +3,7 @@ use crate::shared::{put_scalars, scalars_of};
 use command_shapes::shape_of;
 use doc_nodes::Aliases;
 use isar_rules::{Shape, Spot};
-use outer_tokens::{Token, proper_under};
+use outer_syntax::{Token, proper_under};
 use script_lines::{Answer, Call, Fault};
 use std::alloc::{AllocError, Global};
 

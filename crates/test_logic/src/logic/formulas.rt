@@ -2,7 +2,7 @@
 use crate::logic::reading::{known, known_term};
 use crate::shared::{deep_text, put};
 use nj_formula::{Formula, ObjTerm};
-use nj_print::print;
+use nj_syntax::print;
 use script_lines::{Answer, Call, Fault, joined, say, say_whether};
 use std::alloc::{AllocError, Global};
 

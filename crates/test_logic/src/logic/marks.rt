@@ -1,6 +1,6 @@
-//! How the text of a formula is cut into tokens (`nj_tokens`).
+//! How the text of a formula is cut into tokens (`nj_syntax`).
 use crate::shared::scalars_of;
-use nj_tokens::{Lexer, Next, Token};
+use nj_syntax::{Lexer, Next, Token};
 use script_lines::{Answer, Call, Fault};
 use std::alloc::{AllocError, Global};
 

@@ -1,8 +1,8 @@
-//! How formulas and terms are printed (`nj_print`).
+//! How formulas and terms are printed (`nj_syntax`).
 use crate::logic::reading::{formula, known, known_term};
 use crate::shared::{Told, deep_text, put};
 use nj_formula::Formula;
-use nj_print::{print, print_term};
+use nj_syntax::{print, print_term};
 use script_lines::{Answer, Call, Fault, say};
 use std::alloc::Global;
 

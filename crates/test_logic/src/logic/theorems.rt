@@ -2,7 +2,7 @@
 use crate::logic::rule_calls::called;
 use crate::shared::put;
 use nj_kernel::{Hyp, RuleError, Thm};
-use nj_print::print;
+use nj_syntax::print;
 use script_lines::{Answer, Call, Fault};
 use sqlite_items::Items;
 use std::alloc::{AllocError, Global};

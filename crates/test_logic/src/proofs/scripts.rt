@@ -4,7 +4,7 @@ use crate::proofs::scopes::context_of;
 use crate::shared::put;
 use joined_results::{both, each_of_three};
 use nj_formula::{Argument, Formula, Name};
-use nj_print::print;
+use nj_syntax::print;
 use proof_state::{Proof, ProofFault};
 use script_lines::{Answer, Call, Fault, say};
 use sqlite_items::Items;

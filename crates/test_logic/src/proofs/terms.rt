@@ -1,6 +1,6 @@
 //! Proof terms read from tokens (`proof_terms`).
 use crate::shared::{deep_text, scalars_of};
-use outer_tokens::{Token, proper_under};
+use outer_syntax::{Token, proper_under};
 use proof_terms::{Term, TermError, read, rule_named};
 use script_lines::{Answer, Call, Fault, say};
 use std::alloc::{AllocError, Global};

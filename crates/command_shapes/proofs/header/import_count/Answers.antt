@@ -1,7 +1,7 @@
 use Rattle.std.proofs.Common.{length, option_map, Option, Some, ap, sym, subst, ◌∙◌}
 use Rattle.std.specs.Prelude.{MatchOption}
-use Rattle.doc_headers.specs.declared.parts.Header.{Header}
-use Rattle.doc_headers.specs.Headers.{HasHeader, HasNoHeader}
+use Rattle.outer_syntax.specs.declared.parts.Header.{Header}
+use Rattle.outer_syntax.specs.Headers.{HasHeader, HasNoHeader}
 use Rattle.command_shapes.proofs.header.import_count.Goals as goal
 
 pub returns-in-Some : goal.returns-in-Some

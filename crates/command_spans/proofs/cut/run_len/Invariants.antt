@@ -1,6 +1,6 @@
 use Rattle.std.proofs.Common.{length, ◌≡◌, ◌-◌, ◌<◌, ◌≤◌, true, false}
 use Rattle.std.specs.List.{AllWithin}
-use Rattle.outer_tokens.specs.declared.token.Token.{Token}
+use Rattle.outer_syntax.specs.declared.token.Token.{Token}
 use Rattle.command_spans.specs.Spans.{Is, proper_token, command_token}
 use Rattle.command_spans.proofs.cut.run_len.Given as goal
 

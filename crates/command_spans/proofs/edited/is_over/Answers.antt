@@ -1,7 +1,7 @@
 use Rattle.std.proofs.Common.{◌≡◌, sym, subst, ⊎_elim}
-use Rattle.outer_tokens.specs.Stages.{after_tokens}
-use Rattle.outer_tokens.specs.declared.stage.Stage.{Stage}
-use Rattle.outer_tokens.specs.declared.stage.Stage.TheVariants.{Ended, Absent}
+use Rattle.outer_syntax.specs.Stages.{after_tokens}
+use Rattle.outer_syntax.specs.declared.stage.Stage.{Stage}
+use Rattle.outer_syntax.specs.declared.stage.Stage.TheVariants.{Ended, Absent}
 use Rattle.command_spans.proofs.ReadOn.{ended-after, absent-after}
 use Rattle.command_spans.proofs.edited.is_over.Goals as goal
 

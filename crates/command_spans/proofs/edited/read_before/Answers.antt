@@ -1,10 +1,10 @@
 -- A header that is over stays so.
 use Rattle.std.proofs.Common.{ℕ, List, take, get_or, sym, ap, ◌∙◌}
-use Rattle.outer_tokens.specs.Stages.{after_token, after_tokens}
-use Rattle.outer_tokens.specs.declared.stage.Stage.{Stage}
-use Rattle.outer_tokens.specs.declared.token.Token.{Token}
-use Rattle.outer_tokens.specs.declared.stage.Stage.TheVariants.{Start}
-use Rattle.outer_tokens.proofs.KnownLexing.{after-push}
+use Rattle.outer_syntax.specs.Stages.{after_token, after_tokens}
+use Rattle.outer_syntax.specs.declared.stage.Stage.{Stage}
+use Rattle.outer_syntax.specs.declared.token.Token.{Token}
+use Rattle.outer_syntax.specs.declared.stage.Stage.TheVariants.{Start}
+use Rattle.outer_syntax.proofs.KnownLexing.{after-push}
 use Rattle.std.proofs.lemmas.List.{take_more}
 use Rattle.command_spans.proofs.ReadOn.{no_token, read-on}
 use Rattle.command_spans.proofs.edited.read_before.Goals as goal

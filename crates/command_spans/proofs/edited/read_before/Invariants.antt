@@ -1,6 +1,6 @@
 use Rattle.std.proofs.Common.{◌≡◌, take}
-use Rattle.outer_tokens.specs.Stages.{after_tokens}
-use Rattle.outer_tokens.specs.declared.stage.Stage.TheVariants.{Start}
+use Rattle.outer_syntax.specs.Stages.{after_tokens}
+use Rattle.outer_syntax.specs.declared.stage.Stage.TheVariants.{Start}
 use Rattle.command_spans.proofs.edited.read_before.Given as goal
 
 abbrev pub invariant-loop-read : goal.invariant-loop-read

@@ -4,14 +4,14 @@ use Rattle.std.specs.Bool.{OnTrue}
 use Rattle.std.proofs.lemmas.Bool.{both_ways}
 use Rattle.std.proofs.lemmas.List.{take_rest}
 use Rattle.std.proofs.lemmas.List.Elements.{All-push}
-use Rattle.outer_tokens.specs.Words.{is_in_force}
-use Rattle.outer_tokens.specs.Tokens.{IsTokenAt}
-use Rattle.outer_tokens.specs.Stages.{after_token, after_tokens, given}
-use Rattle.outer_tokens.specs.Lexing.{tokens_of}
-use Rattle.outer_tokens.specs.declared.token.Token.{Token}
-use Rattle.outer_tokens.specs.declared.stage.Stage.{Stage}
-use Rattle.outer_tokens.specs.declared.stage.Stage.TheVariants.{Start}
-use Rattle.outer_tokens.proofs.KnownLexing.{AreStaged, staged-push, after-push}
+use Rattle.outer_syntax.specs.Words.{is_in_force}
+use Rattle.outer_syntax.specs.Tokens.{IsTokenAt}
+use Rattle.outer_syntax.specs.Stages.{after_token, after_tokens, given}
+use Rattle.outer_syntax.specs.Lexing.{tokens_of}
+use Rattle.outer_syntax.specs.declared.token.Token.{Token}
+use Rattle.outer_syntax.specs.declared.stage.Stage.{Stage}
+use Rattle.outer_syntax.specs.declared.stage.Stage.TheVariants.{Start}
+use Rattle.outer_syntax.proofs.KnownLexing.{AreStaged, staged-push, after-push}
 use Rattle.command_spans.specs.CutTexts.{Cuts, boundaries, boundary_at}
 use Rattle.command_spans.specs.Reparsing.{moved, is_meeting, past}
 use Rattle.command_spans.specs.Keeping.{moved_token, restaged, ArePassed}

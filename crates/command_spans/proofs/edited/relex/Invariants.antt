@@ -1,9 +1,9 @@
 use Rattle.std.proofs.Common.{◌≡◌, ◌-◌, ◌≤◌, false, length}
 use Rattle.std.specs.Prelude.{All}
-use Rattle.outer_tokens.specs.Stages.{after_tokens}
-use Rattle.outer_tokens.specs.declared.stage.Stage.TheVariants.{Start}
-use Rattle.outer_tokens.specs.declared.token.Token.{Token}
-use Rattle.outer_tokens.proofs.KnownLexing.{AreStaged}
+use Rattle.outer_syntax.specs.Stages.{after_tokens}
+use Rattle.outer_syntax.specs.declared.stage.Stage.TheVariants.{Start}
+use Rattle.outer_syntax.specs.declared.token.Token.{Token}
+use Rattle.outer_syntax.proofs.KnownLexing.{AreStaged}
 use Rattle.command_spans.specs.CutTexts.{boundaries}
 use Rattle.command_spans.specs.Reparsing.{moved, is_meeting}
 use Rattle.command_spans.specs.Keeping.{ArePassed}

@@ -1,7 +1,7 @@
 use Rattle.std.proofs.Common.{sym, ap, ◌∙◌, arith, length}
 use Rattle.std.proofs.lemmas.List.{take_all}
-use Rattle.outer_tokens.specs.Stages.{after_tokens}
-use Rattle.outer_tokens.specs.declared.stage.Stage.TheVariants.{Start}
+use Rattle.outer_syntax.specs.Stages.{after_tokens}
+use Rattle.outer_syntax.specs.declared.stage.Stage.TheVariants.{Start}
 use Rattle.command_spans.proofs.edited.stage_after.Goals as goal
 
 pub returns : goal.returns

@@ -1,5 +1,5 @@
 use Rattle.std.proofs.Common.{not, ap, ◌∙◌}
-use Rattle.import_rounds.specs.Looks.{marked}
+use Rattle.doc_nodes.specs.Looks.{marked}
 use Rattle.doc_nodes.proofs.Lists.{filter_kept, filter_left}
 use Rattle.doc_nodes.proofs.graph.add_others.Goals as goal
 use Rattle.doc_nodes.proofs.graph.add_others.Goals.{then-not-marks-place+in_ok-push, else-not-marks-place}

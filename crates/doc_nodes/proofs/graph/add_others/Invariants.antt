@@ -1,6 +1,6 @@
 use Rattle.std.proofs.Common.{◌≡◌, ◌++◌, filter, not}
 use Rattle.std.specs.List.{range_with_len}
-use Rattle.import_rounds.specs.Looks.{marked}
+use Rattle.doc_nodes.specs.Looks.{marked}
 use Rattle.doc_nodes.proofs.graph.add_others.Given as goal
 
 abbrev pub invariant-places : goal.invariant-places

@@ -1,6 +1,6 @@
 use Rattle.std.proofs.Common.{◌≡◌, true, subst, ◌∙◌, arith}
 use Rattle.text_words.specs.Members.{has}
-use Rattle.import_rounds.proofs.KnownRounds.{is_order}
+use Rattle.doc_nodes.proofs.KnownRounds.{is_order}
 use Rattle.doc_nodes.proofs.graph.places_in_order.Goals as goal
 
 pub marks_of-requires : goal.marks_of-requires

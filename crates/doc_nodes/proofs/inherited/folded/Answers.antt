@@ -1,7 +1,7 @@
 use Rattle.std.proofs.Common.{◌≡◌, ℕ, List, ◌++◌, length, sym, ap, ◌∙◌}
 use Rattle.std.specs.Prelude.{map}
 use Rattle.std.specs.List.{flat_map}
-use Rattle.doc_headers.specs.declared.parts.KeywordPair.{KeywordPair}
+use Rattle.outer_syntax.specs.declared.parts.KeywordPair.{KeywordPair}
 use Rattle.doc_nodes.specs.declared.inherited.NodeAliases.{NodeAliases}
 use Rattle.doc_nodes.specs.Aliases.{no_aliases, folded, pairs_from}
 use Rattle.doc_nodes.proofs.FoldLemmas.{first_same, made_by, same_along}

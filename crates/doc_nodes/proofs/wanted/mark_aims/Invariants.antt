@@ -1,5 +1,5 @@
 use Rattle.std.proofs.Common.{◌≡◌, ℕ, ◌<◌, ◌||◌, length, take}
-use Rattle.import_rounds.specs.Looks.{marked}
+use Rattle.doc_nodes.specs.Looks.{marked}
 use Rattle.doc_nodes.specs.Wanted.{is_aimed}
 use Rattle.doc_nodes.proofs.wanted.mark_aims.Given as goal
 

@@ -1,5 +1,5 @@
 use Rattle.std.proofs.Common.{◌≡◌, ◌-◌, ◌<◌, ℕ, List, Option, get_or, sym, ap, ◌∙◌, arith, ◌||◌}
-use Rattle.import_rounds.specs.Looks.{marked, aims_at}
+use Rattle.doc_nodes.specs.Looks.{marked, aims_at}
 use Rattle.doc_nodes.specs.Imports.{order, aims}
 use Rattle.doc_nodes.specs.Wanted.{hands_on, is_aimed}
 use Rattle.doc_nodes.proofs.WantedLemmas.{reached_yes, reached_no, here, later}

@@ -1,7 +1,7 @@
 use Rattle.std.proofs.Common.{◌+◌, ◌-◌, ◌≤◌}
 use Rattle.document_serve.specs.Listening.{HearsOn}
 use Rattle.document_serve.proofs.At.{IsAt, events_of}
-use Rattle.session_laws.proofs.KnownResting.{finishes, made}
+use Rattle.session_rules.proofs.KnownResting.{finishes, made}
 use Rattle.document_serve.proofs.serving.serve_message.Given as goal
 
 -- the message waits, a count has not fallen, and all that was sent was heard

@@ -1,6 +1,6 @@
 use Rattle.std.proofs.Common.{List, Bool, sym, subst}
 use Rattle.doc_nodes.specs.Imports.{NodeList}
-use Rattle.editor_buffer.specs.document_edits_below.NameSets.{NameSet}
+use Rattle.editor_buffer.specs.NameSets.{NameSet}
 use Rattle.exec_rules.specs.Kept.{BlobList}
 use Rattle.exec_assign.specs.Untouched.{AreChanged}
 use Rattle.update_plans.specs.Alive.{HaveCommands}

@@ -6,7 +6,7 @@ use Rattle.command_spans.specs.CutTexts.{Cuts}
 use Rattle.buffer_rules.specs.Cuts.{source}
 use Rattle.buffer_rules.specs.Numbers.{kept_runs, ids_of}
 use Rattle.buffer_rules.specs.Nodes.{entry, ranges_in}
-use Rattle.node_commands.specs.Commands.{ranges_of, sources_in, commands_in}
+use Rattle.editor_buffer.specs.Commands.{ranges_of, sources_in, commands_in}
 use Rattle.editor_buffer.specs.CutNodes.{next_after}
 use Rattle.editor_buffer.proofs.CutParts.{node_so, next_so}
 use Rattle.editor_buffer.proofs.cut.cut.Goals as goal

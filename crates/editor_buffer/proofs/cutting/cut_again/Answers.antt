@@ -1,9 +1,9 @@
 use Rattle.std.proofs.Common.{Some, Ok, ap, subst, ◌∙◌}
-use Rattle.doc_blobs.specs.Needs.{AliasList}
+use Rattle.doc_nodes.specs.Needs.{AliasList}
 use Rattle.buffer_rules.specs.declared.sheet.Sheet.{Sheet}
 use Rattle.buffer_rules.specs.Nodes.{sources, before_in}
-use Rattle.node_commands.specs.Commands.{commands_in}
-use Rattle.sheet_edits.specs.OpenSheet.{OpenSheet}
+use Rattle.editor_buffer.specs.Commands.{commands_in}
+use Rattle.editor_buffer.specs.OpenSheet.{OpenSheet}
 use Rattle.editor_buffer.specs.CutNodes.{GivesCut}
 use Rattle.editor_buffer.proofs.CutParts.{stay_so, made_so}
 use Rattle.editor_buffer.proofs.cutting.cut_again.Goals as goal

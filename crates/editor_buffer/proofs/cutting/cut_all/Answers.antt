@@ -9,11 +9,11 @@ use Rattle.doc_nodes.specs.Aliases.{aliases_at}
 use Rattle.doc_nodes.specs.declared.inherited.NodeAliases.{NodeAliases}
 use Rattle.buffer_rules.specs.Sheets.{SheetList}
 use Rattle.buffer_rules.specs.Nodes.{uncut_all}
-use Rattle.document_edits.specs.Standing.{OpenList, sheets_of, Drafted}
-use Rattle.document_edits.proofs.PairLists.{AllZip-length}
+use Rattle.editor_buffer.specs.Standing.{OpenList, sheets_of, Drafted}
+use Rattle.editor_buffer.proofs.PairLists.{AllZip-length}
 use Rattle.editor_buffer.specs.declared.cutting.Cutting.{Cutting}
 use Rattle.editor_buffer.proofs.KnownTold.{along}
-use Rattle.document_edits.proofs.KeptHeaders.{heads_drafted}
+use Rattle.editor_buffer.proofs.KeptHeaders.{heads_drafted}
 use Rattle.editor_buffer.proofs.BareNodes.{same_heads}
 use Rattle.editor_buffer.proofs.CutPlaces.{cut_end, length_sheets}
 use Rattle.editor_buffer.proofs.CutStart.{cut_start}

@@ -1,4 +1,4 @@
-use Rattle.document_edits.specs.Standing.{sheets_of}
+use Rattle.editor_buffer.specs.Standing.{sheets_of}
 use Rattle.editor_buffer.specs.Cutting.{IsCutUpTo}
 use Rattle.editor_buffer.proofs.cutting.cut_all.Given as goal
 

@@ -1,7 +1,7 @@
 use Rattle.std.proofs.Common.{◌≡◌, length}
 use Rattle.std.specs.List.{list_any}
 use Rattle.buffer_rules.specs.Preparing.{is_long}
-use Rattle.document_edits.specs.Standing.{sheets_of}
+use Rattle.editor_buffer.specs.Standing.{sheets_of}
 use Rattle.editor_buffer.proofs.limits.has_long_sheet.Given as goal
 
 abbrev pub invariant-each : goal.invariant-each

@@ -1,7 +1,7 @@
 use Rattle.std.proofs.Common.{◌≡◌, false, true, [], Some, None, sym, ap, ◌∙◌, get_or}
 use Rattle.std.specs.Prelude.{not}
 use Rattle.std.proofs.lemmas.List.{get_or-map}
-use Rattle.import_rounds.specs.Rounds.{is_known}
+use Rattle.doc_nodes.specs.Rounds.{is_known}
 use Rattle.doc_nodes.specs.Imports.{place_of, ordered_places, is_bad}
 use Rattle.exec_assign.proofs.KeyLemmas.{find_past, find_here}
 use Rattle.exec_assign.proofs.keying.first_bad.Goals as goal

@@ -1,7 +1,7 @@
 -- A text is plain, and its parts are the item's.
 use Rattle.std.proofs.Common.{◌≡◌, sym, subst, ◌∙◌, arith, ◌∷◌, [], decimal, rules}
 use Rattle.std.specs.Prelude.{IfOk}
-use Rattle.xml_tree.specs.Normal.{IsPlain}
+use Rattle.yxml.specs.Normal.{IsPlain}
 use Rattle.xml_codec.specs.Data.{string_body, variant_body}
 use Rattle.made_document.specs.Texts.{text}
 use Rattle.made_document.proofs.Items.{first_body}

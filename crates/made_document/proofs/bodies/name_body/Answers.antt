@@ -1,6 +1,6 @@
 -- A name is plain.
 use Rattle.std.proofs.Common.{sym, subst, ◌∙◌, arith}
-use Rattle.xml_tree.specs.Normal.{IsPlain}
+use Rattle.yxml.specs.Normal.{IsPlain}
 use Rattle.made_document.specs.Texts.{name}
 use Rattle.made_document.proofs.Printable.{name_printable, plain}
 use Rattle.made_document.proofs.bodies.name_body.Goals as goal

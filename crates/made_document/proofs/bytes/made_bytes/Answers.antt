@@ -1,6 +1,6 @@
 -- Three messages, one after the other.
 use Rattle.std.proofs.Common.{length, ◌≤◌, sym, subst, []}
-use Rattle.xml_tree.specs.Normal.{IsNormal}
+use Rattle.yxml.specs.Normal.{IsNormal}
 use Rattle.xml_codec.specs.Data.{list_body}
 use Rattle.message_values.specs.declared.editor_message.EditorMessage.TheVariants as asks
 use Rattle.message_values.specs.declared.mode.Mode.TheVariants.{Serve}

@@ -1,8 +1,8 @@
 -- The first proper token of the source is the first under the names of the aliases.
 use Rattle.std.proofs.Common.{sym, ap, ◌∙◌}
-use Rattle.outer_tokens.specs.Headings.{proper}
-use Rattle.outer_tokens.specs.Lexing.{tokens_under}
-use Rattle.outer_tokens.specs.Words.{is_in_force}
+use Rattle.outer_syntax.specs.Headings.{proper}
+use Rattle.outer_syntax.specs.Lexing.{tokens_under}
+use Rattle.outer_syntax.specs.Words.{is_in_force}
 use Rattle.mirror_rules.specs.Forking.{says_by}
 use Rattle.mirror_rules.proofs.forking.may_fork.Goals as goal
 

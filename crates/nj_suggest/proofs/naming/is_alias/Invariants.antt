@@ -1,6 +1,6 @@
 use Rattle.std.proofs.Common.{◌≡◌, drop}
 use Rattle.std.specs.List.{list_any}
-use Rattle.outer_tokens.specs.Words.{same}
+use Rattle.outer_syntax.specs.Words.{same}
 use Rattle.nj_suggest.proofs.naming.is_alias.Given as goal
 
 abbrev pub invariant-loop-alias : goal.invariant-loop-alias

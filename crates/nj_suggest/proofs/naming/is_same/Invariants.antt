@@ -1,5 +1,5 @@
 use Rattle.std.proofs.Common.{◌≡◌, length}
-use Rattle.outer_tokens.specs.Words.{same}
+use Rattle.outer_syntax.specs.Words.{same}
 use Rattle.nj_suggest.proofs.naming.is_same.Given as goal
 
 abbrev pub invariant-scalars : goal.invariant-scalars

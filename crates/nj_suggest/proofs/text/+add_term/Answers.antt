@@ -1,7 +1,7 @@
 use Rattle.std.proofs.Common.{rules, ◌≡◌, ◌∙◌, [], ◌∷◌, ◌++◌, string_bytes, ap, sym}
 use Rattle.std.proofs.lemmas.Result.{on_ok_weaker}
 use Rattle.nj_kernel.specs.declared.rule.Rule.TheVariants as R
-use Rattle.nj_print.specs.ArgumentText.{argument_text}
+use Rattle.nj_syntax.specs.ArgumentText.{argument_text}
 use Rattle.proof_terms.proofs.KnownTerms.{fold-ConjI, fold-DisjE, fold-ImpE, fold-NotE, fold-AllE, fold-ExI, fold-ExE}
 use Rattle.suggest_rules.specs.TermText.{quoted, formula, ruled, term_layer, term_text}
 use Rattle.nj_suggest.proofs.FormLemmas.{after_plain, after_eliminating, after_instancing}

@@ -3,7 +3,7 @@ use Rattle.std.proofs.Common.{length, sum_by, subst}
 use Rattle.std.specs.List.{flat_map}
 use Rattle.pide_base.specs.Moves.{AppendsFront}
 use Rattle.pide_base.proofs.Known.{AppendsFront-after}
-use Rattle.reply_writing.specs.declared.told.Told.TheVariants as tells
+use Rattle.reply_messages.specs.declared.told.Told.TheVariants as tells
 use Rattle.pide_build.specs.Replies.{spelled}
 use Rattle.pide_base.proofs.Known.{front_more}
 use Rattle.pide_build.proofs.replies.push_replies.Goals as goal

@@ -2,8 +2,8 @@
 use Rattle.std.proofs.Common.{◌≡◌, OnOk, map, sym, ap, subst, ◌∙◌}
 use Rattle.std.specs.Io.KnownBytes.{Appends}
 use Rattle.pide_base.specs.Moves.{AppendsFront}
-use Rattle.batch_check.specs.Cutting.{AreUncut, cut_all}
-use Rattle.document_build.specs.Built.{built_of}
+use Rattle.pide_build.specs.Cutting.{AreUncut, cut_all}
+use Rattle.pide_build.specs.Built.{built_of}
 use Rattle.pide_build.specs.Documents.{nodes_of}
 use Rattle.pide_build.specs.Replies.{build_replies}
 use Rattle.pide_build.specs.Telling.{bytes_of, reply_of}

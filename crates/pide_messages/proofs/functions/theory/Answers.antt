@@ -1,8 +1,8 @@
 -- A `str` is UTF-8, so it has scalars.
 use Rattle.std.proofs.Common.{◌≡◌, Some, refl, ap, ◌∙◌}
-use Rattle.data_shapes.specs.Each.{◌>>=◌}
-use Rattle.data_shapes.specs.Texts.{scalars_of}
-use Rattle.data_shapes.proofs.KnownTexts.{text_found}
+use Rattle.message_values.specs.Each.{◌>>=◌}
+use Rattle.message_values.specs.Texts.{scalars_of}
+use Rattle.message_values.proofs.KnownTexts.{text_found}
 use Rattle.message_values.specs.declared.editor_message.EditorMessage.TheVariants as asks
 use Rattle.message_values.specs.declared.refusal.Refusal.TheVariants.{BadData}
 use Rattle.message_values.specs.Asked.{or_refused}

@@ -4,7 +4,7 @@ use Rattle.std.specs.List.{AllByRecursion}
 use Rattle.std.proofs.lemmas.List.{take_rest}
 use Rattle.text_words.proofs.KnownLists.{first_and_rest}
 use Rattle.pide_base.specs.Ids.{IsId}
-use Rattle.known_versions.specs.Tables.{table_of}
+use Rattle.pide_mirror.specs.Tables.{table_of}
 use Rattle.pide_base.proofs.KnownOutcomes.{on_ok_so}
 use Rattle.pide_mirror.specs.KeptNodes.{HasId}
 use Rattle.pide_mirror.specs.NodeParts.{command_kept}

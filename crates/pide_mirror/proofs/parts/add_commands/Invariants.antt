@@ -1,7 +1,7 @@
 -- The parts so far and those of the rest are all, and so are their executions.
 use Rattle.std.proofs.Common.{◌≡◌, ◌++◌, map, length}
 use Rattle.std.specs.List.{AllByRecursion}
-use Rattle.known_versions.specs.Tables.{table_of}
+use Rattle.pide_mirror.specs.Tables.{table_of}
 use Rattle.pide_mirror.specs.KeptNodes.{HasId}
 use Rattle.pide_mirror.specs.NodeParts.{as_shown, commands_kept}
 use Rattle.pide_mirror.proofs.parts.add_commands.Given as goal

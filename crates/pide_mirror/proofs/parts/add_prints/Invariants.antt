@@ -2,7 +2,7 @@
 use Rattle.std.proofs.Common.{◌≡◌, ◌++◌, map, length}
 use Rattle.std.specs.List.{AllByRecursion}
 use Rattle.pide_base.specs.Ids.{IsId}
-use Rattle.known_versions.specs.Tables.{table_of}
+use Rattle.pide_mirror.specs.Tables.{table_of}
 use Rattle.pide_mirror.specs.NodeParts.{as_shown, print_kept}
 use Rattle.pide_mirror.proofs.parts.add_prints.Given as goal
 

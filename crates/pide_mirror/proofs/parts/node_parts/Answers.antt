@@ -3,7 +3,7 @@ use Rattle.std.proofs.Common.{◌≡◌, ap, sym, ◌∙◌, Some, map}
 use Rattle.doc_nodes.specs.Imports.{place_of}
 use Rattle.doc_nodes.specs.declared.node.Entry.{Entry}
 use Rattle.std.proofs.Common.{List}
-use Rattle.known_versions.specs.Tables.{table_of}
+use Rattle.pide_mirror.specs.Tables.{table_of}
 use Rattle.pide_mirror.specs.NodeParts.{as_shown, node_kept}
 use Rattle.pide_mirror.proofs.NodesKept.{node_is}
 use Rattle.pide_mirror.proofs.parts.node_parts.Goals as goal

@@ -1,5 +1,5 @@
 use Rattle.std.proofs.Common.{◌∷◌, rules, ap, sym, ◌∙◌}
-use Rattle.outer_tokens.specs.Tokens.{text_of}
+use Rattle.outer_syntax.specs.Tokens.{text_of}
 use Rattle.proof_terms.specs.Marks.{mark}
 use Rattle.proof_terms.specs.Reading.{of_name, read_rule_name}
 use Rattle.proof_terms.specs.RuleNames.{rule_of}

@@ -2,8 +2,8 @@ use Rattle.std.proofs.Common.{◌++◌, sym, ap, ◌∙◌, arith, reverse, leng
 use Rattle.std.specs.Prelude.{flat_map}
 use Rattle.std.specs.Option.{option_to_list}
 use Rattle.core_tables.specs.Rows.{execution_of}
-use Rattle.task_queue.specs.Tasks.{standing}
-use Rattle.task_queue.specs.Changes.{waiting}
+use Rattle.core_tables.specs.Tasks.{standing}
+use Rattle.core_tables.specs.Changes.{waiting}
 use Rattle.update_plans.specs.declared.beginning.Fresh.{Fresh}
 use Rattle.prover_core.specs.Looked.{looked}
 use Rattle.prover_core.specs.Plans.{begun_as}

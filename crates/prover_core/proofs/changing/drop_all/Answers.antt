@@ -2,7 +2,7 @@ use Rattle.std.proofs.Common.{None, ◌++◌, ◌∷◌, [], take, ap, sym, ◌�
 use Rattle.std.proofs.lemmas.List.{take_more}
 use Rattle.core_tables.specs.Rows.{execution_of}
 use Rattle.core_tables.specs.Finish.{after_cancelling}
-use Rattle.task_queue.specs.Tasks.{standing}
+use Rattle.core_tables.specs.Tasks.{standing}
 use Rattle.prover_core.proofs.ChangedAll.{changed_in, changed_more, again_cancelled}
 use Rattle.prover_core.proofs.changing.drop_all.Goals as goal
 

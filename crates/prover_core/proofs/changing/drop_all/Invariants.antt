@@ -1,7 +1,7 @@
 use Rattle.std.proofs.Common.{◌≡◌, ℕ, ◌≤◌, None, take, length}
 use Rattle.core_tables.specs.Rows.{execution_of}
 use Rattle.core_tables.specs.Finish.{after_cancelling}
-use Rattle.task_queue.specs.Tasks.{standing}
+use Rattle.core_tables.specs.Tasks.{standing}
 use Rattle.prover_core.proofs.ChangedAll.{changed_in}
 use Rattle.prover_core.proofs.changing.drop_all.Given as goal
 

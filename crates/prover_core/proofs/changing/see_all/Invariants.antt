@@ -1,7 +1,7 @@
 use Rattle.std.proofs.Common.{◌≡◌, ℕ, ◌≤◌, Bool, map, take, length}
 use Rattle.std.specs.List.{AllByRecursion}
 use Rattle.std.specs.Option.{option_map}
-use Rattle.task_queue.specs.Tasks.{standing}
+use Rattle.core_tables.specs.Tasks.{standing}
 use Rattle.prover_core.specs.Plans.{ranked}
 use Rattle.prover_core.proofs.ChangedAll.{changed_in}
 use Rattle.prover_core.proofs.changing.see_all.Given as goal

@@ -1,7 +1,7 @@
 use Rattle.std.proofs.Common.{sym, subst, ◌∙◌, arith}
 use Rattle.pide_base.specs.declared.part.Part.{Part}
-use Rattle.task_queue.specs.Tasks.{standing}
-use Rattle.task_queue.specs.Ready.{IsNext}
+use Rattle.core_tables.specs.Tasks.{standing}
+use Rattle.core_tables.specs.Ready.{IsNext}
 use Rattle.prover_core.proofs.LastReady.{none_is_ready, last_is_next}
 use Rattle.prover_core.proofs.claiming.next_part.Goals as goal
 

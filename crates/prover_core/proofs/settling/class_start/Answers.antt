@@ -1,4 +1,4 @@
-use Rattle.task_queue.specs.Tasks.{standing}
+use Rattle.core_tables.specs.Tasks.{standing}
 use Rattle.prover_core.proofs.OldestReady.{oldest}
 use Rattle.prover_core.proofs.settling.class_start.Goals as goal
 

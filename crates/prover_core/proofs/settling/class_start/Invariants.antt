@@ -1,7 +1,7 @@
 use Rattle.std.proofs.Common.{◌-◌, ◌≡◌, ◌≤◌, get_or}
 use Rattle.pide_base.specs.declared.part.Part.{Part}
-use Rattle.task_queue.specs.Tasks.{standing}
-use Rattle.task_queue.specs.Ready.{priority_of}
+use Rattle.core_tables.specs.Tasks.{standing}
+use Rattle.core_tables.specs.Ready.{priority_of}
 use Rattle.prover_core.proofs.settling.class_start.Given as goal
 
 abbrev pub invariant-halves : goal.invariant-halves

@@ -8,7 +8,7 @@ use Rattle.std.proofs.lemmas.List.Elements.{All-map}
 use Rattle.std.proofs.lemmas.Map.Entries.{All-lookup}
 use Rattle.std.proofs.lemmas.Map.Iter.{hash_map_turn, iter_end}
 use Rattle.pide_base.specs.declared.part.Part.{Part}
-use Rattle.task_queue.specs.Tasks.{standing}
+use Rattle.core_tables.specs.Tasks.{standing}
 use Rattle.prover_core.specs.Looked.{looked}
 use Rattle.prover_core.proofs.settling.held_below.Goals as goal
 

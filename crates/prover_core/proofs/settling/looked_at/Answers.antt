@@ -1,6 +1,6 @@
 use Rattle.std.proofs.Common.{rules, ◌≡◌, ◌++◌, length, false, ◌||◌, ap, ◌∙◌}
 use Rattle.std.specs.Prelude.{◌==◌}
-use Rattle.task_queue.specs.Tasks.{standing}
+use Rattle.core_tables.specs.Tasks.{standing}
 use Rattle.version_losses.specs.Leaving.{below}
 use Rattle.prover_core.specs.Settling.{is_looked_at}
 use Rattle.prover_core.proofs.LookedAt.{gathered}

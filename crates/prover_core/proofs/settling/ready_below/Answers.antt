@@ -1,7 +1,7 @@
 use Rattle.std.proofs.Common.{◌-◌, ◌<◌, ◌≤◌, sym, subst, arith}
 use Rattle.pide_base.specs.declared.part.Part.{Part}
-use Rattle.task_queue.specs.Tasks.{standing}
-use Rattle.task_queue.specs.Ready.{IsReadyPart}
+use Rattle.core_tables.specs.Tasks.{standing}
+use Rattle.core_tables.specs.Ready.{IsReadyPart}
 use Rattle.prover_core.proofs.settling.ready_below.Goals as goal
 
 pub returns-then-number-behind-clause-some : goal.returns-then-number-behind-clause-some

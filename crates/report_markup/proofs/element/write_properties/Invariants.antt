@@ -2,7 +2,7 @@
 -- left are fit, all are.
 use Rattle.std.proofs.Common.{◌≡◌, ◌++◌, string_bytes, drop, map}
 use Rattle.std.specs.List.{flat_map, AllByRecursion}
-use Rattle.xml_tree.specs.Normal.{IsAttribute}
+use Rattle.yxml.specs.Normal.{IsAttribute}
 use Rattle.yxml.specs.Spelling.{attribute_spelling}
 use Rattle.report_markup.specs.Element.{property_attribute}
 use Rattle.report_markup.proofs.element.write_properties.Given as goal

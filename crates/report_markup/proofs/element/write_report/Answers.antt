@@ -2,7 +2,7 @@
 use Rattle.std.proofs.Common.{◌≡◌, ◌++◌, ◌∷◌, [], List, map, string_bytes, subst, arith}
 use Rattle.std.specs.List.{AllByRecursion}
 use Rattle.pide_base.proofs.KnownOutcomes.{on_ok_always}
-use Rattle.xml_tree.specs.Normal.{IsAttribute}
+use Rattle.yxml.specs.Normal.{IsAttribute}
 use Rattle.yxml.specs.Spelling.{yxml}
 use Rattle.report_markup.specs.declared.property.Property.{Property}
 use Rattle.report_markup.specs.declared.report.Report.{Report}

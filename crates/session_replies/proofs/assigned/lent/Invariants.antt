@@ -1,5 +1,5 @@
 use Rattle.std.proofs.Common.{◌≡◌, ◌++◌, drop, map}
-use Rattle.reply_writing.specs.Lent.{rows_of}
+use Rattle.reply_messages.specs.Lent.{rows_of}
 use Rattle.session_replies.specs.Assigned.{node_of}
 use Rattle.session_replies.proofs.assigned.lent.Given as goal
 

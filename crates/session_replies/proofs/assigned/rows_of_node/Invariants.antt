@@ -1,5 +1,5 @@
 use Rattle.std.proofs.Common.{◌≡◌, ◌++◌, drop, map}
-use Rattle.reply_writing.specs.Lent.{row_of}
+use Rattle.reply_messages.specs.Lent.{row_of}
 use Rattle.exec_assign.specs.Told.{told_command}
 use Rattle.session_replies.specs.Assigned.{command_told}
 use Rattle.session_replies.proofs.assigned.rows_of_node.Given as goal

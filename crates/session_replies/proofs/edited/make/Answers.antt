@@ -1,5 +1,5 @@
 use Rattle.std.proofs.Common.{rules}
-use Rattle.sheet_edits.proofs.KnownEditSteps.{another, out_of_range, makes}
+use Rattle.editor_buffer.proofs.KnownEditSteps.{another, out_of_range, makes}
 use Rattle.session_replies.proofs.edited.make.Goals as goal
 
 pub returns-in-Ok-clause-text : goal.returns-in-Ok-clause-text

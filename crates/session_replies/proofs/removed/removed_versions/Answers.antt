@@ -1,5 +1,5 @@
 use Rattle.std.proofs.Common.{rules, ◌≡◌, ℕ, List, ap, sym, ◌∙◌}
-use Rattle.reply_writing.specs.declared.told.Told.TheVariants as tells
+use Rattle.reply_messages.specs.declared.told.Told.TheVariants as tells
 use Rattle.session_replies.specs.Spelling.{reply_spelling}
 use Rattle.session_replies.proofs.RisingNumbers.{from_rising, same_numbers}
 use Rattle.session_replies.proofs.ToldLists.{told_as}

@@ -1,6 +1,6 @@
 use Rattle.std.proofs.Common.{sym, subst}
 use Rattle.report_markup.proofs.KnownNumbers.{plain-decimal}
-use Rattle.xml_tree.specs.Normal.{IsPlain}
+use Rattle.yxml.specs.Normal.{IsPlain}
 use Rattle.test_editor.proofs.tally.told.Goals as goal
 
 pub from_str-requires : goal.from_str-requires

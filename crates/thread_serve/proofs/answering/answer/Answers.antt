@@ -4,7 +4,7 @@ use Rattle.hist_lock.specs.Passes.{view}
 use Rattle.worker_loop.specs.Held.{held_in}
 use Rattle.worker_loop.specs.Rounds.{GoesOn}
 use Rattle.message_input.specs.declared.answering.Halt.TheVariants as halt
-use Rattle.session_turns.specs.view_laws_below.Says.{says}
+use Rattle.view_laws.specs.Says.{says}
 use Rattle.thread_serve.specs.Reader.{Answers, IsReader, SeesWhy}
 use Rattle.thread_serve.proofs.Answered.{may_pass}
 use Rattle.thread_serve.proofs.Rested.{after_call, after_short, after_wait, of_error}

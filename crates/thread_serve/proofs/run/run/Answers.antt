@@ -4,7 +4,7 @@ use Rattle.std.proofs.Common.{◌+◌, ap, ◌∙◌}
 use Rattle.hist_lock.specs.Callers.{parent}
 use Rattle.hist_lock.specs.Passes.{view}
 use Rattle.hist_lock.specs.declared.view.View.{View}
-use Rattle.session_turns.specs.keeping_rules_below.Items.{SessionItem}
+use Rattle.document_session.specs.keeping_rules_below.Items.{SessionItem}
 use Rattle.thread_serve.proofs.Begun.{new_calls, new_rests, new_writer}
 use Rattle.thread_serve.proofs.Handing.{only_sent}
 use Rattle.thread_serve.proofs.run.run.Goals as goal

@@ -1,7 +1,7 @@
 -- What was tried is what was told, so what is made of it is what is made of what was told.
 use Rattle.std.proofs.Common.{◌≡◌, Err, IfOk, sym, subst, string_bytes}
-use Rattle.command_reports.specs.Tries.{Tries}
-use Rattle.command_reports.specs.declared.halt.Halt.{Halt}
+use Rattle.command_steps.specs.Tries.{Tries}
+use Rattle.command_steps.specs.declared.halt.Halt.{Halt}
 use Rattle.isar_rules.specs.Steps.{made_effect}
 use Rattle.toplevel.proofs.made.made_by.Goals as goal
 

@@ -1,7 +1,7 @@
 -- The aliases are those in force at the place.
 use Rattle.std.proofs.Common.{◌≡◌, IfOk, subst, ◌∙◌, ap}
 use Rattle.std.specs.Option.{option_copied}
-use Rattle.doc_blobs.specs.Needs.{AliasList, source_tokens}
+use Rattle.doc_nodes.specs.Needs.{AliasList, source_tokens}
 use Rattle.isar_rules.specs.Steps.{aliases_at, step_on}
 use Rattle.toplevel.proofs.stepping.step.Goals as goal
 

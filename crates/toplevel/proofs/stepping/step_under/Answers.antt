@@ -1,9 +1,9 @@
 -- What is read is what the rules read, and behind `by` nothing more tells.
 use Rattle.std.proofs.Common.{◌≡◌, ◌∷◌, [], IfOk, List, sym, subst, ap, ◌∙◌}
 use Rattle.std.specs.Option.{option_copied}
-use Rattle.outer_tokens.specs.ProperTokens.{proper_from}
-use Rattle.outer_tokens.specs.Words.{is_in_force}
-use Rattle.outer_tokens.specs.declared.token.Token.{Token}
+use Rattle.outer_syntax.specs.ProperTokens.{proper_from}
+use Rattle.outer_syntax.specs.Words.{is_in_force}
+use Rattle.outer_syntax.specs.declared.token.Token.{Token}
 use Rattle.language.specs.declared.made.Made.{Made}
 use Rattle.isar_rules.specs.declared.shape.Shape.TheVariants as shape
 use Rattle.isar_rules.specs.declared.state.State.{State}

@@ -1,8 +1,8 @@
 -- The names in force are those of the aliases.
 use Rattle.std.proofs.Common.{◌≡◌, IfOk, List, ℕ, subst}
-use Rattle.outer_tokens.specs.Headings.{proper}
-use Rattle.outer_tokens.specs.Lexing.{tokens_under}
-use Rattle.outer_tokens.specs.Words.{is_in_force}
+use Rattle.outer_syntax.specs.Headings.{proper}
+use Rattle.outer_syntax.specs.Lexing.{tokens_under}
+use Rattle.outer_syntax.specs.Words.{is_in_force}
 use Rattle.toplevel.proofs.tokens.source_tokens.Goals as goal
 
 pub returns : goal.returns

@@ -1,5 +1,5 @@
 use Rattle.std.proofs.Common.{◌≡◌, true, rules}
-use Rattle.import_rounds.specs.Looks.{marked}
+use Rattle.doc_nodes.specs.Looks.{marked}
 use Rattle.update_plans.proofs.AliveAre.{quiet_marked}
 use Rattle.update_plans.proofs.marking.is_untouched.Goals as goal
 

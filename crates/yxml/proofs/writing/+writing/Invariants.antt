@@ -1,6 +1,6 @@
 -- What is written, and the trees that are left, make up the body.
 use Rattle.std.proofs.Common.{◌≡◌, ◌++◌, string_bytes, drop}
-use Rattle.xml_tree.specs.Marks.{marks}
+use Rattle.yxml.specs.Marks.{marks}
 use Rattle.yxml.specs.Spelling.{spellings}
 use Rattle.yxml.proofs.writing.+writing.Given as goal
 

@@ -1,9 +1,9 @@
 -- The tokens are the one list that the text is lexed to.
 use Rattle.std.proofs.Common.{◌≡◌, ℕ, List, IfOk, ap, subst, ◌∙◌}
-use Rattle.outer_tokens.specs.Headings.{AreTokens}
-use Rattle.outer_tokens.specs.Lexing.{tokens_of}
-use Rattle.outer_tokens.specs.declared.token.Token.{Token}
-use Rattle.outer_tokens.proofs.KnownLexing.{are-tokens, same-lexed}
+use Rattle.outer_syntax.specs.Headings.{AreTokens}
+use Rattle.outer_syntax.specs.Lexing.{tokens_of}
+use Rattle.outer_syntax.specs.declared.token.Token.{Token}
+use Rattle.outer_syntax.proofs.KnownLexing.{are-tokens, same-lexed}
 use Rattle.command_spans.specs.Cutting.{spans_of}
 use Rattle.command_spans.specs.CutTexts.{Cuts, cut}
 use Rattle.command_spans.proofs.text_spans.Spans.of.Goals as goal

@@ -1,6 +1,6 @@
 -- The spans are the one list that the tokens are cut into.
 use Rattle.std.proofs.Common.{List, ap, subst}
-use Rattle.outer_tokens.specs.declared.token.Token.{Token}
+use Rattle.outer_syntax.specs.declared.token.Token.{Token}
 use Rattle.command_spans.specs.declared.span.Span.{Span}
 use Rattle.command_spans.specs.Spans.{AreSpansOf}
 use Rattle.command_spans.specs.Cutting.{spans_of}

@@ -2,7 +2,7 @@ use Rattle.std.proofs.Common.{◌≤◌, ◌∷◌, List, inl, refl, sym, ap, �
 use Rattle.pide_base.specs.declared.part.Part.{Part}
 use Rattle.prover_core.proofs.KnownResults.{on_ok}
 use Rattle.reply_outbox.specs.declared.item.Item.TheVariants.{Made}
-use Rattle.reply_writing.specs.declared.told.Told.TheVariants as tells
+use Rattle.reply_messages.specs.declared.told.Told.TheVariants as tells
 use Rattle.session_rules.specs.declared.entry.Entry.TheVariants as entry
 use Rattle.session_rules.specs.Services.{free_workers}
 use Rattle.keeping_rules.specs.session_replies_below.Spelling.{reply_spelling}

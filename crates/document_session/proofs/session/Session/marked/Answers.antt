@@ -1,5 +1,5 @@
 use Rattle.std.proofs.Common.{rules, ◌≡◌, Some, None, Ok, subst}
-use Rattle.exec_lists.specs.declared.results.NodeResults.{NodeResults}
+use Rattle.core_jobs.specs.declared.results.NodeResults.{NodeResults}
 use Rattle.message_values.specs.declared.editor_message.EditorMessage.TheVariants as asks
 use Rattle.core_rules.specs.Legal.{IsLegal}
 use Rattle.session_rules.specs.Session.{Session}

@@ -2,7 +2,7 @@ use Rattle.std.proofs.Common.{◌≡◌, ℕ, Ok, Err}
 use Rattle.std.specs.Prelude.{Vec}
 use Rattle.std.specs.declared.alloc.Global.{Global}
 use Rattle.message_values.specs.declared.editor_message.EditorMessage.TheVariants as asks
-use Rattle.sheet_edits.specs.declared.fault.PrepareError.TheVariants.{Refused}
+use Rattle.editor_buffer.specs.declared.fault.PrepareError.TheVariants.{Refused}
 use Rattle.keeping_rules.specs.Items.{session_in}
 use Rattle.document_session.proofs.Passed.{refused_look, told_look}
 use Rattle.document_session.proofs.session.Session.snapshot.Goals as goal

@@ -3,7 +3,7 @@ use Rattle.pide_base.specs.declared.part.Part.{Part}
 use Rattle.message_values.specs.Asked.{asked}
 use Rattle.message_values.specs.declared.editor_message.EditorMessage.TheVariants as asks
 use Rattle.prover_core.specs.Looked.{looked}
-use Rattle.reply_writing.specs.declared.told.Told.TheVariants as tells
+use Rattle.reply_messages.specs.declared.told.Told.TheVariants as tells
 use Rattle.session_rules.specs.declared.entry.Entry.TheVariants as entry
 use Rattle.session_rules.specs.Services.{mode_of}
 use Rattle.session_rules.proofs.KnownScript.{script_claims}

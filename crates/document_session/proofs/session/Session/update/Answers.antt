@@ -5,7 +5,7 @@ use Rattle.message_values.specs.Asked.{asked}
 use Rattle.buffer_rules.specs.Updates.{Asked}
 use Rattle.buffer_rules.specs.Preparing.{prepared}
 use Rattle.editor_buffer.specs.Preparation.{Preparation}
-use Rattle.sheet_edits.specs.declared.fault.PrepareError.TheVariants.{Refused}
+use Rattle.editor_buffer.specs.declared.fault.PrepareError.TheVariants.{Refused}
 use Rattle.session_rules.specs.Services.{mode_of}
 use Rattle.session_rules.specs.Session.{document}
 use Rattle.keeping_rules.specs.Kept.{session_of}

@@ -5,9 +5,9 @@ use Rattle.doc_nodes.specs.Names.{in_order}
 use Rattle.doc_nodes.specs.Imports.{NodeList}
 use Rattle.buffer_rules.specs.Preparing.{Buffer}
 use Rattle.buffer_rules.specs.Sheets.{SheetList}
-use Rattle.document_edits.specs.Standing.{Drafted, sheets_of}
+use Rattle.editor_buffer.specs.Standing.{Drafted, sheets_of}
 use Rattle.doc_nodes.specs.Heads.{heads}
-use Rattle.document_edits.specs.Heads.{KeepHeaders}
+use Rattle.editor_buffer.specs.Heads.{KeepHeaders}
 use Rattle.editor_buffer.proofs.FirstDraft.{drafted_copied}
 use Rattle.editor_buffer.proofs.KnownTold.{along, ok_along}
 use Rattle.editor_buffer.proofs.buffer.Buffer.drafted.Goals as goal

@@ -1,11 +1,11 @@
 use Rattle.std.proofs.Common.{◌≡◌, ℕ, List, Option, Some, sym, ap, subst, ◌∙◌}
 use Rattle.doc_nodes.specs.declared.node.Node.{Node}
 use Rattle.doc_nodes.specs.Imports.{NodeList}
-use Rattle.doc_blobs.specs.Needs.{AliasList}
+use Rattle.doc_nodes.specs.Needs.{AliasList}
 use Rattle.buffer_rules.specs.declared.sheet.Sheet.{Sheet}
 use Rattle.buffer_rules.specs.Nodes.{uncut_all}
-use Rattle.sheet_edits.specs.OpenSheet.{OpenSheet}
-use Rattle.document_edits.specs.Standing.{sheets_of, DraftedUnder, aliases_named}
+use Rattle.editor_buffer.specs.OpenSheet.{OpenSheet}
+use Rattle.editor_buffer.specs.Standing.{sheets_of, DraftedUnder, aliases_named}
 use Rattle.editor_buffer.proofs.KnownTold.{along}
 use Rattle.editor_buffer.proofs.BareNodes.{same_named}
 use Rattle.editor_buffer.proofs.CutPlaces.{here}

@@ -1,7 +1,7 @@
 use Rattle.std.proofs.Common.{Option, Some, None, Ok, Err, subst}
-use Rattle.doc_blobs.specs.Needs.{AliasList}
-use Rattle.sheet_edits.specs.declared.fault.PrepareError.{PrepareError}
-use Rattle.document_edits.specs.Standing.{sheets_of}
+use Rattle.doc_nodes.specs.Needs.{AliasList}
+use Rattle.editor_buffer.specs.declared.fault.PrepareError.{PrepareError}
+use Rattle.editor_buffer.specs.Standing.{sheets_of}
 use Rattle.editor_buffer.specs.Cutting.{GivesRemade, whole}
 use Rattle.editor_buffer.specs.declared.cutting.Remade.{Remade}
 use Rattle.editor_buffer.proofs.CutPlaces.{here, step_stay, step_put}

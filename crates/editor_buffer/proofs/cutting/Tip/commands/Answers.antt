@@ -4,8 +4,8 @@ use Rattle.std.proofs.lemmas.Bool.{OnTrue_at}
 use Rattle.doc_nodes.specs.declared.node.Entry.{Entry}
 use Rattle.shared_map.specs.Pairs.{found}
 use Rattle.doc_nodes.specs.Names.{in_order}
-use Rattle.node_commands.specs.Commands.{AskUnder}
-use Rattle.sheet_edits.specs.OpenSheet.{OpenSheet}
+use Rattle.editor_buffer.specs.Commands.{AskUnder}
+use Rattle.editor_buffer.specs.OpenSheet.{OpenSheet}
 use Rattle.editor_buffer.proofs.StandingNodes.{asked_so}
 use Rattle.editor_buffer.proofs.cutting.Tip.commands.Goals as goal
 

@@ -1,5 +1,5 @@
 use Rattle.std.proofs.Common.{◌≡◌, ◌≤◌, ◌-◌, length}
-use Rattle.nj_tokens.specs.Tokens.{cut_of, cut_from}
+use Rattle.nj_syntax.specs.Tokens.{cut_of, cut_from}
 use Rattle.nj_syntax.specs.Answer.{read_from}
 use Rattle.nj_syntax.specs.Seen.{seen}
 use Rattle.nj_syntax.proofs.state.State.read_by.Given as goal

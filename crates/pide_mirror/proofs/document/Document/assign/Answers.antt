@@ -6,7 +6,7 @@ use Rattle.buffer_rules.specs.Updates.{Asked}
 use Rattle.mirror_rules.specs.Images.{Image, Mirror}
 use Rattle.mirror_rules.specs.Unexpected.{is_refused, lists_unknown}
 use Rattle.mirror_rules.specs.Updates.{buffer_after, image_after, with_tip}
-use Rattle.known_versions.specs.Kept.{IsKept}
+use Rattle.pide_mirror.specs.Kept.{IsKept}
 use Rattle.pide_mirror.specs.Knowing.{AssignsSo, FitsUpdate, IsDocument, asked_of}
 use Rattle.pide_mirror.proofs.Assigning.{taken_assigns}
 use Rattle.pide_mirror.proofs.document.Document.assign.Goals as goal

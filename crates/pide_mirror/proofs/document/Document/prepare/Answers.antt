@@ -6,7 +6,7 @@ use Rattle.shared_map.specs.Pairs.{IsSorted}
 use Rattle.doc_nodes.specs.Names.{in_order}
 use Rattle.message_values.specs.declared.refusal.Refusal.TheVariants.{VersionNotHigher}
 use Rattle.buffer_rules.specs.Preparing.{prepared}
-use Rattle.sheet_edits.specs.Telling.{TellsError}
+use Rattle.editor_buffer.specs.Telling.{TellsError}
 use Rattle.mirror_rules.specs.Unexpected.{is_refused}
 use Rattle.pide_mirror.specs.Knowing.{asked_of}
 use Rattle.pide_mirror.proofs.Preparing.{fits_update, zip_length}

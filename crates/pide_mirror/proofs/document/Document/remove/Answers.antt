@@ -3,7 +3,7 @@ use Rattle.std.proofs.Common.{rules, not, sym, subst}
 use Rattle.std.specs.Prelude.{◌==◌, filter}
 use Rattle.std.specs.List.{list_any}
 use Rattle.std.proofs.lemmas.Fn.{filter_same}
-use Rattle.known_versions.specs.Kept.{AreKept}
+use Rattle.pide_mirror.specs.Kept.{AreKept}
 use Rattle.pide_mirror.proofs.Leaving.{kept_left}
 use Rattle.pide_mirror.proofs.document.Document.remove.Goals as goal
 

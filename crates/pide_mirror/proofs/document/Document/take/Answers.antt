@@ -1,6 +1,6 @@
 -- The version is the tip, and live.
 use Rattle.std.proofs.Common.{◌∷◌, ◌++◌, [], refl, sym, subst}
-use Rattle.known_versions.specs.Kept.{AreKept, IsKept}
+use Rattle.pide_mirror.specs.Kept.{AreKept, IsKept}
 use Rattle.pide_mirror.proofs.Leaving.{kept_more}
 use Rattle.pide_mirror.proofs.document.Document.take.Goals as goal
 

@@ -1,7 +1,7 @@
 -- It is made of the tip.
 use Rattle.std.proofs.Common.{sym, subst}
-use Rattle.known_versions.specs.Kept.{IsKept}
-use Rattle.known_versions.specs.declared.known.Known.{Known}
+use Rattle.pide_mirror.specs.Kept.{IsKept}
+use Rattle.pide_mirror.specs.declared.known.Known.{Known}
 use Rattle.mirror_rules.specs.Updates.{image_after}
 use Rattle.pide_mirror.proofs.Versioning.{some_version, no_version}
 use Rattle.pide_mirror.proofs.document.Document.version.Goals as goal

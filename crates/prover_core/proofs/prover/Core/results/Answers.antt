@@ -3,7 +3,7 @@ use Rattle.std.specs.Prelude.{Some}
 use Rattle.core_tables.specs.Rows.{execution_of}
 use Rattle.doc_nodes.specs.Imports.{place_of}
 use Rattle.core_tables.specs.Live.{version_of}
-use Rattle.exec_lists.specs.declared.results.NodeResults.{NodeResults}
+use Rattle.core_jobs.specs.declared.results.NodeResults.{NodeResults}
 use Rattle.prover_core.specs.States.{CoreState}
 use Rattle.prover_core.specs.Results.{AreResultsIn}
 use Rattle.prover_core.proofs.NodeShown.{results_so}

@@ -3,13 +3,13 @@ use Rattle.std.specs.Prelude.{is_some}
 use Rattle.text_words.specs.Members.{has}
 use Rattle.pide_base.specs.declared.part.Part.{Part}
 use Rattle.core_tables.specs.Rows.{execution_of}
-use Rattle.task_queue.specs.Tasks.{standing}
-use Rattle.task_queue.specs.Ready.{IsReadyPart}
+use Rattle.core_tables.specs.Tasks.{standing}
+use Rattle.core_tables.specs.Ready.{IsReadyPart}
 use Rattle.core_tables.specs.Live.{version_of}
 use Rattle.exec_rules.specs.declared.version.Version.{Version}
 use Rattle.core_rules.specs.Doc.{doc}
 use Rattle.core_rules.specs.Stuck.{stuck_in}
-use Rattle.exec_lists.specs.Parts.{is_unfinished}
+use Rattle.core_jobs.specs.Parts.{is_unfinished}
 use Rattle.version_losses.specs.Losses.{number_of}
 use Rattle.prover_core.specs.States.{CoreState}
 use Rattle.prover_core.specs.Looked.{looked}

@@ -3,11 +3,11 @@ use Rattle.std.proofs.lemmas.List.{length-map, length-reverse}
 use Rattle.std.proofs.Math.Nat.{min-le_left, min-le_right}
 use Rattle.std.specs.Prelude.{min, flat_map, vec_capacity}
 use Rattle.std.specs.HashMap.{hash_map_len, spare}
-use Rattle.task_queue.specs.declared.task.Task.{Task}
+use Rattle.core_tables.specs.declared.task.Task.{Task}
 use Rattle.std.specs.Option.{option_map}
 use Rattle.std.specs.List.{AllByRecursion}
 use Rattle.text_words.specs.Members.{has}
-use Rattle.task_queue.specs.Tasks.{standing}
+use Rattle.core_tables.specs.Tasks.{standing}
 use Rattle.core_tables.specs.Live.{version_of}
 use Rattle.core_rules.specs.declared.event.Event.{Event}
 use Rattle.core_rules.specs.Doc.{doc}

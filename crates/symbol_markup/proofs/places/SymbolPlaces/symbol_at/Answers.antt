@@ -1,7 +1,7 @@
 -- The table's answers in the words of the text's symbols.
 use Rattle.std.proofs.Common.{◌≡◌, inl, inr, Some, ◌+◌, ◌≤◌, length, refl, ap, ◌∙◌, sym, subst}
 use Rattle.std.specs.Prelude.{slice_get}
-use Rattle.symbols.specs.Boundaries.{LiesBetween}
+use Rattle.outer_syntax.specs.Boundaries.{LiesBetween}
 use Rattle.symbol_markup.specs.Places.{symbol_place}
 use Rattle.symbol_markup.proofs.places.SymbolPlaces.symbol_at.Goals as goal
 

@@ -5,7 +5,7 @@ use Rattle.exec_rules.specs.Kept.{BlobList}
 use Rattle.doc_nodes.specs.Imports.{NodeList}
 use Rattle.exec_assign.specs.Untouched.{AreChanged}
 use Rattle.update_plans.specs.Alive.{HaveCommands}
-use Rattle.document_edits.specs.NameSets.{NameSet}
+use Rattle.editor_buffer.specs.NameSets.{NameSet}
 use Rattle.test_editor.specs.Tally.{counting}
 use Rattle.test_editor.specs.Desk.{DeskState, IsPreparedBy}
 use Rattle.test_editor.proofs.Moved.{told_as, later, updated}

@@ -1,7 +1,7 @@
 -- The heading of a text is that of its header, where it has one.
 use Rattle.std.proofs.Common.{◌≡◌, Some, IfOk, ap, subst, ◌∙◌, rules}
-use Rattle.doc_headers.specs.Headers.{HasHeader}
-use Rattle.doc_headers.specs.Reading.{header_in}
+use Rattle.outer_syntax.specs.Headers.{HasHeader}
+use Rattle.outer_syntax.specs.Reading.{header_in}
 use Rattle.text_check.specs.OneText.{name_or_scratch}
 use Rattle.text_check.specs.declared.heading.Heading.{Heading}
 use Rattle.text_check.specs.Headings.{headed, heading_of}

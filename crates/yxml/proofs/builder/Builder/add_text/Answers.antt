@@ -1,7 +1,7 @@
 -- The text joins the one that goes on.
 use Rattle.std.proofs.Common.{subst, sym, ◌∷◌, []}
 use Rattle.std.proofs.lemmas.Result.{on_ok_weaker}
-use Rattle.xml_tree.specs.Marks.{words}
+use Rattle.yxml.specs.Marks.{words}
 use Rattle.yxml.specs.Builder.{HasRead}
 use Rattle.yxml.proofs.Builders.{takes-text}
 use Rattle.yxml.proofs.builder.Builder.add_text.Goals as goal

@@ -1,4 +1,0 @@
-mod Handing
-pub mod KnownBegins
-pub mod KnownCut
-mod Making

@@ -1,6 +1,0 @@
-mod Rounds
-mod Cuts
-mod Joined
-mod Steps
-mod Beside
-mod Batch

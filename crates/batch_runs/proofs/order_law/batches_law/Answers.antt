@@ -1,8 +1,0 @@
-use Rattle.batch_runs.proofs.Joined.{before, joins}
-use Rattle.batch_runs.proofs.order_law.batches_law.Goals as goal
-
-pub returns-clause-join : goal.returns-clause-join
-returns-clause-join c = joins
-
-pub returns-clause-before : goal.returns-clause-before
-returns-clause-before c = before

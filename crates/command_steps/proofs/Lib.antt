@@ -1,0 +1,6 @@
+mod DescribedLemmas
+mod ClosedLemmas
+mod ModeLemmas
+mod MovedLemmas
+mod LineLemmas
+mod NameLemmas

@@ -1,0 +1,4 @@
+pub mod Stated
+pub mod Tries
+pub mod Ordered
+pub mod Listing

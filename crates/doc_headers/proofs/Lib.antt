@@ -1,4 +1,0 @@
-mod HeaderLaws
-mod TakenLemmas
-mod ReadLemmas
-mod StopLemmas

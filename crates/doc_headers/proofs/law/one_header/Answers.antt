@@ -1,5 +1,0 @@
-use Rattle.doc_headers.proofs.HeaderLaws.{one-header, header-apart, header-either, header-just, header-none}
-use Rattle.doc_headers.proofs.law.one_header.Goals as goal
-
-pub returns : goal.returns
-returns c = record { just = header-just; none = header-none; either = header-either; one = one-header; apart = header-apart }

@@ -1,9 +1,0 @@
-use Rattle.std.proofs.Common.{◌-◌, ◌≤◌, length}
-use Rattle.doc_headers.proofs.ReadLemmas.{IsRead}
-use Rattle.doc_headers.proofs.read.header.Given as goal
-
-abbrev pub invariant-loop-token : goal.invariant-loop-token
-invariant-loop-token l = (l.place ≤ length l.text) × IsRead l.text l.place l.reading
-
-abbrev pub decreases-loop-token : goal.decreases-loop-token
-decreases-loop-token l = length l.text - l.place

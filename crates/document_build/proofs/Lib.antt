@@ -1,8 +1,0 @@
-mod Kept
-mod AllDone
-mod Nothing
-mod BatchSteps
-mod Gathered
-mod Rounds
-mod AllBatches
-mod Whole

@@ -1,4 +1,0 @@
-pub mod Standing
-pub mod Heads
-pub mod NameSets
-pub mod BlobSteps

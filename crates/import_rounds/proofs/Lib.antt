@@ -1,7 +1,0 @@
-mod Counts
-pub mod KnownRising
-pub mod KnownFiltered
-pub mod KnownSteps
-mod RoundLemmas
-pub mod KnownRounds
-pub mod KnownOrdered

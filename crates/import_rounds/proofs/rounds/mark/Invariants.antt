@@ -1,7 +1,0 @@
-use Rattle.std.proofs.Common.{◌≡◌, ℕ, ◌||◌, take}
-use Rattle.text_words.specs.Members.{has}
-use Rattle.import_rounds.specs.Looks.{marked}
-use Rattle.import_rounds.proofs.rounds.mark.Given as goal
-
-abbrev pub invariant-places : goal.invariant-places
-invariant-places l = (p : ℕ) → marked l.marks p ≡ (marked l.fn.marks p || has (take l.place-index l.places) p)

@@ -1,7 +1,0 @@
-use Rattle.std.proofs.Common.{◌≡◌, take}
-use Rattle.mirror_rules.specs.Rows.{rows_by}
-use Rattle.known_versions.specs.Kept.{told_rows}
-use Rattle.known_versions.proofs.rows.rows_of.Given as goal
-
-abbrev pub invariant-entries : goal.invariant-entries
-invariant-entries l = told_rows l.made.items ≡ rows_by (take l.entry-index l.entries) (told_rows l.rows)

@@ -1,5 +1,0 @@
-use Rattle.std.proofs.Common.{◌+◌, length}
-use Rattle.markup_tree.proofs.balance.+joined.Given as goal
-
-abbrev pub decreases-joined : goal.decreases-joined
-decreases-joined l = length l.left.now + length l.right.now

@@ -1,5 +1,0 @@
-use Rattle.std.proofs.Common.{length}
-use Rattle.markup_tree.proofs.search.+innermost.Given as goal
-
-abbrev pub decreases-innermost : goal.decreases-innermost
-decreases-innermost l = length l.tree.now

@@ -1,5 +1,0 @@
-use Rattle.std.proofs.Common.{length}
-use Rattle.markup_tree.proofs.search.+push_all.Given as goal
-
-abbrev pub decreases-push_all : goal.decreases-push_all
-decreases-push_all l = length l.tree.now

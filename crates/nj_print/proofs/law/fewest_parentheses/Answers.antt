@@ -1,5 +1,0 @@
-use Rattle.nj_print.proofs.ReadLemmas.{fewest_parentheses}
-use Rattle.nj_print.proofs.law.fewest_parentheses.Goals as goal
-
-pub returns : goal.returns
-returns c = λ a b text tokens stop whole deep spellable h cut k same. fewest_parentheses a b text tokens stop whole deep spellable h cut k same

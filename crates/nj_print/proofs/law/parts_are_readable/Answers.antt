@@ -1,5 +1,0 @@
-use Rattle.nj_print.proofs.KnownReadable.{negated_readable, operands_readable, instance_readable}
-use Rattle.nj_print.proofs.law.parts_are_readable.Goals as goal
-
-pub returns : goal.returns
-returns c = record { negated = negated_readable; operands = operands_readable; instances = instance_readable }

@@ -1,6 +1,0 @@
-use Rattle.nj_print.proofs.ReadLemmas.{reads_back}
-use Rattle.nj_print.proofs.ParsedLemmas.{print_parsed}
-use Rattle.nj_print.proofs.law.print_is_parsed.Goals as goal
-
-pub returns : goal.returns
-returns c = λ a text answer spellable prints h. print_parsed a text answer (reads_back a text spellable prints) h

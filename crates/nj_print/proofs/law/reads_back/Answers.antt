@@ -1,5 +1,0 @@
-use Rattle.nj_print.proofs.ReadLemmas.{reads_back}
-use Rattle.nj_print.proofs.law.reads_back.Goals as goal
-
-pub returns : goal.returns
-returns c = λ a text spellable h. reads_back a text spellable h

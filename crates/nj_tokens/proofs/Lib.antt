@@ -1,4 +1,0 @@
-mod LexisLemmas
-pub mod KnownTokens
-pub mod KnownNames
-mod TokensLemmas

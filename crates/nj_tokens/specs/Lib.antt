@@ -1,4 +1,0 @@
-pub mod Lexis
-pub mod Tokens
-pub mod Next
-pub mod Laws

@@ -1,6 +1,0 @@
-pub mod KnownCommands
-mod Joined
-mod KeptSources
-mod Spreading
-mod LastReached
-mod EqualRuns

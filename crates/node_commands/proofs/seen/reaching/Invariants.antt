@@ -1,9 +1,0 @@
-use Rattle.std.proofs.Common.{◌≡◌, ◌++◌, length}
-use Rattle.node_commands.specs.Spread.{spread}
-use Rattle.node_commands.proofs.seen.reaching.Given as goal
-
-abbrev pub invariant-each : goal.invariant-each
-invariant-each l = l.all.items ++ spread l.reach l.rest ≡ spread 0 l.fn.ranges
-
-abbrev pub decreases-each : goal.decreases-each
-decreases-each l = length l.rest

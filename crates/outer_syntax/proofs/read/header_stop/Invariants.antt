@@ -1,0 +1,10 @@
+use Rattle.std.proofs.Common.{◌≡◌, ◌-◌, ◌≤◌, length}
+use Rattle.outer_syntax.specs.declared.read.Reading.{Reading}
+use Rattle.outer_syntax.proofs.ReadLemmas.{IsRead}
+use Rattle.outer_syntax.proofs.read.header_stop.Given as goal
+
+abbrev pub invariant-loop-token : goal.invariant-loop-token
+invariant-loop-token l = (l.place ≤ length l.text) × (r : Reading) × (r.stage ≡ l.stage) × IsRead l.text l.place r
+
+abbrev pub decreases-loop-token : goal.decreases-loop-token
+decreases-loop-token l = length l.text - l.place

@@ -1,0 +1,17 @@
+pub mod Names
+pub mod Symbols
+pub mod Boundaries
+pub mod Kinds
+pub mod Brackets
+pub mod Forms
+pub mod Rows
+pub mod Words
+pub mod Tokens
+pub mod Renaming
+pub mod Headings
+pub mod Stages
+pub mod Lexing
+pub mod Contents
+pub mod ProperTokens
+pub mod Headers
+pub mod Reading

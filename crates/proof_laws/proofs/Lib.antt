@@ -1,8 +1,0 @@
-mod Layers
-mod Forms
-mod Steps
-mod Complete
-mod Rules
-mod Quantifiers
-mod Sound
-mod Cases

@@ -1,2 +1,0 @@
-pub mod Proofs
-pub mod Small

@@ -1,3 +1,0 @@
-mod ClosedLemmas
-mod ModeLemmas
-mod MovedLemmas

@@ -1,0 +1,12 @@
+pub mod Bodies
+pub mod Chunks
+pub mod Forms
+pub mod Lent
+pub mod Replies
+pub mod Fits
+pub mod Found
+pub mod Kinds
+pub mod Laws
+pub mod Marks
+pub mod FoundReplies
+pub mod Tags

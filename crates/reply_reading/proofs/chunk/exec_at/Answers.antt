@@ -1,6 +1,0 @@
--- An id is a number.
-use Rattle.reply_reading.proofs.Told.{id_told}
-use Rattle.reply_reading.proofs.chunk.exec_at.Goals as goal
-
-pub returns : goal.returns
-returns c = id_told c.args.chunk.now c.in-Some.number c.new.result c.in-Some.ensures c.new.ensures

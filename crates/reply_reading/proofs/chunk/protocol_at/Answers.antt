@@ -1,6 +1,0 @@
--- By its number.
-use Rattle.reply_reading.proofs.Told.{protocol_told}
-use Rattle.reply_reading.proofs.chunk.protocol_at.Goals as goal
-
-pub returns : goal.returns
-returns c = protocol_told c.args.chunk.now _ c.new.result c.in_ok-number_at.ensures c.new.ensures

@@ -1,6 +1,0 @@
--- By its number.
-use Rattle.reply_reading.proofs.Told.{worker_told}
-use Rattle.reply_reading.proofs.chunk.worker_at.Goals as goal
-
-pub returns : goal.returns
-returns c = worker_told c.args.chunk.now _ c.new.result c.in_ok-number_at.ensures c.new.ensures

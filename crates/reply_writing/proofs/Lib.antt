@@ -1,2 +1,0 @@
-mod Messages
-pub mod KnownNodes

@@ -1,5 +1,0 @@
-pub mod Bodies
-pub mod Chunks
-pub mod Forms
-pub mod Lent
-pub mod Replies

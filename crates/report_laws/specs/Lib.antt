@@ -1,4 +1,0 @@
-pub mod Headed
-pub mod PlainReports
-pub mod OddSources
-pub mod Placed

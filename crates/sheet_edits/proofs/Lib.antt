@@ -1,6 +1,0 @@
-pub mod KnownTelling
-pub mod KnownEditSteps
-mod MovedRanges
-mod SheetLemmas
-mod HeaderNodes
-mod CutLemmas

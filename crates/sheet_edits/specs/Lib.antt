@@ -1,4 +1,0 @@
-pub mod Telling
-pub mod OpenSheet
-pub mod Within
-pub mod Held

@@ -1,5 +1,0 @@
-use Rattle.suggest_laws.proofs.SameAliases.{aliases_same}
-use Rattle.suggest_laws.proofs.aliases.headers_law.Goals as goal
-
-pub returns : goal.returns
-returns c = aliases_same

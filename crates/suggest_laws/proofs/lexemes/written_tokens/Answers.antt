@@ -1,5 +1,0 @@
-use Rattle.suggest_laws.proofs.LexemeTokens.{lexemes_are}
-use Rattle.suggest_laws.proofs.lexemes.written_tokens.Goals as goal
-
-pub returns : goal.returns
-returns c is_command lexemes fitting = lexemes_are is_command lexemes fitting

@@ -1,8 +1,0 @@
-use Rattle.suggest_laws.proofs.SuggestedCommands.{aliased_command, bare_command}
-use Rattle.suggest_laws.proofs.texts.suggested_command.Goals as goal
-
-pub returns-clause-aliased : goal.returns-clause-aliased
-returns-clause-aliased c = aliased_command
-
-pub returns-clause-bare : goal.returns-clause-bare
-returns-clause-bare c = bare_command

@@ -1,6 +1,0 @@
-use Rattle.std.proofs.Common.{rules, arith}
-use Rattle.std.proofs.lemmas.List.{same_lists, places}
-use Rattle.task_queue.proofs.deque.PartDeque.center.Goals as goal
-
-pub returns-clause-parts : goal.returns-clause-parts
-returns-clause-parts c = same_lists _ _ (search (rules, places)) (λ k d h. grind (arith, places))

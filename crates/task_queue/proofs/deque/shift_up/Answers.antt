@@ -1,5 +1,0 @@
-use Rattle.task_queue.proofs.Pieces.{front_of}
-use Rattle.task_queue.proofs.deque.shift_up.Goals as goal
-
-pub returns-clause-moved : goal.returns-clause-moved
-returns-clause-moved c = front_of _ _ _ _ _ c.requires.order c.requires.within c.rotate_left.ensures.after

@@ -1,4 +1,0 @@
-use Rattle.task_queue.proofs.waiters.Waiters.take_link.Goals as goal
-
-pub returns-clause-link : goal.returns-clause-link
-returns-clause-link c e n = c.remove.ensures.updates.0 (record { input = e; number = n })

@@ -1,0 +1,3 @@
+mod BoardBytes
+mod StillHeld
+mod Wanted

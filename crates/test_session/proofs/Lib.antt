@@ -1,2 +1,0 @@
-mod StillHeld
-mod Wanted

@@ -1,6 +1,0 @@
-use Rattle.hist_lock.specs.Known.{IsSameCaller}
-use Rattle.hist_lock.specs.Passes.{view, IsPassOf}
-use Rattle.test_threads.proofs.turns.work.Given as goal
-
-abbrev pub invariant-loop-text : goal.invariant-loop-text
-invariant-loop-text g l = IsPassOf l.lock l.pass × IsSameCaller (view l.initial.pass) (view l.pass)

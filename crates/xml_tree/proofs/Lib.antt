@@ -1,4 +1,0 @@
-pub mod KnownMarks
-pub mod KnownNesting
-pub mod KnownRebuilt
-pub mod KnownBuilding

@@ -1,9 +1,0 @@
--- Both are collected tree by tree.
-use Rattle.xml_tree.proofs.KnownMarks.{marks-append, height-append}
-use Rattle.xml_tree.proofs.laws.marks_of_joined_bodies.Goals as goal
-
-pub returns-clause-marks : goal.returns-clause-marks
-returns-clause-marks c = marks-append
-
-pub returns-clause-height : goal.returns-clause-height
-returns-clause-height c = height-append

@@ -1,4 +1,0 @@
-pub mod Bodies
-pub mod Marks
-pub mod Names
-pub mod Normal
