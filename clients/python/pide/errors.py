@@ -3,10 +3,18 @@
 from __future__ import annotations
 
 import enum
+import functools
+import pkgutil
+from dataclasses import dataclass
+from typing import Mapping
 
 
 class PideError(Exception):
     """Any error of this package."""
+
+
+class UsageError(PideError, ValueError):
+    """What is asked for can't be sent, or makes no sense yet. Nothing was sent, and the session goes on."""
 
 
 class ProtocolFault(PideError):
@@ -77,16 +85,21 @@ class RefusedError(PideError):
         self.function = function
 
 
-STATUS_MEANINGS = {
-    2: "the words are no command",
-    3: "reading failed",
-    4: "writing failed",
-    5: "a header line is none, or passes a limit",
-    6: "the input ended within a message",
-    7: "the input is too long",
-    8: "memory is short",
-    9: "a text is no UTF-8",
-}
+@dataclass(frozen=True)
+class Status:
+    """An exit status of the program: its number, its name in README, and a few words on it."""
+
+    number: int
+    name: str
+    meaning: str
+
+
+@functools.lru_cache(maxsize=None)
+def statuses() -> Mapping[int, Status]:
+    """The program's exit statuses by number, as `statuses.tsv` beside this module lists them."""
+    text = (pkgutil.get_data(__package__, "statuses.tsv") or b"").decode()
+    rows = (line.split("\t") for line in text.splitlines() if not line.startswith("#"))
+    return {int(number): Status(int(number), name, meaning) for number, name, meaning in rows}
 
 
 class ProgramError(PideError):
@@ -98,6 +111,8 @@ class ProgramError(PideError):
 
 
 def ended(status: int) -> ProgramError:
-    """The error that says that the program has ended with this status."""
-    meaning = STATUS_MEANINGS.get(status, "it was ended from outside" if status < 0 else "")
-    return ProgramError(f"the program has ended with status {status}" + (f": {meaning}" if meaning else ""), status)
+    """The error that says that the program has ended with this status; a negative one is a signal's number."""
+    if status < 0:
+        return ProgramError(f"the program was ended by signal {-status}", status)
+    known = statuses().get(status)
+    return ProgramError(f"the program has ended with status {status}" + (f": {known.meaning}" if known else ""), status)
