@@ -1,4 +1,4 @@
-"""Where the program is for tests that need it: that of PIDE, else the one that is built in the checkout."""
+"""Where the program is for tests that need it: that of PIDE, else the one that is built from this checkout."""
 
 import os
 import shutil
@@ -12,8 +12,10 @@ PYTHON = TOP / "clients" / "python"
 
 
 def _program():
-    built = TOP / "crates" / "pide_main" / "out" / "pide_main"
-    return shutil.which(os.environ.get("PIDE") or str(built))
+    if "PIDE" in os.environ:
+        return shutil.which(os.environ["PIDE"])
+    asked = subprocess.run([str(TOP / "pide"), "--which"], stdout=subprocess.PIPE, text=True, check=False)
+    return asked.stdout.strip() or None
 
 
 PROGRAM = _program()
