@@ -38,7 +38,7 @@ def parts_of(body: Body) -> List[Body]:
 
 
 def part(shape: Shape[A], child: int, body: Body) -> A:
-    """The value of a body's child; a fault in it is told from the whole body."""
+    """The value of a body's child; a fault in it is reported from the whole body."""
     try:
         return shape.get(body)
     except DataFault as fault:

@@ -69,8 +69,10 @@ def plain_reports(text: str) -> Optional[Tuple[Report, ...]]:
 
 def _plain_report(found: re.Match[str]) -> Report:
     kind, start, stop, properties, text = found.groups()
-    pairs = tuple(tuple(pair.split("=", 1)) for pair in properties.split("\x06")[1:]) if properties else ()
-    return Report(int(start), int(stop), kind, pairs, text)
+    if not properties:
+        return Report(int(start), int(stop), kind, (), text)
+    pairs = (pair.partition("=") for pair in properties[1:].split("\x06"))
+    return Report(int(start), int(stop), kind, tuple((key, value) for key, _, value in pairs), text)
 
 
 def of_kind(reports: Sequence[Report], kind: str) -> List[Report]:
@@ -82,3 +84,14 @@ def of_kind(reports: Sequence[Report], kind: str) -> List[Report]:
     if None in matches:
         return of_kind(reports.items, kind)
     return [_plain_report(found) for found in matches if found]
+
+
+def last_of_kind(reports: Sequence[Report], kind: str) -> Optional[Report]:
+    """The last report of this kind, or None; where the reports are unread, the others stay so."""
+    if not isinstance(reports, Unread):
+        return next((report for report in reversed(reports) if report.kind == kind), None)
+    start = reports.text.rfind(f"\x05\x06{kind}\x06")
+    if start < 0:
+        return None
+    found = _PLAIN.match(reports.text, start)
+    return last_of_kind(reports.items, kind) if found is None else _plain_report(found)

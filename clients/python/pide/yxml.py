@@ -2,16 +2,13 @@
 
 from __future__ import annotations
 
-import re
 from typing import List, NamedTuple, Optional, Tuple, Union
 
-from .errors import YxmlFault
+from .errors import UsageError, YxmlFault
 
 X = "\x05"
 Y = "\x06"
 DEEPEST = 200
-
-_MARK = re.compile("[\x05\x06]")
 
 
 class Element(NamedTuple):
@@ -29,7 +26,7 @@ Body = Tuple[Tree, ...]
 def yxml_text(body: Body) -> str:
     """The text of a body.
 
-    Raises ValueError where a name, key, value or text has the character 5 or 6.
+    Raises UsageError where a name, key, value or text has the character 5 or 6.
     """
     pieces: List[str] = []
     _write(pieces, body)
@@ -50,8 +47,8 @@ def _write(pieces: List[str], body: Body) -> None:
 
 
 def _plain(text: str) -> str:
-    if _MARK.search(text):
-        raise ValueError("a text with the character 5 or 6 can't be told in YXML")
+    if X in text or Y in text:
+        raise UsageError("a text has the character 5 or 6, which can't be sent")
     return text
 
 

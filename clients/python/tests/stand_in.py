@@ -1,11 +1,15 @@
 """A stand-in for the program, for tests of the client alone: it answers as one word of its command line says.
 
 `replies` answers each message at once, and never reads on while a reply isn't taken; `stops` ends with status 8 at a
-settle; `babbles` answers a settle by what is no reply; `other` answers it by another reply than was asked for.
+settle; `babbles` answers a settle by what is no reply; `other` answers it by another reply than was asked for;
+`stays` answers, and ends neither with its input nor when it is terminated; `reports` has 4 MB of reports before each
+answer.
 """
 
 import os
+import signal
 import sys
+import time
 
 from pide.framing import Frames, message_bytes
 from pide.messages import AskSnapshot, RemoveVersions, Settle, Update
@@ -23,6 +27,9 @@ def write(reply):
 
 
 def answer(message, kind):
+    if kind == "reports":
+        for number in range(1, 5):
+            write(Reported(number, "eval", (Report(0, 3, "error", (), "x" * LENGTH),)))
     if isinstance(message, Update):
         write(Assigned(message.version, ()))
     elif isinstance(message, Settle):
@@ -47,9 +54,13 @@ def settle(message, kind):
 
 def main(kind):
     frames = Frames()
+    if kind == "stays":
+        signal.signal(signal.SIGTERM, signal.SIG_IGN)
     while True:
         piece = os.read(0, 1 << 16)
         if not piece:
+            if kind == "stays":
+                time.sleep(60)
             return
         for chunks in frames.feed(piece):
             try:

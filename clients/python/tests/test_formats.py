@@ -3,8 +3,8 @@
 import unittest
 
 from pide.data import BOOL, INT, STRING, get_variant, list_of, option, pair, put_variant
-from pide.errors import DataFault, ProtocolFault, YxmlFault
-from pide.framing import message_bytes
+from pide.errors import DataFault, FrameFault, ProtocolFault, YxmlFault
+from pide.framing import Frames, message_bytes
 from pide.reports import Report
 from pide.wire import reply_of
 from pide.yxml import Element, parse_body, yxml_text
@@ -88,6 +88,32 @@ class Replies(unittest.TestCase):
         self.assertRaises(ProtocolFault, lambda: snapshot.errors)
         self.assertRaises(ProtocolFault, reply_of, [b"markup", b"1", b"A", b"", b"x", b"0"])
 
+    def test_what_is_spelled_otherwise_is_read_strictly(self):
+        for chunks in (
+            [b"settled", b"01", b""],
+            [b"settled", b"0", b""],
+            [b"settled", b"1\n", b""],
+            [b"settled", b"1", shown("␅␆:␅0␅␆␅").encode()],
+            [b"settled", b"1", shown("␅␆:␅1␅␆␅\n").encode()],
+            [b"report", b"1", b"Eval", b""],
+            [b"report", b"1", b"eval"],
+            [b"markup", b"1", b"A\n", b"", b"", b"0"],
+            [b"markup", b"1", b"A", b"", b"", b"2"],
+            [b"markup", b"\xff", b"A", b"", b"", b"0"],
+            [b"built", b"1A", b""],
+            [b"other"],
+        ):
+            with self.subTest(chunks):
+                self.assertRaises(ProtocolFault, reply_of, chunks)
+        doubled = shown("␅␅␆:␅7␅␆␅").encode()
+        self.assertEqual(reply_of([b"settled", b"1", doubled]).stuck, (7,))
+        self.assertEqual(reply_of([b"markup", b"1", b"A", b"", doubled, b"1"]).pending, (7,))
+
+    def test_bytes_that_are_no_utf8_are_a_fault_when_they_are_looked_at(self):
+        snapshot = reply_of([b"markup", b"1", b"A", b"\xff", b"", b"0"])
+        self.assertRaises(ProtocolFault, lambda: snapshot.errors)
+        self.assertRaises(ProtocolFault, lambda: len(snapshot.reports))
+
     def test_reports_of_one_kind_are_read_alone(self):
         text = shown("␅␆command␆offset=0␆end_offset=3␆name=end␅␅␆␅␅␆error␆offset=0␆end_offset=3␅ä␅␆␅")
         snapshot = reply_of([b"markup", b"1", b"A", text.encode(), b"", b"0"])
@@ -96,12 +122,41 @@ class Replies(unittest.TestCase):
         self.assertEqual(snapshot.of_kind("proved"), [])
 
 
-class Frames(unittest.TestCase):
+class Framing(unittest.TestCase):
     def test_a_message_has_1_to_16_chunks(self):
         self.assertEqual(message_bytes([b"settled", b"1", b""]), b"7,1,0\nsettled1")
         self.assertRaises(ValueError, message_bytes, [])
         self.assertRaises(ValueError, message_bytes, [b""] * 17)
         self.assertRaises(ValueError, message_bytes, [bytes((1 << 24) + 1)])
+
+    def test_long_chunks_in_pieces_and_messages_behind_them(self):
+        messages = [[b"x" * 100_000, b""], [b""], [b"y", b"z" * 70_000], [b"a"]] * 3
+        stream = b"".join(map(message_bytes, messages))
+        for size in (1, 100, 4096, 65536, len(stream)):
+            frames = Frames(None)
+            found = []
+            for start in range(0, len(stream), size):
+                found += frames.feed(stream[start : start + size])
+            frames.finish()
+            self.assertEqual(found, messages)
+
+    def test_faults_are_told_with_the_place_where_the_message_begins(self):
+        for behind, name in (
+            (b"x\n", "BadHeader"),
+            (b"1" * 201, "BadHeader"),
+            (b"1\r\r\n", "BadHeader"),
+            (b",".join([b"0"] * 17) + b"\n", "TooMany"),
+            (b"1,16777217\n", "TooLong"),
+            (b"3\nab", "Truncated"),
+            (b"3", "Truncated"),
+        ):
+            for cut in range(len(behind)):
+                with self.subTest(behind, cut=cut), self.assertRaises(FrameFault) as raised:
+                    frames = Frames()
+                    self.assertLessEqual(len(frames.feed(b"2\nab" + behind[:cut])), 1)
+                    frames.feed(behind[cut:])
+                    frames.finish()
+                self.assertEqual((raised.exception.name, raised.exception.at), (name, 4))
 
 
 if __name__ == "__main__":

@@ -3,11 +3,25 @@
 import os
 import sys
 import threading
+import time
 import unittest
 from pathlib import Path
 from unittest import mock
 
-from pide import Change, Insert, ProgramError, ProtocolFault, Refusal, RefusedError, Remove, Session, opened
+from pide import (
+    Change,
+    Insert,
+    Perspective,
+    PideError,
+    ProgramError,
+    ProtocolFault,
+    Refusal,
+    RefusedError,
+    Remove,
+    Session,
+    UsageError,
+    opened,
+)
 from pide.messages import AskSnapshot
 
 from .program import PROGRAM, PYTHON, needs_program
@@ -46,6 +60,53 @@ class WithAStandIn(unittest.TestCase):
             answers = [session.ask(AskSnapshot(1, "A", (Insert(0, text),))) for _ in range(40)]
             for answer in answers:
                 self.assertEqual(len(answer.result(60).reports[0].text), 1 << 20)
+
+    def test_who_is_handed_reports_may_ask_while_the_pipes_are_full(self):
+        answers = []
+        text = "x" * (1 << 20)
+        handed = threading.Event()
+
+        def ask(_):
+            if len(answers) < 12:
+                answers.append(session.ask(AskSnapshot(1, "A", (Insert(0, text),))))
+            else:
+                handed.set()
+
+        with session_with("reports", on_report=ask) as session:
+            session.update({})
+            self.assertTrue(handed.wait(60))
+            for answer in answers:
+                self.assertEqual(answer.result(60).node, "A")
+
+    def test_a_program_that_stays_is_killed_when_the_patience_is_over(self):
+        for end in (Session.close, Session.kill):
+            session = session_with("stays", patience=0.3)
+            session.update({})
+            begin = time.monotonic()
+            try:
+                end(session)
+            except ProgramError as error:
+                self.assertIn("end", str(error))
+            self.assertLess(time.monotonic() - begin, 10)
+            self.assertIsNotNone(session._process.poll())
+            self.assertRaises(ProgramError, session.update, {})
+
+    def test_what_makes_no_sense_is_an_error_of_the_library_and_the_session_goes_on(self):
+        with session_with("replies") as session:
+            self.wrong("no version yet", session.snapshot, "A")
+            self.wrong("no version yet", session.settle)
+            self.wrong(r"surrogate U\+D800", session.update, {"A": opened("\ud800")})
+            self.wrong(r"surrogate U\+DC05", session.update, {"\udc05": opened("")})
+            self.wrong("character 5 or 6", session.update, {"A\x06": opened("")})
+            self.wrong("starts at -1", session.update, {"A": Change((Insert(-1, "x"),))})
+            self.wrong("range is 3 to 2", session.update, {"A": Change((), Perspective(True, ((3, 2),)))})
+            self.wrong("at most 16777216 bytes", session.update, {"A": opened("x" * (1 << 24))})
+            session.update({})
+            session.snapshot("A")
+
+    def wrong(self, text, call, *arguments):
+        for kind in (UsageError, PideError, ValueError):
+            self.assertRaisesRegex(kind, text, call, *arguments)
 
     def test_many_threads_may_ask(self):
         with session_with("replies") as session:
