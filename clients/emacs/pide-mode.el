@@ -1,6 +1,6 @@
 ;;; pide-mode.el --- Theories that are checked as one types  -*- lexical-binding: t; -*-
 
-;; Version: 0.1
+;; Version: 0.2
 ;; Package-Requires: ((emacs "27.1"))
 ;; Keywords: languages, tools
 
@@ -17,8 +17,11 @@
 
 ;;; Code:
 
+(require 'cl-lib)
+(require 'flymake)
 (require 'seq)
 (require 'subr-x)
+(require 'xref)
 
 (defgroup pide nil
   "Theories that are checked as one types."
@@ -35,15 +38,22 @@ which this file stands, else `pide' on the PATH."
   :type '(repeat directory))
 
 (defcustom pide-delay 0.02
-  "Seconds from a change of text or of what is visible until the program is told."
+  "Seconds from a change of text or of what is visible until the program is reported."
   :type 'number)
 
 (defcustom pide-shows-state t
   "Whether the window of the state is shown when the first theory is visited."
   :type 'boolean)
 
+(defcustom pide-shows-all-errors nil
+  "Whether errors that follow from others are underlined as these are."
+  :type 'boolean)
+
 (defface pide-error '((t :underline (:style wave :color "red") :inherit error))
   "What has an error.")
+
+(defface pide-behind '((t :underline (:style wave :color "gray")))
+  "What has an error that follows from another one.")
 
 (defface pide-pending
   '((((background dark)) :background "gray25") (t :background "gray90"))
@@ -58,6 +68,7 @@ which this file stands, else `pide' on the PATH."
 (defvar pide--closed nil "Names of nodes that are to be closed.")
 (defvar pide--timer nil "The timer of the next step, or nil.")
 (defvar pide--is-due nil "Whether a step waits until all is answered.")
+(defvar pide--trouble nil "What is wrong with the program, in a word; nil where it runs.")
 (defvar pide--source (or load-file-name buffer-file-name) "The file of this code.")
 (defvar pide--has-shown-state nil "Whether the window of the state was shown once.")
 
@@ -69,6 +80,9 @@ which this file stands, else `pide' on the PATH."
   "How many characters at the beginning are as the program has them; nil for all.")
 (defvar-local pide--back nil
   "How many characters at the end are as the program has them; nil for all.")
+(defvar-local pide--told-whole nil
+  "Whether the reports tell of all of the text, and nothing is pending.")
+(defvar-local pide--missing nil "What is missing at the text's end, or nil.")
 (defvar-local pide--told-size 0
   "How long the text was of which the reports tell.")
 (defvar-local pide--told-front nil
@@ -76,30 +90,90 @@ which this file stands, else `pide' on the PATH."
 (defvar-local pide--told-back nil
   "How many characters at its end are as they were then; nil for all.")
 (defvar-local pide--seen nil "The perspective that the program has.")
+(defvar-local pide--asked-end 0
+  "Up to which place the program was told to check; t for all.")
 (defvar-local pide--is-required nil
   "Whether all of the buffer is to be checked, whatever is visible.")
+(defvar-local pide--errors nil
+  "The errors of the last snapshot, in order: of each its start, its stop, its
+text, how many follow from it, and whether it follows from another one.")
+(defvar-local pide--flymake nil
+  "What takes diagnostics, where `flymake-mode' has asked for them.")
 (defvar-local pide--anew 0
   "The place from which on the version being checked makes commands anew.")
 
+(defconst pide--commands
+  '("theory" "end" "axiom" "lemma" "load" "proof" "fix" "assume" "have" "show" "next" "qed" "by")
+  "The words that begin commands.")
+
+(defconst pide--named "\\_<\\(?:axiom\\|lemma\\|theory\\)\\_>[ \t\r\n]+\\([A-Za-z][A-Za-z0-9_']*\\)"
+  "What gives a name in a theory: its header, an axiom, a lemma.")
+
 ;;;; The program
+
+(defun pide--named-program ()
+  "The program that `pide-program' or PIDE names, or nil.
+Where it isn't there that is an error."
+  (when-let ((named (or pide-program (getenv "PIDE"))))
+    (or (executable-find named)
+        (user-error "The program %s isn't there, or can't be run: set `pide-program' or PIDE"
+                    named))))
+
+(defun pide--built-program (launcher)
+  "The program that the checkout's LAUNCHER has built from its sources.
+To prove it takes more than an hour, so where that isn't done it is an error."
+  (with-temp-buffer
+    (if (eql 0 (call-process launcher nil '(t nil) nil "--which"))
+        (string-trim (buffer-string))
+      (user-error "The program isn't built from these sources: %s --prove builds it" launcher))))
 
 (defun pide--find-program ()
   "The program's path, or an error where there is none."
   (let* ((top (and pide--source (expand-file-name "../.." (file-name-directory pide--source))))
          (here (and top (expand-file-name "pide" top))))
-    (or pide-program
-        (getenv "PIDE")
+    (or (pide--named-program)
         (and here
              (file-exists-p (expand-file-name "crates.txt" top))
              (file-executable-p here)
-             here)
+             (pide--built-program here))
         (executable-find "pide")
         (user-error "No program: set `pide-program' or PIDE, or have pide on the PATH"))))
 
 (defun pide--start ()
-  "Start the program."
-  (let ((program (pide--find-program))
-        (replies (generate-new-buffer " *pide-replies*"))
+  "Start the program, or tell why that can't be done."
+  (condition-case fault
+      (pide--start-program (pide--find-program))
+    (error
+     (pide--tell "no program"
+                 (format "%s; then C-c C-r starts it" (error-message-string fault))))))
+
+(defun pide--tell (word text)
+  "Tell that there is trouble with the program: a WORD, and a TEXT on what to do."
+  (setq pide--trouble (cons word text))
+  (message "pide: %s" text)
+  (mapc #'pide--show-trouble (pide--buffers)))
+
+(defun pide--show-trouble (buffer)
+  "Tell in the mode line of BUFFER how many errors there are, or of the trouble."
+  (with-current-buffer buffer
+    (setq mode-line-process
+          (if pide--trouble
+              (list (propertize (format ":%s, C-c C-r" (car pide--trouble))
+                                'face 'warning 'help-echo (cdr pide--trouble)))
+            (pide--count-words)))
+    (force-mode-line-update)))
+
+(defun pide--count-words ()
+  "How many errors the current buffer has, and how many follow from these."
+  (let* ((firsts (seq-count (lambda (error) (not (nth 4 error))) pide--errors))
+         (others (- (length pide--errors) firsts)))
+    (cond ((= firsts 0) "")
+          ((= others 0) (format ":%d error%s" firsts (if (= firsts 1) "" "s")))
+          (t (format ":%d error%s, %d behind" firsts (if (= firsts 1) "" "s") others)))))
+
+(defun pide--start-program (program)
+  "Start the PROGRAM."
+  (let ((replies (generate-new-buffer " *pide-replies*"))
         (process-adaptive-read-buffering nil))
     (with-current-buffer replies
       (set-buffer-multibyte nil)
@@ -120,7 +194,9 @@ which this file stands, else `pide' on the PATH."
                                       :sentinel #'pide--sentinel))
     (when-let ((errors (get-buffer-process " *pide-stderr*")))
       (set-process-query-on-exit-flag errors nil)
-      (set-process-sentinel errors #'ignore))))
+      (set-process-sentinel errors #'ignore))
+    (setq pide--trouble nil)
+    (mapc #'pide--show-trouble (pide--buffers))))
 
 (defun pide--sentinel (process event)
   "Note that the PROCESS has ended, as EVENT says."
@@ -129,8 +205,8 @@ which this file stands, else `pide' on the PATH."
     (when (eq process pide--process)
       (setq pide--process nil)
       (mapc #'pide--forget (pide--buffers))
-      (message "pide: the program has ended (%s); M-x pide-restart starts it again"
-               (string-trim event)))))
+      (pide--tell "ended" (format "the program has ended (%s); C-c C-r starts it again"
+                                  (string-trim event))))))
 
 (defun pide--stop ()
   "End the program, by closing its input."
@@ -181,14 +257,22 @@ which this file stands, else `pide' on the PATH."
 (defun pide--filter (process bytes)
   "Take in BYTES that the PROCESS has written."
   (when (buffer-live-p (process-buffer process))
-    (with-current-buffer (process-buffer process)
-      (goto-char (point-max))
-      (insert bytes)
-      (goto-char (point-min))
-      (while (pide--take-message))
-      (delete-region (point-min) (point)))
-    (when (and pide--is-due (= pide--awaited 0))
-      (pide--schedule-in 0))))
+    (let ((trouble (catch 'pide-trouble
+                     (with-current-buffer (process-buffer process)
+                       (goto-char (point-max))
+                       (insert bytes)
+                       (pide--take-messages)
+                       nil))))
+      (cond (trouble (apply (car trouble) (cdr trouble)))
+            ((and pide--is-due (= pide--awaited 0)) (pide--schedule-in 0))))))
+
+(defun pide--take-messages ()
+  "Take in the whole messages of the current buffer, and leave what is behind them."
+  (goto-char (point-min))
+  (while (pide--take-message))
+  (delete-region (point-min) (point))
+  (unless (looking-at "[0-9,]\\{0,200\\}\\(\\'\\|\n\\)")
+    (throw 'pide-trouble (list #'pide--take-nonsense))))
 
 (defun pide--take-message ()
   "Take in the message at point, and go behind it; nil where it isn't whole."
@@ -212,14 +296,35 @@ which this file stands, else `pide' on the PATH."
   (let ((word (pide--chunk (car chunks))))
     (unless (member word '("report" "dropped"))
       (setq pide--awaited (1- pide--awaited)))
-    (pcase word
-      ("assign" (pide--take-assignment (nth 2 chunks)))
-      ("markup" (pide--take-markup chunks))
-      ("refused"
-       (let ((number (pide--chunk (nth 1 chunks))))
-         (pide--stop)
-         (message "pide: the program refuses what it is sent (%s); M-x pide-restart sends all anew"
-                  number))))))
+    (cond ((< pide--awaited 0) (throw 'pide-trouble (list #'pide--take-nonsense)))
+          ((and (equal word "assign") (nth 2 chunks)) (pide--take-assignment (nth 2 chunks)))
+          ((and (equal word "markup") (nth 4 chunks)) (pide--take-markup chunks))
+          ((and (equal word "refused") (nth 1 chunks))
+           (throw 'pide-trouble
+                  (list #'pide--take-refusal (string-to-number (pide--chunk (nth 1 chunks))))))
+          ((not (member word '("report" "dropped" "settled" "removed")))
+           (throw 'pide-trouble (list #'pide--take-nonsense))))))
+
+(defconst pide--refusals
+  '(UnknownFunction ArgumentCount BadUtf8 BadYxml BadData VersionNotHigher UnknownVersion
+    TipVersion NodeTwice UnknownNode EditOutOfRange RemoveDiffers PerspectiveOutOfRange
+    UnknownExecution Limit NothingToStep StepHeld ProtocolFixed BlobTwice UnknownBlob)
+  "Why a message isn't served, by number from 1, as docs/FORMATS.md has it.")
+
+(defun pide--take-refusal (number)
+  "Tell by its name that the program refuses a message, by this NUMBER, and end it."
+  (let ((name (or (nth (1- number) pide--refusals) number)))
+    (pide--stop)
+    (pide--tell (format "refused %s" name)
+                (format "the program refuses what it is sent: %s (%d); C-c C-r sends all anew%s"
+                        name number
+                        (if (eq name 'Limit) ", once there is less text or fewer theories" "")))))
+
+(defun pide--take-nonsense ()
+  "Tell that what the program writes is no reply, and end it."
+  (pide--stop)
+  (pide--tell "nonsense" (concat "the program answers nonsense: is `pide-program' the right one? "
+                                 "C-c C-r starts it again")))
 
 ;;;; Buffers
 
@@ -250,7 +355,8 @@ which this file stands, else `pide' on the PATH."
             pide--back 0)
       (with-current-buffer pide--markup
         (set-buffer-multibyte nil)
-        (setq case-fold-search nil))
+        (setq case-fold-search nil
+              pide--markup (current-buffer)))
       (add-hook 'after-change-functions #'pide--after-change nil t)
       (add-hook 'post-command-hook #'pide--after-command nil t)
       (add-hook 'window-scroll-functions #'pide--schedule nil t)
@@ -259,6 +365,7 @@ which this file stands, else `pide' on the PATH."
       (add-hook 'window-configuration-change-hook #'pide--schedule)
       (unless (process-live-p pide--process)
         (pide--start))
+      (pide--show-trouble (current-buffer))
       (pide--schedule))))
 
 (defun pide--detach ()
@@ -282,7 +389,10 @@ which this file stands, else `pide' on the PATH."
           pide--back 0
           pide--told-size 0
           pide--told-front nil
-          pide--told-back nil)
+          pide--told-back nil
+          pide--told-whole nil
+          pide--missing nil
+          pide--errors nil)
     (pide--clear)
     (dolist (hidden (list pide--shadow pide--markup))
       (with-current-buffer hidden (erase-buffer)))))
@@ -297,8 +407,8 @@ Nil where there is none."
     (goto-char (match-end 0))
     (match-string-no-properties 0)))
 
-(defun pide--header ()
-  "The words of the buffer's header before its begin; nil where it has none."
+(defun pide--read-header ()
+  "The words of the buffer's header before its begin, behind where it ends; or nil."
   (save-excursion
     (save-restriction
       (widen)
@@ -306,7 +416,12 @@ Nil where there is none."
       (let (words word)
         (while (and (setq word (pide--next-word)) (not (equal word "begin")))
           (push word words))
-        (and word (setq words (nreverse words)) (equal (car words) "theory") words)))))
+        (setq words (nreverse words))
+        (and word (equal (car words) "theory") (cons (point) words))))))
+
+(defun pide--header ()
+  "The words of the buffer's header before its begin; nil where it has none."
+  (cdr (pide--read-header)))
 
 (defun pide--is-name (text)
   "Whether a node may be called TEXT."
@@ -391,11 +506,17 @@ Lines that are longer than a window is wide count once, so it may be more."
                         visible)))
     (concat (pide--part (if pide--is-required "1" "0")) (pide--part (pide--list ranges)))))
 
+(defun pide--was-all-wanted ()
+  "Whether the program was told to check all that is written in the buffer."
+  (or (equal pide--asked-end t)
+      (>= pide--asked-end (1- (pide--end-position)))))
+
 (defun pide--item ()
   "What an update has to tell of the current buffer, or nil."
   (let* ((front pide--front)
          (edits (pide--edits))
-         (seen (pide--perspective (pide--visible)))
+         (visible (pide--visible))
+         (seen (pide--perspective visible))
          (is-seen (equal seen pide--seen)))
     (setq pide--anew (cond (edits (pide--command-at (pide--place (1+ front))))
                            (is-seen 0)
@@ -403,7 +524,9 @@ Lines that are longer than a window is wide count once, so it may be more."
     (unless (or is-seen edits)
       (pide--render nil))
     (unless (and pide--is-open is-seen (null edits))
-      (setq pide--is-open t pide--seen seen)
+      (setq pide--is-open t
+            pide--seen seen
+            pide--asked-end (or pide--is-required (apply #'max 0 (mapcar #'cdr visible))))
       (concat (pide--part pide--node)
               (pide--part (concat "\5\0060\5"
                                   (pide--part (pide--list edits))
@@ -435,7 +558,7 @@ Lines that are longer than a window is wide count once, so it may be more."
 
 (defun pide--step ()
   "Tell the program what has changed, and ask what it knows then.
-Nothing is told before all is answered that was asked before."
+Nothing is reported before all is answered that was asked before."
   (setq pide--timer nil
         pide--is-due (> pide--awaited 0))
   (when (and (process-live-p pide--process) (not pide--is-due))
@@ -455,9 +578,9 @@ Nothing is told before all is answered that was asked before."
 ;;;; Reports, which stand in a hidden buffer as the program wrote them, their starts rising
 
 (defconst pide--report
-  (concat "\5\6\\([^\5\6]+\\)\6offset=\\([0-9]+\\)\6end_offset=\\([0-9]+\\)[^\5]*"
-          "\5\\([^\5]*\\)\5\6\5")
-  "A report: its kind, the places where it starts and stops, and its text.")
+  (concat "\5\6\\([^\5\6]+\\)\6offset=\\([0-9]+\\)\6end_offset=\\([0-9]+\\)"
+          "\\([^\5]*\\)\5\\([^\5]*\\)\5\6\5")
+  "A report: its kind, where it starts and stops, its properties, its text.")
 
 (defun pide--number (group)
   "The number that the GROUP of the last match is."
@@ -478,16 +601,33 @@ Nothing is told before all is answered that was asked before."
 
 (defun pide--reports (begin end)
   "What is reported of the current buffer and starts at a place from BEGIN to END.
-Each is a list: its kind, the places where it starts and stops, its text."
+Each is a list: its kind, the places where it starts and stops, its text, and
+its properties by their names."
   (with-current-buffer pide--markup
     (pide--seek begin)
     (let (reports)
       (while (and (looking-at pide--report) (<= (pide--number 2) end))
-        (push (list (match-string 1) (pide--number 2) (pide--number 3)
-                    (decode-coding-string (match-string 4) 'utf-8-unix))
-              reports)
-        (goto-char (match-end 0)))
+        (push (pide--matched-report) reports)
+        (goto-char (pide--report-end)))
       (nreverse reports))))
+
+(defun pide--report-end ()
+  "The position behind the report at point."
+  (looking-at pide--report)
+  (match-end 0))
+
+(defun pide--matched-report ()
+  "The report that was matched last, as a list."
+  (list (match-string 1) (pide--number 2) (pide--number 3)
+        (decode-coding-string (match-string 5) 'utf-8-unix)
+        (mapcar (lambda (property)
+                  (let ((equals (string-match "=" property)))
+                    (cons (substring property 0 equals) (substring property (1+ equals)))))
+                (split-string (match-string 4) "\6" t))))
+
+(defun pide--property (name report)
+  "The property of this NAME of a REPORT, or nil."
+  (cdr (assoc name (nth 4 report))))
 
 (defun pide--command-at (place)
   "Where the last command starts that starts at PLACE or before; else 0."
@@ -543,14 +683,49 @@ Where that text is gone it is where the gap begins, or ends if IS-STOP."
                   '(left-fringe pide-proved pide-proved)
                 (list '(margin left-margin) (propertize "+" 'face 'pide-proved)))))
 
-(defun pide--show-report (kind start stop text)
+(defun pide--show-report (kind start stop text &rest _)
   "Show a report of this KIND and TEXT from place START to STOP."
   (let ((begin (pide--position start)) (end (pide--position stop t)))
     (pcase kind
-      ("error" (pide--overlay begin end 'pide-kind 'error 'face 'pide-error 'help-echo text))
+      ("error" (pide--show-error begin end start text))
       ("proved"
        (let ((line (save-excursion (goto-char begin) (line-beginning-position))))
          (pide--overlay line line 'pide-kind 'proved 'before-string (pide--mark)))))))
+
+(defun pide--show-error (begin end start text)
+  "Underline the error of this TEXT from position BEGIN to END; it starts at START."
+  (let ((follows (and (not pide-shows-all-errors) (nth 4 (assq start pide--errors)))))
+    (pide--overlay begin end
+                   'pide-kind (if follows 'behind 'error)
+                   'face (if follows 'pide-behind 'pide-error)
+                   'help-echo (pide--explained text start))))
+
+(defun pide--explained (text start)
+  "The TEXT of an error that starts at START, and what else is known of it."
+  (let* ((header (pide--header))
+         (behind (or (nth 3 (assq start pide--errors)) 0))
+         (circle (and (string-prefix-p "bad import " text)
+                      (pide--circle pide--node (substring text (length "bad import "))))))
+    (concat text
+            (and circle (format ": import cycle: %s" (string-join circle " -> ")))
+            (and (equal text "theory name differs")
+                 (format ": the header says %s, and it is checked as %s; M-x pide-mode takes the header's"
+                         (nth 1 header) pide--node))
+            (and (> behind 0)
+                 (format ", and %d error%s behind it" behind (if (= behind 1) "" "s"))))))
+
+(defun pide--circle (node import)
+  "A shortest circle of imports from NODE by IMPORT back to it, as names; or nil."
+  (let ((ways (list (list import node))) (seen (list import)) found)
+    (while (and ways (not found))
+      (let* ((way (pop ways)) (buffer (pide--buffer-of (car way))))
+        (if (equal (car way) node)
+            (setq found (reverse way))
+          (dolist (other (and buffer (with-current-buffer buffer (pide--imports))))
+            (unless (member other seen)
+              (push other seen)
+              (setq ways (append ways (list (cons other way)))))))))
+    found))
 
 (defun pide--shade (place)
   "Shade the text from PLACE to the end of what is wanted, which is to be checked."
@@ -563,12 +738,57 @@ Where that text is gone it is where the gap begins, or ends if IS-STOP."
 
 (defun pide--error-count ()
   "How many errors are reported of the current buffer."
-  (with-current-buffer pide--markup
-    (goto-char (point-min))
-    (let ((count 0))
+  (length pide--errors))
+
+;;;; Errors, of which some follow from others: where a command is refused, those behind it that need
+;;;; it are `not allowed here' too, until one is accepted
+
+(defun pide--read-errors ()
+  "The errors that are reported of the current buffer, as `pide--errors' has them."
+  (let (errors first previous)
+    (with-current-buffer pide--markup
+      (goto-char (point-min))
       (while (search-forward "\5\6error\6" nil t)
-        (setq count (1+ count)))
-      count)))
+        (goto-char (match-beginning 0))
+        (let* ((end (pide--report-end))
+               (report (pide--matched-report))
+               (is-refused (equal (nth 3 report) "not allowed here"))
+               (follows (and is-refused previous (pide--is-next previous report)
+                             (pide--is-refused previous) t))
+               (error (list (nth 1 report) (nth 2 report) (nth 3 report) 0 follows)))
+          (goto-char end)
+          (unless (and follows first)
+            (setq first error))
+          (when follows
+            (setf (nth 3 first) (1+ (nth 3 first))))
+          (push error errors)
+          (setq previous (cons (- end (length (match-string 0))) report)))))
+    (nreverse errors)))
+
+(defun pide--is-next (previous report)
+  "Whether no command starts between PREVIOUS and REPORT.
+PREVIOUS is an error with its position."
+  (save-excursion
+    (goto-char (car previous))
+    (let ((start (nth 2 previous)) (found 'none))
+      (while (eq found 'none)
+        (if (and (search-forward "\5\6command\6offset=" nil t) (looking-at "[0-9]+"))
+            (let ((place (pide--number 0)))
+              (cond ((>= place (nth 1 report)) (setq found t))
+                    ((> place start) (setq found nil))))
+          (setq found t)))
+      found)))
+
+(defun pide--is-refused (previous)
+  "Whether PREVIOUS says that its command changed nothing.
+It is an error with its position.  A proof that is wrong closes its goal."
+  (or (member (nth 4 previous) '("not allowed here" "malformed command"))
+      (let ((start (nth 2 previous)))
+        (save-excursion
+          (not (seq-find (lambda (report)
+                           (and (equal (car report) "command")
+                                (equal (pide--property "name" report) "by")))
+                         (pide--reports start start)))))))
 
 (defun pide--render (is-pending)
   "Show what is reported of what windows show.
@@ -586,10 +806,90 @@ Where something IS-PENDING it is shaded from the end of the reports on."
     (dolist (window (get-buffer-window-list nil nil t))
       (unless (car (window-margins window))
         (set-window-margins window 1 (cdr (window-margins window))))))
-  (let ((count (pide--error-count)))
-    (setq mode-line-process
-          (if (= count 0) "" (format ":%d error%s" count (if (= count 1) "" "s"))))
-    (force-mode-line-update)))
+  (pide--show-missing)
+  (pide--show-trouble (current-buffer)))
+
+;;;; What is missing at the end: the engine reports no error where a theory stops in the middle
+
+(defun pide--is-whole ()
+  "Whether all of the text is checked, as the reports tell it."
+  (and pide--told-whole (null pide--told-front)))
+
+(defun pide--ending-problem ()
+  "What is missing at the end of the current buffer, or nil.
+It is known where all of it is checked."
+  (when pide--told-whole
+    (with-current-buffer pide--markup
+      (goto-char (point-max))
+      (let ((depth 0) (answer 'open) command)
+        (while (and (eq answer 'open) (setq command (pide--command-before)))
+          (let ((word (pide--property "name" command)))
+            (when (pide--is-accepted command word)
+              (setq answer
+                    (pcase word
+                      ("end" nil)
+                      ((or "theory" "axiom" "load") 'theory)
+                      ((or "by" "qed") (setq depth (1+ depth)) 'open)
+                      ((or "have" "show") (setq depth (1- depth)) 'open)
+                      ("lemma" (if (> depth 0) 'theory (pide--defined-behind (nth 1 command))))
+                      (_ 'open))))))
+        (cond ((stringp answer) (format "the proof of %s is missing" answer))
+              ((eq answer 'theory) "the theory isn't ended")
+              ((and answer (not (pide--has-report "error"))) "the theory isn't ended"))))))
+
+(defun pide--has-report (kind)
+  "Whether a report of this KIND stands in the current buffer."
+  (goto-char (point-min))
+  (search-forward (format "\5\6%s\6" kind) nil t))
+
+(defun pide--command-before ()
+  "The last command that is reported before point, to which point goes."
+  (when (search-backward "\5\6command\6" nil t)
+    (looking-at pide--report)
+    (pide--matched-report)))
+
+(defun pide--is-accepted (command word)
+  "Whether COMMAND, whose word is WORD, has changed the theory."
+  (save-excursion
+    (let ((error (assoc "error" (pide--reports (nth 1 command) (nth 1 command)))))
+      (or (not error)
+          (and (equal word "by")
+               (not (member (nth 3 error) '("not allowed here" "malformed command"))))))))
+
+(defun pide--defined-behind (place)
+  "The name that is defined behind PLACE."
+  (save-excursion
+    (pide--seek place)
+    (search-forward "\5\6def\6" nil t)
+    (goto-char (match-beginning 0))
+    (looking-at pide--report)
+    (pide--property "name" (pide--matched-report))))
+
+(defun pide--end-position ()
+  "Where what is written in the current buffer ends."
+  (save-excursion
+    (save-restriction
+      (widen)
+      (goto-char (point-max))
+      (skip-chars-backward " \t\r\n")
+      (point))))
+
+(defun pide--show-missing ()
+  "Tell at the end of the current buffer what is missing there.
+It is reported softly while point is in the last line or behind it, where one types."
+  (save-restriction
+    (widen)
+    (remove-overlays (point-min) (point-max) 'pide-kind 'missing)
+    (when-let ((text (and (pide--is-whole) pide--missing)))
+      (let* ((end (pide--end-position))
+             (line (save-excursion (goto-char end) (line-beginning-position)))
+             (is-typed (and (eq (current-buffer) (window-buffer (selected-window)))
+                            (>= (window-point (selected-window)) line))))
+        (pide--overlay (max (point-min) (1- end)) end
+                       'pide-kind 'missing
+                       'face (unless is-typed 'pide-error)
+                       'help-echo text
+                       'after-string (propertize (concat "  " text) 'face 'shadow 'cursor t))))))
 
 (defun pide--take-assignment (rows)
   "Shade what is to be checked of the nodes of which ROWS, a chunk, tell."
@@ -612,8 +912,12 @@ Where something IS-PENDING it is shaded from the end of the reports on."
           (insert-buffer-substring-no-properties replies (car reports) (cdr reports)))
         (setq pide--told-size (buffer-size pide--shadow)
               pide--told-front pide--front
-              pide--told-back pide--back)
+              pide--told-back pide--back
+              pide--told-whole (and (not is-pending) (pide--was-all-wanted))
+              pide--errors (pide--read-errors)
+              pide--missing (pide--ending-problem))
         (pide--render is-pending)
+        (pide--tell-flymake)
         (pide--show-state)))))
 
 ;;;; The state at point, and suggestions
@@ -626,16 +930,22 @@ Where something IS-PENDING it is shaded from the end of the reports on."
 (defun pide--state-text ()
   "What the window of the state shows."
   (let ((reports (pide--at-point)))
-    (mapconcat (lambda (report)
+    (concat
+     (mapconcat (lambda (report)
                  (pcase (car report)
-                   ("error" (propertize (concat "error: " (nth 3 report) "\n") 'face 'pide-error))
+                   ("error" (propertize
+                             (format "error: %s\n" (pide--explained (nth 3 report) (nth 1 report)))
+                             'face 'pide-error))
                    ("state" (concat (nth 3 report) "\n"))
                    ("suggest"
                     (concat "\n" (nth 3 report) "\n("
                             (substitute-command-keys
                              "\\<pide-mode-map>\\[pide-insert-suggestion] puts it in)\n")))
                    (_ "")))
-               reports "")))
+               reports "")
+     (if (and pide--missing (pide--is-whole) (>= (point) (pide--end-position)))
+         (concat pide--missing "\n")
+       ""))))
 
 (defun pide--show-state ()
   "Write the state at point where its window shows it."
@@ -667,6 +977,8 @@ Where something IS-PENDING it is shaded from the end of the reports on."
     (setq pide--has-shown-state t)
     (pide-show-state))
   (pide--show-state)
+  (when pide--missing
+    (pide--show-missing))
   (unless (equal pide--seen (pide--perspective (pide--visible)))
     (pide--schedule)))
 
@@ -681,14 +993,201 @@ Where something IS-PENDING it is shaded from the end of the reports on."
     (unless (looking-at "[ \t\n\r]\\|\\'")
       (insert "\n"))))
 
+(defun pide--shown-errors ()
+  "The errors that are reported, in order: those that follow from no other, or all."
+  (seq-filter (lambda (error) (or pide-shows-all-errors (not (nth 4 error)))) pide--errors))
+
+(defun pide--go-to-error (count &optional reset)
+  "Go COUNT errors on from point, back where it is negative, and round at the ends.
+With RESET they are counted from the beginning of the buffer."
+  (let* ((errors (pide--shown-errors))
+         (place (if reset -1 (pide--place (point))))
+         (index (if (< count 0)
+                    (seq-count (lambda (error) (< (car error) place)) errors)
+                  (1- (seq-count (lambda (error) (<= (car error) place)) errors)))))
+    (unless errors
+      (user-error (if pide--missing "No error but at the end: %s" "No error")
+                  pide--missing))
+    (let* ((next (+ index count)) (error (nth (mod next (length errors)) errors)))
+      (goto-char (pide--position (car error)))
+      (message "%s%s" (pide--explained (nth 2 error) (car error))
+               (if (< -1 next (length errors)) "" " (round the buffer's end)")))))
+
 (defun pide-next-error ()
-  "Go to the next error behind point, and tell it."
+  "Go to the next error behind point, or round to the first, and tell it."
   (interactive)
-  (let ((error-report (assoc "error" (pide--reports (1+ (pide--place (point))) pide--told-size))))
-    (unless error-report
-      (user-error "No error behind point"))
-    (goto-char (pide--position (nth 1 error-report)))
-    (message "%s" (nth 3 error-report))))
+  (pide--go-to-error 1))
+
+(defun pide-previous-error ()
+  "Go to the last error before point, or round to the last of all, and tell it."
+  (interactive)
+  (pide--go-to-error -1))
+
+;;;; Commands, found by their words, whether the program runs or not
+
+(defun pide--command-words ()
+  "The words that begin commands, aliases of all theories too."
+  (append pide--commands
+          (apply #'append (mapcar (lambda (buffer) (with-current-buffer buffer (pide--aliases)))
+                                  (pide--buffers)))))
+
+(defun pide--aliases ()
+  "The aliases of commands that the current buffer's header gives."
+  (let ((words (cdr (member "keywords" (pide--header)))) names)
+    (while words
+      (push (car words) names)
+      (setq words (nthcdr 3 words)))
+    names))
+
+(defun pide--is-in-text ()
+  "Whether point is outside of comments and strings."
+  (not (nth 8 (syntax-ppss))))
+
+(defun pide--begins-command (word header-end)
+  "Whether WORD, at point, begins a command.
+Aliases do so behind HEADER-END alone."
+  (and (pide--is-in-text)
+       (or (member word pide--commands) (>= (point) header-end))))
+
+(defun pide--search-command (search)
+  "Go on by SEARCH to the next word of a command.
+Where it begins is returned, or nil where there is none."
+  (let ((words (regexp-opt (pide--command-words) 'symbols))
+        (header-end (or (car (pide--read-header)) 0))
+        (case-fold-search nil)
+        found)
+    (while (and (not found) (funcall search words nil t))
+      (let ((begin (match-beginning 0)) (place (point)))
+        (goto-char begin)
+        (when (save-match-data (pide--begins-command (match-string-no-properties 0) header-end))
+          (setq found begin))
+        (goto-char place)))
+    found))
+
+(defun pide--command-end ()
+  "Where the command ends that begins before point."
+  (save-excursion
+    (goto-char (if (pide--search-command #'re-search-forward) (match-beginning 0) (point-max)))
+    (forward-comment (- (buffer-size)))
+    (point)))
+
+(defun pide-next-command ()
+  "Go to the end of the next command that ends behind point, or round to the first."
+  (interactive)
+  (let ((place (point)) (end 0))
+    (goto-char (point-min))
+    (when (pide--search-command #'re-search-forward)
+      (let ((first (pide--command-end)))
+        (setq end first)
+        (goto-char place)
+        (when (pide--search-command #'re-search-backward)
+          (goto-char (match-end 0))
+          (setq end (pide--command-end)))
+        (while (and (<= end place) (pide--search-command #'re-search-forward))
+          (setq end (pide--command-end)))
+        (when (<= end place)
+          (setq end first)
+          (message "Round to the first command"))))
+    (goto-char (if (= end 0) place end))))
+
+(defun pide-previous-command ()
+  "Go to the end of the last command that ends before point, or round to the last."
+  (interactive)
+  (let ((place (point)) (end (point-max)))
+    (while (and (>= end place) (pide--search-command #'re-search-backward))
+      (let ((begin (point)))
+        (goto-char (match-end 0))
+        (setq end (pide--command-end))
+        (goto-char begin)))
+    (when (>= end place)
+      (goto-char (point-max))
+      (forward-comment (- (buffer-size)))
+      (setq end (point))
+      (message "Round to the last command"))
+    (goto-char end)))
+
+;;;; Other tools of Emacs: flymake, xref
+
+(defun pide--flymake (tell &rest _)
+  "Have TELL called with the errors of the buffer whenever they are known anew."
+  (setq pide--flymake tell)
+  (pide--tell-flymake))
+
+(defun pide--tell-flymake ()
+  "Tell `flymake-mode' the errors that are known."
+  (when (and pide--flymake (bound-and-true-p flymake-mode))
+    (funcall pide--flymake (append (mapcar #'pide--diagnostic (pide--shown-errors))
+                                   (pide--missing-diagnostic))
+             :region (cons (point-min) (point-max)))))
+
+(defun pide--diagnostic (error)
+  "The diagnostic of flymake for ERROR."
+  (flymake-make-diagnostic (current-buffer)
+                           (pide--position (car error))
+                           (pide--position (nth 1 error) t)
+                           :error
+                           (pide--explained (nth 2 error) (car error))))
+
+(defun pide--missing-diagnostic ()
+  "What is missing at the end, as a list of diagnostics."
+  (when (and pide--missing (pide--is-whole))
+    (let ((end (pide--end-position)))
+      (list (flymake-make-diagnostic (current-buffer) (max (point-min) (1- end)) end
+                                     :note pide--missing)))))
+
+(defun pide--xref-backend ()
+  "The backend of `xref' for theories."
+  'pide)
+
+(cl-defmethod xref-backend-identifier-at-point ((_backend (eql pide)))
+  (let ((name (thing-at-point 'symbol t)))
+    (and name (propertize name 'pide-place (pide--place (point))))))
+
+(cl-defmethod xref-backend-identifier-completion-table ((_backend (eql pide)))
+  (let (names)
+    (save-excursion
+      (goto-char (point-min))
+      (while (re-search-forward pide--named nil t)
+        (push (match-string-no-properties 1) names)))
+    names))
+
+(cl-defmethod xref-backend-definitions ((_backend (eql pide)) name)
+  (let ((local (pide--local-definition name)))
+    (if local
+        (list local)
+      (delq nil (cons (pide--definition-in (current-buffer) name)
+                      (mapcar (lambda (buffer) (pide--definition-in buffer name))
+                              (remq (current-buffer) (pide--buffers))))))))
+
+(defun pide--definition-in (buffer name)
+  "Where BUFFER defines the theory or the fact NAME, as `xref' has it; or nil."
+  (with-current-buffer buffer
+    (save-excursion
+      (save-restriction
+        (widen)
+        (goto-char (point-min))
+        (let ((short (car (last (split-string name "\\.")))) (case-fold-search nil) found)
+          (while (and (not found) (re-search-forward pide--named nil t))
+            (when (equal (match-string-no-properties 1) short)
+              (goto-char (match-beginning 1))
+              (when (pide--is-in-text)
+                (setq found (point)))))
+          (when found
+            (xref-make (format "%s in %s" short (or pide--node (buffer-name)))
+                       (xref-make-buffer-location buffer found))))))))
+
+(defun pide--local-definition (name)
+  "Where NAME is given in the proof around it, as `xref' has it; or nil."
+  (let* ((place (get-text-property 0 'pide-place name))
+         (def (and place
+                   (seq-find (lambda (report)
+                               (and (equal (car report) "def")
+                                    (equal (pide--property "name" report) name)
+                                    (not (pide--property "theory" report))))
+                             (nreverse (pide--reports 0 place))))))
+    (when def
+      (xref-make (format "%s, which is local" name)
+                 (xref-make-buffer-location (current-buffer) (pide--position (nth 1 def)))))))
 
 (defun pide-check-whole ()
   "Have the whole buffer checked, or again what is visible alone."
@@ -698,10 +1197,6 @@ Where something IS-PENDING it is shaded from the end of the reports on."
   (message (if pide--is-required "The whole theory is checked" "What is visible is checked")))
 
 ;;;; The mode
-
-(defconst pide--commands
-  '("theory" "end" "axiom" "lemma" "load" "proof" "fix" "assume" "have" "show" "next" "qed" "by")
-  "The words that begin commands.")
 
 (defvar pide-mode-syntax-table
   (let ((table (make-syntax-table)))
@@ -716,8 +1211,10 @@ Where something IS-PENDING it is shaded from the end of the reports on."
 (defvar pide-mode-map
   (let ((map (make-sparse-keymap)))
     (define-key map (kbd "C-c C-s") #'pide-insert-suggestion)
+    (define-key map (kbd "C-c C-n") #'pide-next-command)
+    (define-key map (kbd "C-c C-u") #'pide-previous-command)
     (define-key map (kbd "C-c C-p") #'pide-show-state)
-    (define-key map (kbd "C-c C-n") #'pide-next-error)
+    (define-key map (kbd "C-c C-b") #'pide-check-whole)
     (define-key map (kbd "C-c C-w") #'pide-check-whole)
     (define-key map (kbd "C-c C-r") #'pide-restart)
     map)
@@ -732,9 +1229,12 @@ Where something IS-PENDING it is shaded from the end of the reports on."
               comment-end " *)"
               comment-start-skip "(\\*+[ \t]*"
               indent-line-function #'indent-relative
+              next-error-function #'pide--go-to-error
               font-lock-defaults `(((,(regexp-opt pide--commands 'symbols) . font-lock-keyword-face)
                                     (,(regexp-opt '("imports" "keywords" "begin") 'symbols)
                                      . font-lock-builtin-face))))
+  (add-hook 'flymake-diagnostic-functions #'pide--flymake nil t)
+  (add-hook 'xref-backend-functions #'pide--xref-backend nil t)
   (pide--attach))
 
 ;;;###autoload

@@ -17,10 +17,13 @@ _COMMENT_END = re.compile(r"\(\*|\*\)")
 
 @dataclass(frozen=True)
 class Header:
-    """What a theory's header tells: its name, and each import with its place."""
+    """What a theory's header tells: its name, each import with its place, each alias with what it stands for, and
+    where the name stands."""
 
     name: str
     imports: Tuple[Tuple[str, int], ...] = ()
+    keywords: Tuple[Tuple[str, str], ...] = ()
+    place: int = 0
 
 
 def _proper_tokens(text: str) -> Iterator[Tuple[str, int]]:
@@ -61,9 +64,10 @@ def header_of(text: str) -> Optional[Header]:
     words = _proper_tokens(text)
     if next(words, ("", 0))[0] != "theory":
         return None
-    name, _ = next(words, ("", 0))
+    name, start = next(words, ("", 0))
     word, place = next(words, ("", 0))
     imports: List[Tuple[str, int]] = []
+    keywords: List[Tuple[str, str]] = []
     if word == "imports":
         word, place = next(words, ("", 0))
         while _is_free(word):
@@ -72,18 +76,19 @@ def header_of(text: str) -> Optional[Header]:
         if not imports:
             return None
     if word == "keywords":
-        word = _behind_keywords(words)
-    return Header(name, tuple(imports)) if _is_free(name) and word == "begin" else None
+        word = _read_keywords(words, keywords)
+    if not _is_free(name) or word != "begin":
+        return None
+    return Header(name, tuple(imports), tuple(keywords), start)
 
 
-def _behind_keywords(words: Iterator[Tuple[str, int]]) -> str:
-    """The word behind the pairs of names and strings, of which there has to be one."""
-    count = 0
+def _read_keywords(words: Iterator[Tuple[str, int]], keywords: List[Tuple[str, str]]) -> str:
+    """The word behind the pairs of names and strings, which are added; there has to be one."""
     for word, _ in words:
         if not _is_free(word):
-            return word if count else ""
+            return word if keywords else ""
         equals, string = next(words, ("", 0))[0], next(words, ("", 0))[0]
         if equals != "=" or not string.startswith('"'):
             return ""
-        count += 1
+        keywords.append((word, string[1:-1]))
     return ""

@@ -1,5 +1,6 @@
 """Theories in files: headers, imports, lines, edits between texts."""
 
+import os
 import random
 import tempfile
 import unittest
@@ -114,14 +115,63 @@ class Files(unittest.TestCase):
     def test_what_is_missing_or_is_no_text_is_told(self):
         paths = [self.write("A.thy", "theory A\nimports B begin"), self.folder / "C.thy", self.write("D.thy", b"\xff")]
         problems = load(paths).problems
-        self.assertIn("C.thy: No such file", problems[0])
-        self.assertIn("no UTF-8 at byte 0", problems[1])
-        self.assertIn("A.thy:2:9: import B: there is no file B.thy", problems[2])
+        self.assertIn("C.thy: No such file", str(problems[0]))
+        self.assertIn("no UTF-8 at byte 0", str(problems[1]))
+        self.assertIn("A.thy:2:9: import B: there is no file B.thy", str(problems[2]))
+        self.assertEqual([problem.fails for problem in problems], [True, True, False])
 
     def test_two_files_of_one_theory_are_told(self):
         paths = [self.write("A.thy", "theory A begin"), self.write("x/A.thy", "theory A begin")]
         self.assertEqual(len(load(paths).problems), 1)
         self.assertEqual(load([paths[0], self.folder / "x" / ".." / "A.thy"]).problems, [])
+
+    def test_a_file_named_as_its_theory_wins_over_another(self):
+        paths = [self.write("0.thy", "theory A begin"), self.write("A.thy", "theory A begin end")]
+        theories = load(paths)
+        self.assertEqual(theories.nodes["A"].path, paths[1])
+        self.assertEqual([str(problem) for problem in theories.problems],
+                         [f"{paths[0]}: it is left out, since {paths[1]} is the theory A too"])
+
+    def test_a_folder_stands_for_the_theories_below_it(self):
+        self.write("A.thy", "theory A begin end")
+        self.write("x/B.thy", "theory B begin end")
+        self.write("x/.C.thy", "theory C begin end")
+        self.write(".y/D.thy", "theory D begin end")
+        self.write("x/E.txt", "theory E begin end")
+        (self.folder / "z").mkdir()
+        self.assertEqual(sorted(load([self.folder]).nodes), ["A", "B"])
+        self.assertIn("no file NAME.thy below", str(load([self.folder / "z"]).problems[0]))
+
+    def test_what_is_no_regular_file_or_too_long_is_not_read(self):
+        os.mkfifo(self.folder / "F.thy")
+        long = self.write("L.thy", "")
+        os.truncate(long, (1 << 24) + 1)
+        paths = [self.folder / "F.thy", Path("/dev/zero"), long, self.write("A.thy", "theory A imports F begin end")]
+        problems = [str(problem) for problem in load(paths).problems]
+        self.assertIn("F.thy: it is a FIFO, which isn't read", problems[0])
+        self.assertEqual("/dev/zero: it is a device, which isn't read", problems[1])
+        self.assertIn("L.thy: it has 16,777,217 bytes, and at most 16,777,216 are checked", problems[2])
+        self.assertIn("A.thy:1:18: import F: it is a FIFO, which isn't read", problems[3])
+
+    def test_a_byte_order_mark_is_left_out_with_a_note(self):
+        path = self.write("A.thy", "\ufefftheory A begin end")
+        theories = load([path])
+        self.assertEqual(theories.nodes["A"].text, "theory A begin end")
+        self.assertEqual([(str(problem), problem.fails) for problem in theories.problems],
+                         [(f"{path}: the byte order mark at its beginning is left out", False)])
+
+    def test_a_folder_for_imports_that_can_not_be_read_is_told(self):
+        path = self.write("A.thy", "theory A imports B begin end")
+        for folder in (self.folder / ("x" * 1000), path, self.folder / "nothing"):
+            problems = load([path], [folder]).problems
+            self.assertTrue(str(problems[0]).startswith(str(folder)))
+            self.assertEqual([problem.fails for problem in problems], [True, False])
+
+    def test_aliases_of_imports_are_in_force(self):
+        self.write("A.thy", 'theory A keywords claim = "lemma" begin end')
+        self.write("B.thy", 'theory B imports A keywords done = "qed" begin end')
+        path = self.write("C.thy", "theory C imports B begin end")
+        self.assertEqual(load([path]).aliases["C"], {"claim": "lemma", "done": "qed"})
 
     def test_an_import_that_two_folders_give_is_told(self):
         paths = [
