@@ -1,0 +1,1 @@
+"""Tries mutants: bodies with one mistake each, which the contracts must refuse."""
