@@ -38,7 +38,7 @@ which this file stands, else `pide' on the PATH."
   :type '(repeat directory))
 
 (defcustom pide-delay 0.02
-  "Seconds from a change of text or of what is visible until the program is reported."
+  "Seconds from a change of the text or of the view until it is sent."
   :type 'number)
 
 (defcustom pide-shows-state t
@@ -876,7 +876,7 @@ It is known where all of it is checked."
 
 (defun pide--show-missing ()
   "Tell at the end of the current buffer what is missing there.
-It is reported softly while point is in the last line or behind it, where one types."
+It is shown softly while point is in the last line or behind it."
   (save-restriction
     (widen)
     (remove-overlays (point-min) (point-max) 'pide-kind 'missing)

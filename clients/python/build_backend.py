@@ -1,5 +1,5 @@
 """Builds the package with the standard library alone, for `pip install`: wheels, editable ones, and sdists (PEP 517,
-PEP 660). What pyproject.toml and the package's `__version__` say is reported here as pip wants it."""
+PEP 660). What pyproject.toml and the package's `__version__` say is written here as pip wants it."""
 
 import base64
 import hashlib

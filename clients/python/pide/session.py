@@ -96,7 +96,7 @@ class Session:
 
     Leaving a `with` block ends the session by closing the program's input; where an error leaves it, the program is
     ended at once. Where this process is killed the program sees the end of its input and ends by itself. `on_end` is
-    called, on the thread that reads, once the program has ended, however it did, and before those that wait are reported.
+    called, on the thread that reads, once the program has ended, however it did, and before those that wait hear of it.
 
     Messages are written on a thread of their own, so that no full pipe stops both sides, and `ask` never waits. A
     program that is to end and doesn't is ended by force after `patience` seconds: it is terminated, and killed where it
@@ -154,7 +154,7 @@ class Session:
         return assigned
 
     def settle(self, version: Optional[int] = None) -> Settled:
-        """Waits until each part of the version, which is the newest where none is reported, is finished or stuck."""
+        """Waits until each part of the version, which is the newest where none is given, is finished or stuck."""
         return self._answer(Settle(self._known(version)), Settled)
 
     def snapshot(self, node: str, edits: Iterable[Edit] = (), version: Optional[int] = None) -> Snapshot:
@@ -248,7 +248,7 @@ class Session:
         return answer
 
     def _known(self, version: Optional[int]) -> int:
-        """The version that is meant. Raises UsageError where none is reported, and there is none yet."""
+        """The version that is meant. Raises UsageError where none is given, and there is none yet."""
         if version is None and self.version == 0:
             raise UsageError("there is no version yet: an update makes the first")
         return self.version if version is None else version

@@ -269,7 +269,7 @@ class Server:
             except RpcError as error:
                 self._send(error.reply(request.identifier))
                 continue
-            except Exception as error:  # a mistake of the server: the client is reported, and all else goes on
+            except Exception as error:  # a mistake of the server: the client gets an error, and all else goes on
                 self._log("failed", {"method": request.method, "error": traceback.format_exc()})
                 text = f"{request.method} failed: {type(error).__name__}"
                 self._send(RpcError(ErrorCode.INTERNAL_ERROR, text).reply(request.identifier))

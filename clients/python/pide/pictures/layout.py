@@ -57,7 +57,7 @@ def _by_graphviz(imports: Imports) -> Optional[Layout]:
 
 
 def _question(imports: Imports, numbers: Dict[str, int]) -> str:
-    """The graph in Graphviz's language. Theories are reported by numbers, so that no name has to be spelled in it."""
+    """The graph in Graphviz's language. Theories are named by numbers, so that no name has to be spelled in it."""
     lines = ["digraph {", f"node [shape=box fixedsize=true height={HEIGHT / _INCH:.3f}] ranksep=0.55 nodesep=0.25"]
     lines += [f"n{number} [width={box_width(name) / _INCH:.3f}]" for name, number in numbers.items()]
     for name, imported in imports.items():
